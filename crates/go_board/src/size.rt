@@ -1,0 +1,49 @@
+ghost use Rattle.std.specs.Prelude.{◌≡◌, ◌≤◌, ◌<◌, ◌↔◌, ◌*◌, IsSome, IfSome};
+ghost use Rattle.go_board.specs.declared.size.TheConstants.{MAX_LINES};
+
+/// The most lines that a board has.
+pub const MAX_LINES: u8 = 19;
+
+/// The most points that a board has.
+pub const MAX_POINTS: usize = MAX_LINES as usize * MAX_LINES as usize;
+
+/// The number of lines of a square board, from 1 to [`MAX_LINES`].
+#[derive(Clone, Copy, Debug, PartialEq, Eq)]
+pub struct Size {
+    lines: u8,
+    pub ghost some: { 0 < lines },
+    pub ghost in_range: { lines ≤ MAX_LINES },
+}
+
+impl Size {
+    ghost use Rattle.go_board.specs.Sizes.{lines_of};
+
+    /// The size with this number of lines, or none where no board has so many or so few.
+    pub fn new(lines: u8) -> Option<Size>
+        ensures range { IsSome result ↔ ((0 < lines) × (lines ≤ MAX_LINES)) }
+        ensures value { IfSome result (λ size. lines_of size ≡ lines) }
+    {
+        if lines == 0 || lines > MAX_LINES {
+            None
+        } else {
+            Some(Size { lines })
+        }
+    }
+
+    /// The number of lines.
+    pub fn lines(self) -> u8
+        ensures value { result ≡ lines_of self }
+        ensures range { (0 < result) × (result ≤ MAX_LINES) }
+    {
+        self.lines
+    }
+
+    /// The number of points: the square of the number of lines.
+    pub fn points(self) -> u16
+        ensures value { result ≡ lines_of self * lines_of self }
+        ensures range { (0 < result) × (result ≤ MAX_POINTS) }
+    {
+        let lines = u16::from(self.lines);
+        lines * lines
+    }
+}
