@@ -1,2 +1,5 @@
 pub mod Sizes
 pub mod Colours
+pub mod Points
+pub mod Grids
+pub mod Vertices

@@ -2,9 +2,16 @@
 //! is read from and written to.
 #![tactic(auto)]
 
-
 mod colour;
+mod grid;
+mod point;
 mod size;
+mod vertex;
 
 pub use colour::Colour;
+pub use grid::Grid;
+pub use point::{Point, neighbours};
 pub use size::{MAX_LINES, MAX_POINTS, Size};
+pub use vertex::{
+    COLUMN_LETTERS, MAX_ROW_NUMBER, Move, Vertex, VertexError, read_vertex, vertex_text,
+};

@@ -1,0 +1,2 @@
+pub mod Squares
+pub mod VertexLemmas
