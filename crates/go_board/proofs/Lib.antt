@@ -1,7 +1,11 @@
 pub mod Squares
 pub mod Numbers
+pub mod Tests
+pub mod Counting
 pub mod VertexLemmas
 pub mod Devices
 pub mod Marks
 pub mod Beside
 pub mod Flooding
+pub mod Deciding
+pub mod Seeding

@@ -9,7 +9,9 @@ mod grid;
 mod meter;
 mod pen;
 mod point;
+mod seeds;
 mod size;
+mod taken;
 mod vertex;
 
 pub use colour::Colour;
@@ -19,6 +21,7 @@ pub use meter::Meter;
 pub use pen::{Pen, send};
 pub use point::{Point, neighbours};
 pub use size::{MAX_LINES, MAX_POINTS, Size};
+pub use taken::Taken;
 pub use vertex::{
     COLUMN_LETTERS, MAX_ROW_NUMBER, Move, Vertex, VertexError, read_vertex, vertex_text,
 };
