@@ -59,9 +59,9 @@ pub done_more : (n : ℕ) (g : Colouring) (colour : Option Colour) (items : List
 done_more n g colour items i M M' low done kept here k q below at same = elim (cases_lt k i) [
   | inl before ↦ kept (number_of n q) (done k q before at same)
   | inr last ↦
-    let k_is : k ≡ i = omega arith in
-    let q_is : get_or items i origin ≡ q = get_or_default items i origin q low ∙ ap (λ m. get_or items m q) (sym k_is) ∙ at in
-    subst (λ (r : Point). colour_at g (number_of n r) ≡ colour → M' (number_of n r)) q_is here same
+      let k_is : k ≡ i = omega arith in
+      let q_is : get_or items i origin ≡ q = get_or_default items i origin q low ∙ ap (λ m. get_or items m q) (sym k_is) ∙ at in
+      subst (λ (r : Point). colour_at g (number_of n r) ≡ colour → M' (number_of n r)) q_is here same
 ]
 
 -- when all neighbours were looked at, M holds of each adjacent point of this colour
@@ -77,4 +77,3 @@ all_done n g p colour items i M p_on all them done j adjacent same =
     let number : number_of n q ≡ j = number_of-point_at n j adjacent.1 in
     let low : found.0 < i = let within : found.0 < length items = found.1 in omega arith in
     subst M number (done found.0 q low found.2 (ap (colour_at g) number ∙ same))
-

@@ -1,11 +1,10 @@
 -- Counting the elements that pass a test.
-use Rattle.std.proofs.Common.{arith, ◌≡◌, ◌<◌, ◌≤◌, ◌+◌, ◌*◌, ◌∙◌, ◌⊎◌, Bool, true, false, true≢false, cond, inl, inr, ℕ, suc, List, [], ◌∷◌, All, count_by, get_or, length, refl, sym, ap, subst}
+use Rattle.std.proofs.Common.{arith, ◌≡◌, ◌<◌, ◌≤◌, ◌+◌, ◌*◌, ◌∙◌, ◌⊎◌, Bool, true, false, true≢false, cond, inl, inr, ℕ, List, [], ◌∷◌, All, count_by, get_or, length, sym, ap, subst}
 use Rattle.std.proofs.lemmas.Bool.{cases_Bool}
 use Rattle.std.proofs.lemmas.List.Sums.{count_by-le-length, sum_by-cons}
 use Rattle.std.proofs.lemmas.List.FromFn.{get_or-range_with_len, length-range_with_len}
 use Rattle.std.proofs.lemmas.List.Elements.{All-cons, All-head, All-tail, All-nil}
 use Rattle.go_board.specs.Reaching.{points}
-use Rattle.go_board.proofs.Tests.{point_low}
 
 -- a test counts for one or for nothing
 one : Bool → ℕ
@@ -44,17 +43,17 @@ grows_or_same {X} a b (x ∷ xs) all =
     let le : count_by a xs ≤ count_by b xs = count_le a b xs (All-tail P x xs all) in
     elim (cases_Bool (a x)) [
       | inl holds ↦ let ca = count_cons_pass a x xs holds in let cb = count_cons_pass b x xs (All-head P x xs all holds) in
-        elim (grows_or_same a b xs (All-tail P x xs all)) [
-          | inl same ↦ inl (All-cons Q x xs (λ e. holds) same)
-          | inr more ↦ inr (omega arith)
-        ]
+          elim (grows_or_same a b xs (All-tail P x xs all)) [
+            | inl same ↦ inl (All-cons Q x xs (λ e. holds) same)
+            | inr more ↦ inr (omega arith)
+          ]
       | inr fails ↦ let ca = count_cons_fail a x xs fails in elim (cases_Bool (b x)) [
         | inl holds ↦ let cb = count_cons_pass b x xs holds in inr (omega arith)
         | inr also ↦ let cb = count_cons_fail b x xs also in
-          elim (grows_or_same a b xs (All-tail P x xs all)) [
-            | inl same ↦ inl (All-cons Q x xs (λ e. absurd (true≢false (sym e ∙ also))) same)
-            | inr more ↦ inr (omega arith)
-          ]
+            elim (grows_or_same a b xs (All-tail P x xs all)) [
+              | inl same ↦ inl (All-cons Q x xs (λ e. absurd (true≢false (sym e ∙ also))) same)
+              | inr more ↦ inr (omega arith)
+            ]
       ]
     ]
 

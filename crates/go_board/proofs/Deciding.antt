@@ -1,14 +1,12 @@
 -- The tests on paths decide whether there is a path.
-use Rattle.std.proofs.Common.{arith, ◌≡◌, ◌<◌, ◌≤◌, ◌+◌, ◌*◌, ◌∙◌, ◌↔◌, ◌&&◌, ◌||◌, ◌==◌, ◌⊎◌, Bool, true, false, true≢false, cond, inl, inr, ℕ, zero, suc, List, [], ◌∷◌, Option, Some, None, IsTrue, All, count_by, length, refl, sym, ap, subst}
-use Rattle.std.proofs.lemmas.Bool.{cases_Bool, or_cases, eqb-true, eq-eqb}
-use Rattle.std.proofs.lemmas.List.Sums.{count_by-le-length}
-use Rattle.std.proofs.lemmas.List.FromFn.{get_or-range_with_len, length-range_with_len}
-use Rattle.std.proofs.lemmas.List.Elements.{All-cons, All-head, All-tail, All-nil}
+use Rattle.std.proofs.Common.{arith, ◌≡◌, ◌<◌, ◌≤◌, ◌*◌, ◌∙◌, ◌↔◌, ◌&&◌, ◌==◌, ◌⊎◌, Bool, true, inl, inr, ℕ, zero, suc, List, [], ◌∷◌, Option, None, count_by, refl, ap, subst}
+use Rattle.std.proofs.lemmas.Bool.{or_cases, eqb-true, eq-eqb}
+use Rattle.std.proofs.lemmas.List.FromFn.{length-range_with_len}
 use Rattle.go_board.specs.declared.colour.Colour.{Colour}
 use Rattle.go_board.specs.Colours.{Colouring, colour_at}
 use Rattle.go_board.specs.Points.{is_adjacent}
 use Rattle.go_board.specs.Paths.{IsAdjacent, Joined, Leads, Reaches}
-use Rattle.go_board.specs.Reaching.{connects, connects_within, has_colour, is_same, joined, points, reaches, some_neighbour}
+use Rattle.go_board.specs.Reaching.{connects, connects_within, has_colour, is_liberty_of, joined, points, reaches, some_neighbour}
 use Rattle.go_board.specs.Flood.{IsStep}
 use Rattle.go_board.proofs.Tests.{at_point, both, both_hold, equal_from_same, left_holds, right_holds, same_from_equal, some_point}
 use Rattle.go_board.proofs.Counting.{all_counted, at_points, grows_or_same, on_points}
@@ -38,10 +36,10 @@ module _ (n : ℕ) (g : Colouring) (test : ℕ → Bool) where
   within_cases k p low e = elim (or_cases (test p) _ e) [
     | inl here ↦ inl here
     | inr further ↦
-      let found = some_point n (λ r. is_adjacent n p r && (has_colour g r (colour_at g p) && connects_within k n g r test)) further in
-      let parts = both (is_adjacent n p found.0) _ found.2 in
-      let rest = both (has_colour g found.0 (colour_at g p)) _ parts.1 in
-      inr (found.0, ((low, found.1, parts.0), equal_from_same (colour_at g found.0) (colour_at g p) rest.0), rest.1)
+        let found = some_point n (λ r. is_adjacent n p r && (has_colour g r (colour_at g p) && connects_within k n g r test)) further in
+        let parts = both (is_adjacent n p found.0) _ found.2 in
+        let rest = both (has_colour g found.0 (colour_at g p)) _ parts.1 in
+        inr (found.0, ((low, found.1, parts.0), equal_from_same (colour_at g found.0) (colour_at g p) rest.0), rest.1)
   ]
 
   within_more : (k p : ℕ) → p < n * n → within k p ≡ true → within (suc k) p ≡ true
@@ -99,8 +97,8 @@ module _ (n : ℕ) (g : Colouring) (test : ℕ → Bool) where
   path_found (suc k) p low e = elim (within_cases k p low e) [
     | inl here ↦ (p, ([], refl), here)
     | inr further ↦
-      let rest = path_found k further.0 further.1.0.1 further.2 in
-      (rest.0, (further.0 ∷ rest.1.0, (further.1.0, further.1.1, rest.1.1)), rest.2)
+        let rest = path_found k further.0 further.1.0.1 further.2 in
+        (rest.0, (further.0 ∷ rest.1.0, (further.1.0, further.1.1, rest.1.1)), rest.2)
   ]
 
   -- the test decides whether a path leads to a point that passes
@@ -116,8 +114,8 @@ path_on n g p (r ∷ path) q low h = path_on n g r path q h.0.1 h.2
 pub neighbour_is : (n : ℕ) (test : ℕ → Bool) (p : ℕ) → p < n * n → (some_neighbour n p test ≡ true) ↔ ((q : ℕ) × IsAdjacent n p q × (test q ≡ true))
 neighbour_is n test p low = (
   λ e. let found = some_point n (λ q. is_adjacent n p q && test q) e in
-  let parts = both (is_adjacent n p found.0) (test found.0) found.2 in
-  (found.0, (low, found.1, parts.0), parts.1),
+      let parts = both (is_adjacent n p found.0) (test found.0) found.2 in
+      (found.0, (low, found.1, parts.0), parts.1),
   λ h. at_point n (λ q. is_adjacent n p q && test q) h.0 h.1.1 (both_hold (is_adjacent n p h.0) (test h.0) h.1.2 h.2),
 )
 
@@ -126,8 +124,8 @@ pub reaches_is : (n : ℕ) (g : Colouring) (p : ℕ) (c : Option Colour) → p <
 reaches_is n g p c low =
     let law = connects_is n g (λ q. some_neighbour n q (λ r. has_colour g r c)) p low in (
       λ e. let found = law.0 e in
-      let beside = (neighbour_is n (λ r. has_colour g r c) found.0 (path_on n g p found.1.0 found.0 low found.1.1)).0 found.2 in
-      (found.0, beside.0, found.1, beside.1, equal_from_same (colour_at g beside.0) c beside.2),
+          let beside = (neighbour_is n (λ r. has_colour g r c) found.0 (path_on n g p found.1.0 found.0 low found.1.1)).0 found.2 in
+          (found.0, beside.0, found.1, beside.1, equal_from_same (colour_at g beside.0) c beside.2),
       λ h. law.1 (h.0, h.2, (neighbour_is n (λ r. has_colour g r c) h.0 (path_on n g p h.2.0 h.0 low h.2.1)).1 (h.1, h.3, same_from_equal (colour_at g h.1) c h.4)),
     )
 
@@ -137,4 +135,12 @@ joined_is n g p q low =
     let law = connects_is n g (λ r. r == q) p low in (
       λ e. let found = law.0 e in subst (λ (r : ℕ). Joined n g p r) (eqb-true found.0 q found.2) found.1,
       λ h. law.1 (q, h, eq-eqb q q refl),
+    )
+
+-- a point is a liberty exactly where it is empty and adjacent to a stone that a path joins
+pub liberty_is : (n : ℕ) (g : Colouring) (p q : ℕ) → p < n * n → (is_liberty_of n g p q ≡ true) ↔ ((colour_at g q ≡ None) × ((r : ℕ) × Joined n g p r × (is_adjacent n r q ≡ true)))
+liberty_is n g p q low =
+    let law = connects_is n g (λ r. is_adjacent n r q) p low in (
+      λ e. let parts = both (has_colour g q None) _ e in (equal_from_same (colour_at g q) None parts.0, law.0 parts.1),
+      λ h. both_hold (has_colour g q None) _ (same_from_equal (colour_at g q) None h.0) (law.1 h.1),
     )

@@ -9,3 +9,5 @@ pub mod Beside
 pub mod Flooding
 pub mod Deciding
 pub mod Seeding
+pub mod Clearing
+pub mod Counted

@@ -1,13 +1,12 @@
 -- Where a flood begins, and what it comes to.
-use Rattle.std.proofs.Common.{arith, ◌≡◌, ◌<◌, ◌≤◌, ◌+◌, ◌*◌, ◌∙◌, ◌↔◌, ◌&&◌, ◌||◌, ◌==◌, ◌⊎◌, Bool, true, inl, inr, ℕ, List, [], ◌∷◌, ◌++◌, Option, IsTrue, Contains, length, refl, sym, ap, subst}
+use Rattle.std.proofs.Common.{arith, ◌≡◌, ◌<◌, ◌+◌, ◌*◌, ◌∙◌, ◌↔◌, ◌&&◌, ◌==◌, Bool, true, inl, inr, ℕ, List, [], ◌∷◌, ◌++◌, Option, length, sym, ap, subst}
 use Rattle.std.proofs.lemmas.Bool.{cases_lt, eqb-true, eq-eqb, or_cases}
 use Rattle.go_board.specs.declared.colour.Colour.{Colour}
 use Rattle.go_board.specs.declared.point.Point.{Point}
 use Rattle.go_board.specs.Colours.{Colouring, colour_at}
 use Rattle.go_board.specs.Points.{are_beside, is_next, point_at}
-use Rattle.go_board.specs.Paths.{IsAdjacent, Joined, Leads, Reaches}
-use Rattle.go_board.specs.Reaching.{reaches}
-use Rattle.go_board.specs.Flood.{AreReaching, Grows, HasRoom, IsBeside, IsJoinedTo, IsMarked, IsSeed, IsSeeding, IsStep}
+use Rattle.go_board.specs.Paths.{IsAdjacent, Joined, Leads}
+use Rattle.go_board.specs.Flood.{AreReaching, Grows, HasRoom, IsJoinedTo, IsMarked, IsSeed, IsSeeding}
 use Rattle.go_board.proofs.Deciding.{path_on, reaches_is}
 use Rattle.go_board.proofs.Flooding.{leads_more}
 use Rattle.go_board.proofs.Tests.{both, both_hold, left_holds, right_holds}
@@ -73,11 +72,11 @@ pub seeds_reach : (n : ℕ) (g : Colouring) (from to : Option Colour) (seeds mar
     → IsSeeding n g from to (n * n) seeds waiting → ((j : ℕ) → IsMarked marks j ↔ IsJoinedTo n g seeds j) → AreReaching n g from to marks
 seeds_reach n g from to seeds marks waiting seeding flood j = (
   λ m. let h = (flood j).0 m in
-  let seed = seeding.sound h.0 h.1 in
-  let low = path_on n g h.0 h.2.0 j seed.0 h.2.1 in
-  (low, leads_colour n g h.0 h.2.0 j h.2.1 ∙ seed.1.0, (reaches_is n g j to low).1 (h.0, seed.1.1.0, leads_back n g h.0 h.2.0 j h.2.1, seed.1.1.1, seed.1.1.2)),
+      let seed = seeding.sound h.0 h.1 in
+      let low = path_on n g h.0 h.2.0 j seed.0 h.2.1 in
+      (low, leads_colour n g h.0 h.2.0 j h.2.1 ∙ seed.1.0, (reaches_is n g j to low).1 (h.0, seed.1.1.0, leads_back n g h.0 h.2.0 j h.2.1, seed.1.1.1, seed.1.1.2)),
   λ h. let reach = (reaches_is n g j to h.0).0 h.2 in
-  let end_low = path_on n g j reach.2.0 reach.0 h.0 reach.2.1 in
-  let end_colour = leads_colour n g j reach.2.0 reach.0 reach.2.1 ∙ h.1 in
-  (flood j).1 (reach.0, seeding.complete reach.0 end_low (end_colour, (reach.1, reach.3, reach.4)), leads_back n g j reach.2.0 reach.0 reach.2.1),
+      let end_low = path_on n g j reach.2.0 reach.0 h.0 reach.2.1 in
+      let end_colour = leads_colour n g j reach.2.0 reach.0 reach.2.1 ∙ h.1 in
+      (flood j).1 (reach.0, seeding.complete reach.0 end_low (end_colour, (reach.1, reach.3, reach.4)), leads_back n g j reach.2.0 reach.0 reach.2.1),
 )

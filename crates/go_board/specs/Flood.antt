@@ -4,7 +4,7 @@ use Rattle.go_board.specs.declared.colour.Colour.{Colour}
 use Rattle.go_board.specs.declared.size.TheConstants.{MAX_POINTS}
 use Rattle.go_board.specs.Colours.{Colouring, colour_at}
 use Rattle.go_board.specs.Paths.{IsAdjacent, Joined}
-use Rattle.go_board.specs.Reaching.{reaches, connects}
+use Rattle.go_board.specs.Reaching.{reaches}
 
 -- the point with this number is marked
 abbrev pub IsMarked : List Bool → ℕ → Type 0

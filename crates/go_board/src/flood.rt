@@ -36,7 +36,13 @@ pub fn mark(number: u16, marks: &mut Marks, waiting: &mut Waiting)
 }
 
 /// Marks a point if it has this colour.
-fn mark_coloured(grid: &Grid, at: Point, colour: Option<Colour>, marks: &mut Marks, waiting: &mut Waiting)
+fn mark_coloured(
+    grid: &Grid,
+    at: Point,
+    colour: Option<Colour>,
+    marks: &mut Marks,
+    waiting: &mut Waiting,
+)
     requires on { IsOn grid.now.lines at }
     requires room { HasRoom marks.old waiting.old.items }
     ensures grows { Grows (λ j. (j ≡ number_of grid.now.lines at) × (colour_at grid.now.colours (number_of grid.now.lines at) ≡ colour)) marks.old waiting.old.items marks.new waiting.new.items }

@@ -2,18 +2,22 @@
 //! is read from and written to.
 #![tactic(auto)]
 
+mod area;
 mod colour;
 mod device;
 mod flood;
 mod grid;
+pub mod laws;
 mod meter;
 mod pen;
+pub mod plain;
 mod point;
 mod seeds;
 mod size;
 mod taken;
 mod vertex;
 
+pub use area::Area;
 pub use colour::Colour;
 pub use device::{Failed, Sink, Source, WriteFault};
 pub use grid::Grid;

@@ -25,7 +25,14 @@ fn is_beside(grid: &Grid, p: Point, colour: Option<Colour>) -> bool
 }
 
 /// Marks a point of the one colour that has a neighbour of the other.
-fn mark_seed(grid: &Grid, at: Point, from: Option<Colour>, to: Option<Colour>, marks: &mut Marks, waiting: &mut Waiting)
+fn mark_seed(
+    grid: &Grid,
+    at: Point,
+    from: Option<Colour>,
+    to: Option<Colour>,
+    marks: &mut Marks,
+    waiting: &mut Waiting,
+)
     requires on { IsOn grid.now.lines at }
     requires room { HasRoom marks.old waiting.old.items }
     ensures grows { Grows (λ j. (j ≡ number_of grid.now.lines at) × IsSeed grid.now.lines grid.now.colours from to j) marks.old waiting.old.items marks.new waiting.new.items }
@@ -39,7 +46,13 @@ fn mark_seed(grid: &Grid, at: Point, from: Option<Colour>, to: Option<Colour>, m
 }
 
 /// Marks each point of the one colour that has a neighbour of the other.
-fn mark_seeds(grid: &Grid, from: Option<Colour>, to: Option<Colour>, marks: &mut Marks, waiting: &mut Waiting)
+fn mark_seeds(
+    grid: &Grid,
+    from: Option<Colour>,
+    to: Option<Colour>,
+    marks: &mut Marks,
+    waiting: &mut Waiting,
+)
     requires none { (j : ℕ) → IsMarked marks.old j → ⊥ }
     requires room { HasRoom marks.old waiting.old.items }
     requires empty { waiting.old.items ≡ [] }
@@ -47,7 +60,14 @@ fn mark_seeds(grid: &Grid, from: Option<Colour>, to: Option<Colour>, marks: &mut
 {
     let size = grid.size();
     for number in 0..size.points() {
-        mark_seed(grid, Point::numbered(size, number), from, to, marks, waiting);
+        mark_seed(
+            grid,
+            Point::numbered(size, number),
+            from,
+            to,
+            marks,
+            waiting,
+        );
     }
 }
 

@@ -1,6 +1,3 @@
-use Rattle.std.proofs.Common.{◌≡◌, ◌<◌, ℕ, get_or}
-use Rattle.go_board.specs.declared.point.Point.{Point}
-use Rattle.go_board.specs.Colours.{colour_at}
 use Rattle.go_board.specs.Points.{number_of}
 use Rattle.go_board.specs.Flood.{Grows, IsMarked, IsStep}
 use Rattle.go_board.proofs.Beside.{HoldsOfFirst}

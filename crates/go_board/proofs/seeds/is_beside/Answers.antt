@@ -1,4 +1,4 @@
-use Rattle.std.proofs.Common.{◌≡◌, ◌∙◌, false, true, true≢false, ap, refl, sym}
+use Rattle.std.proofs.Common.{◌∙◌, true≢false, refl, sym}
 use Rattle.go_board.specs.Points.{number_of}
 use Rattle.std.proofs.Math.ListN.{get_or}
 use Rattle.go_board.proofs.Beside.{adjacent_at, all_done, are_neighbours, done_more, origin}
