@@ -1,2 +1,5 @@
 pub mod Sizes
 pub mod Colours
+pub mod Number
+pub mod Device
+pub mod Writing

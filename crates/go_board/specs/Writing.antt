@@ -1,0 +1,76 @@
+-- How pieces that are written one after the other make up a text.
+use Rattle.std.specs.Prelude.{◌≡◌, ℕ, List, [], ◌++◌, Option, Some, None, Bool, true, false, if◌then◌else◌, refl, Result, Ok, Err}
+use Rattle.std.proofs.Common.{sym, ap, subst, append_assoc, ◌∙◌}
+use Rattle.std.proofs.lemmas.List.{append-nil}
+use Rattle.go_board.specs.Device.{then_bytes, TakesFront, Sent, failures_after, Wrote, Place, place, Adds}
+use Rattle.go_board.specs.declared.device.WriteFault.{WriteFault}
+
+pub then_bytes-then_bytes : (o : Option (List ℕ)) (a b : List ℕ) → then_bytes (then_bytes o a) b ≡ then_bytes o (a ++ b)
+then_bytes-then_bytes None a b = refl
+then_bytes-then_bytes (Some xs) a b = ap Some (append_assoc xs a b)
+
+pub then_bytes-nil : (o : Option (List ℕ)) → then_bytes o [] ≡ o
+then_bytes-nil None = refl
+then_bytes-nil (Some xs) = ap Some (append-nil xs)
+
+-- a front of a text is a front of a longer text
+pub front_longer : {old new : Option (List ℕ)} {text : List ℕ} → TakesFront old new text → (more : List ℕ) → TakesFront old new (text ++ more)
+front_longer t more = record {
+  front = t.front;
+  rest = t.rest ++ more;
+  whole = ap (λ xs. xs ++ more) t.whole ∙ append_assoc t.front t.rest more;
+  taken = t.taken;
+}
+
+-- a text taken whole, and then a front of the next
+pub front_after : {old mid new : Option (List ℕ)} (text : List ℕ) {more : List ℕ} →
+    mid ≡ then_bytes old text → TakesFront mid new more → TakesFront old new (text ++ more)
+front_after {old} text e t = record {
+  front = text ++ t.front;
+  rest = t.rest;
+  whole = ap (λ xs. text ++ xs) t.whole ∙ sym (append_assoc text t.front t.rest);
+  taken = t.taken ∙ ap (λ o. then_bytes o t.front) e ∙ then_bytes-then_bytes old text t.front;
+}
+
+-- two pieces
+pub adds_adds : {old mid new : Place} {first more : List ℕ} → Adds old mid first → Adds mid new more → Adds old new (first ++ more)
+adds_adds {old} {mid} {new} {first} {more} a b = record {
+  grown = λ start n text w.
+      let P : List ℕ → Type 0 = λ xs. Wrote new.has_failed start new.taken n new.failures xs in
+      subst P (append_assoc text first more) (b.grown start n (text ++ first) (a.grown start n text w));
+}
+
+-- two pieces that make up a text
+pub adds_then : {old mid new : Place} {first more : List ℕ} (whole : List ℕ) → Adds old mid first → Adds mid new more → first ++ more ≡ whole → Adds old new whole
+adds_then {old} {mid} {new} whole a b e =
+    let P : List ℕ → Type 0 = λ xs. Adds old new xs in
+    subst P e (adds_adds a b)
+
+-- no piece
+pub adds_nothing : (p : Place) → Adds p p []
+adds_nothing p = record {
+  grown = λ start n text w.
+      let P : List ℕ → Type 0 = λ xs. Wrote p.has_failed start p.taken n p.failures xs in
+      subst P (sym (append-nil text)) w;
+}
+
+-- a fresh pen has written nothing
+pub wrote_nothing : (taken : Option (List ℕ)) (failures : ℕ) → Wrote false taken taken failures failures []
+wrote_nothing taken failures = record { took = sym (then_bytes-nil taken); counted = refl }
+
+-- what a fresh pen wrote until it was finished
+pub wrote : {has_failed : Bool} {taken taken' : Option (List ℕ)} {failures failures' : ℕ} {text : List ℕ} →
+    Adds (place false taken failures) (place has_failed taken' failures') text → Wrote has_failed taken taken' failures failures' text
+wrote {has_failed} {taken} {taken'} {failures} {failures'} {text} a = a.grown taken failures [] (wrote_nothing taken failures)
+
+-- what finishing a pen tells of the text
+pub finished : (has_failed : Bool) {taken taken' : Option (List ℕ)} {failures failures' : ℕ} {text : List ℕ} →
+    Adds (place false taken failures) (place has_failed taken' failures') text →
+    (r : Result Unit WriteFault) → r ≡ (if has_failed then Err record {} else Ok tt) →
+    Sent r taken taken' text × (failures' ≡ failures_after r failures)
+finished false {taken} {taken'} {failures} {failures'} {text} a r e =
+    let P : Result Unit WriteFault → Type 0 = λ x. Sent x taken taken' text × (failures' ≡ failures_after x failures) in
+    let w = wrote a in subst P (sym e) (w.took, w.counted)
+finished true {taken} {taken'} {failures} {failures'} {text} a r e =
+    let P : Result Unit WriteFault → Type 0 = λ x. Sent x taken taken' text × (failures' ≡ failures_after x failures) in
+    let w = wrote a in subst P (sym e) (w.took, w.counted)

@@ -1,0 +1,57 @@
+ghost use Rattle.std.specs.Prelude.{◌≡◌, ◌≤◌, ◌<◌, ◌+◌, ℕ, List, [], Option, IfOk, IfSome, OnErr, length, take};
+ghost use Rattle.go_board.specs.Device.{then_bytes, after_bytes, failures_after, put_failures_after};
+
+use thiserror::Error;
+
+/// A device refused a call.
+#[derive(Clone, Copy, Debug, PartialEq, Eq, Error)]
+#[error("device failed")]
+pub struct Failed;
+
+/// A text could not be written whole.
+#[derive(Clone, Copy, Debug, PartialEq, Eq, Error)]
+#[error("write fault")]
+pub struct WriteFault;
+
+/// A device that bytes are read from.
+pub trait Source {
+    /// The bytes that are left to read, where the device tells them.
+    ghost left: { Self → Option (List ℕ) };
+
+    /// How often it was read from.
+    ghost pulls: { Self → ℕ };
+
+    /// How often that failed.
+    ghost failures: { Self → ℕ };
+
+    /// Reads into the buffer, and gives the number of bytes read. None into a buffer with room is
+    /// the end of the input.
+    fn pull(&mut self, buffer: &mut [u8]) -> Result<usize, Failed>
+        ensures within { IfOk result (λ n. n ≤ length buffer.new) }
+        ensures bytes { IfOk result (λ n. left self.old ≡ after_bytes (take n buffer.new) (left self.new)) }
+        ensures end { IfOk result (λ n. n ≡ 0 → 0 < length buffer.new → IfSome (left self.new) (λ xs. xs ≡ [])) }
+        ensures failed { OnErr result (left self.new ≡ left self.old) }
+        ensures pulls { pulls self.new ≡ pulls self.old + 1 }
+        ensures failures { failures self.new ≡ failures_after result (failures self.old) };
+}
+
+/// A device that bytes are written to.
+pub trait Sink {
+    /// The bytes that it took so far, where the device tells them.
+    ghost taken: { Self → Option (List ℕ) };
+
+    /// How often a call failed. To take none of some bytes is a failure too.
+    ghost failures: { Self → ℕ };
+
+    /// Takes bytes from the front of a slice, and gives their number.
+    fn put(&mut self, bytes: &[u8]) -> Result<usize, Failed>
+        ensures within { IfOk result (λ n. n ≤ length bytes.now) }
+        ensures bytes { IfOk result (λ n. taken self.new ≡ then_bytes (taken self.old) (take n bytes.now)) }
+        ensures failed { OnErr result (taken self.new ≡ taken self.old) }
+        ensures failures { failures self.new ≡ put_failures_after result (length bytes.now) (failures self.old) };
+
+    /// Passes on what it holds back.
+    fn flush(&mut self) -> Result<(), Failed>
+        ensures bytes { taken self.new ≡ taken self.old }
+        ensures failures { failures self.new ≡ failures_after result (failures self.old) };
+}
