@@ -204,7 +204,7 @@ push_byte line b text is_long none control hash space grows =
     ∙ ap (f (take LINE_LIMIT (joined (cleaned line ++ spaced b ∷ []))) (nat_lt LINE_LIMIT (length (joined (cleaned line ++ spaced b ∷ []))))) (sym (has_trailing_space_push_byte (cleaned line) (spaced b) space))
     ∙ plain_after line b none control hash
 
-has_bytes_is : (text : List ℕ) → has_bytes text ≡ not (nat_eq (length text) 0)
+pub has_bytes_is : (text : List ℕ) → has_bytes text ≡ not (nat_eq (length text) 0)
 has_bytes_is [] = refl
 has_bytes_is (b ∷ text) = grind (arith, nat_tests)
 

@@ -2,5 +2,7 @@
 #![tactic(auto)]
 
 mod line;
+mod request;
+mod words;
 
 pub use line::{LINE_LIMIT, Line};
