@@ -1,0 +1,5 @@
+pub mod Splits
+pub mod Joins
+pub mod Pushes
+pub mod Lines
+pub mod Requests
