@@ -11,3 +11,4 @@ pub mod Deciding
 pub mod Seeding
 pub mod Clearing
 pub mod Counted
+pub mod Equal
