@@ -5,8 +5,8 @@ use Rattle.std.specs.List.{range_with_len}
 use Rattle.std.proofs.Math.ListN.{set}
 use Rattle.std.proofs.lemmas.Bool.{cases_Bool, cases_lt}
 use Rattle.std.proofs.lemmas.List.{get_or-set_other, get_or-set_same}
-use Rattle.std.proofs.lemmas.List.FromFn.{fill_by_all, get_or-map-range_with_len}
-use Rattle.std.proofs.lemmas.List.Sums.{sum_by_push}
+use Rattle.std.proofs.lemmas.List.FromFn.{fill_by_all, get_or-map-range_with_len, length-range_with_len}
+use Rattle.std.proofs.lemmas.List.Sums.{count_by-le-length, sum_by_push}
 use Rattle.go_board.specs.declared.colour.Colour.{Colour}
 use Rattle.go_board.specs.declared.colour.Colour.TheVariants.{Black, White}
 use Rattle.go_board.specs.Colours.{Colouring, colour_at, other}
@@ -180,3 +180,9 @@ pub place_takes_own : (n l₁ l₂ k taken : ℕ) (c d : Colour) (g g₁ g₂ g�
     → taken ≡ vanished n (set g k (Some c)) g₃ c
 place_takes_own n l₁ l₂ k count c d g g₁ g₂ g₃ lines₁ lines₂ placed opponent first second taken =
     let law = vanished_second n (set g k (Some c)) c in cc
+
+pub vanished-le : (n : ℕ) (before after : Colouring) (c : Colour) → vanished n before after c ≤ n * n
+unfolding vanished
+vanished-le n before after c =
+    let most = count_by-le-length (λ k. has_colour before k (Some c) && not (has_colour after k (Some c))) (points n) in
+    rw (length-range_with_len 0 (n * n)) at most

@@ -1,10 +1,10 @@
 //! What the words of this crate's contracts mean: laws about definitions, each the contract of a
 //! function that does nothing.
-ghost use Rattle.std.specs.Prelude.{◌≡◌, ◌<◌, ◌*◌, ◌↔◌, ℕ, Option, None, IsTrue};
+ghost use Rattle.std.specs.Prelude.{◌≡◌, ◌<◌, ◌≤◌, ◌*◌, ◌↔◌, ℕ, Option, None, IsTrue};
 ghost use Rattle.go_board.specs.declared.colour.Colour.{Colour};
 ghost use Rattle.go_board.specs.Colours.{Colouring, colour_at};
 ghost use Rattle.go_board.specs.Paths.{Joined, Reaches};
-ghost use Rattle.go_board.specs.Reaching.{is_liberty_of, joined, reaches};
+ghost use Rattle.go_board.specs.Reaching.{is_liberty_of, joined, reaches, vanished};
 ghost use Rattle.go_board.specs.Points.{is_adjacent};
 
 /// The test whether a point reaches a colour holds exactly where a path leads there.
@@ -22,3 +22,9 @@ pub fn liberty_by_a_path()
     ensures { (n : ℕ) (g : Colouring) (p q : ℕ) → p < n * n → IsTrue (is_liberty_of n g p q)
         ↔ ((colour_at g q ≡ None) × ((r : ℕ) × Joined n g p r × IsTrue (is_adjacent n r q))) }
 {}
+
+/// No more stones of a colour vanish than the board has points.
+pub fn vanished_at_most_all()
+    ensures { (n : ℕ) (before after : Colouring) (c : Colour) → vanished n before after c ≤ n * n }
+{
+}
