@@ -5,11 +5,12 @@ use Rattle.go_board.specs.declared.colour.Colour.TheVariants.{Black, White}
 use Rattle.go_board.specs.declared.vertex.Move.{Move}
 use Rattle.go_board.specs.declared.vertex.Vertex.{Vertex}
 use Rattle.go_board.specs.declared.vertex.Vertex.TheVariants.{Pass, At}
-use Rattle.go_board.specs.Colours.{Colouring, colour_at, other}
+use Rattle.go_board.specs.Colours.{Colouring, colour_at}
 use Rattle.go_board.specs.Grids.{GridValue}
 use Rattle.go_board.specs.Points.{IsOn, number_of}
 use Rattle.go_game.specs.declared.step.Step.{Step}
 use Rattle.go_game.specs.Standings.{IsSound, Standing, after_move}
+use Rattle.go_game.specs.Prisoners.{share_of}
 use Rattle.go_game.specs.Playing.{prisoners_of, taken_by}
 
 abbrev pub made_of : Step → Move
@@ -28,8 +29,7 @@ pub record IsPlayed (n : ℕ) (g : Colouring) (s : Step) : Type 0 where
   pub lines : s.after.lines ≡ n
   pub colours : s.after.colours ≡ after_move n g s.made
   pub playable : IsPlayable n g s.made.vertex
-  pub theirs : s.taken.theirs ≡ taken_by n g s.made.colour s.made.vertex (other s.made.colour)
-  pub own : s.taken.own ≡ taken_by n g s.made.colour s.made.vertex s.made.colour
+  pub taken : (of : Colour) → share_of s.made.colour s.taken of ≡ taken_by n g s.made.colour s.made.vertex of
 
 -- so for each step, one after the other
 abbrev pub ArePlayed : ℕ → Colouring → List Step → Type 0

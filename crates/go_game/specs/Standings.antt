@@ -1,5 +1,5 @@
 -- What a game stands for: its start and its moves.
-use Rattle.std.specs.Prelude.{◌≡◌, ◌≢◌, ◌<◌, ◌≤◌, ◌+◌, ◌-◌, ◌*◌, ◌++◌, ℕ, ℤ, pos, negsuc, List, [], ◌∷◌, Option, None, Some, IsTrue, Contains, length, replicate, slice_index_or, take}
+use Rattle.std.specs.Prelude.{◌≡◌, ◌≢◌, ◌<◌, ◌≤◌, ◌-◌, ◌*◌, ◌++◌, ℕ, ℤ, pos, negsuc, List, [], ◌∷◌, None, IsTrue, Contains, length, replicate, slice_index_or, take}
 use Rattle.std.specs.Prelude.{◌≤ℤ◌}
 use Rattle.go_board.specs.declared.colour.Colour.{Colour}
 use Rattle.go_board.specs.declared.colour.Colour.TheVariants.{Black}
