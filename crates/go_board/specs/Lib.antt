@@ -1,5 +1,11 @@
 pub mod Sizes
 pub mod Colours
+pub mod Points
+pub mod Paths
+pub mod Reaching
+pub mod Flood
+pub mod Grids
+pub mod Vertices
 pub mod Number
 pub mod Device
 pub mod Writing

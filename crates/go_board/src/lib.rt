@@ -4,12 +4,21 @@
 
 mod colour;
 mod device;
+mod flood;
+mod grid;
 mod meter;
 mod pen;
+mod point;
 mod size;
+mod vertex;
 
 pub use colour::Colour;
 pub use device::{Failed, Sink, Source, WriteFault};
+pub use grid::Grid;
 pub use meter::Meter;
 pub use pen::{Pen, send};
+pub use point::{Point, neighbours};
 pub use size::{MAX_LINES, MAX_POINTS, Size};
+pub use vertex::{
+    COLUMN_LETTERS, MAX_ROW_NUMBER, Move, Vertex, VertexError, read_vertex, vertex_text,
+};

@@ -1,0 +1,76 @@
+ghost use Rattle.std.specs.Prelude.{◌≡◌, ◌<◌, ◌≤◌, ◌*◌, ◌↔◌, ℕ, None, IsTrue, length, replicate, slice_set, take};
+
+use crate::{Colour, MAX_POINTS, Point, Size};
+use std::marker::Model;
+
+/// A colouring of the points of a board: each is empty, black or white.
+#[derive(Drop)]
+pub struct Grid {
+    size: Size,
+    cells: [Option<Colour>; MAX_POINTS],
+}
+
+impl Model for Grid {
+    ghost use Rattle.std.specs.Prelude.{◌≡◌, ◌*◌, length, take};
+    ghost use Rattle.go_board.specs.declared.size.TheConstants.{MAX_POINTS};
+    ghost use Rattle.go_board.specs.Grids.{GridValue};
+    ghost use Rattle.go_board.specs.Sizes.{lines_of};
+
+    ghost Value = { GridValue };
+
+    ghost view = { λ g. record { lines = lines_of g.size; colours = take (lines_of g.size * lines_of g.size) g.cells } };
+
+    ghost invariant = { λ g. length g.cells ≡ MAX_POINTS };
+}
+
+impl Grid {
+    ghost use Rattle.go_board.specs.Sizes.{lines_of};
+    ghost use Rattle.go_board.specs.Colours.{colour_at};
+    ghost use Rattle.go_board.specs.Points.{IsOn, number_of};
+
+    /// A board of this size with no stone.
+    pub fn new(size: Size) -> Grid
+        ensures lines { result.lines ≡ lines_of size }
+        ensures colours { result.colours ≡ replicate (lines_of size * lines_of size) None }
+    {
+        Grid {
+            size,
+            cells: [None; MAX_POINTS],
+        }
+    }
+
+    /// The size of the board.
+    pub fn size(&self) -> Size
+        ensures lines { lines_of result ≡ self.now.lines }
+        ensures whole { length self.now.colours ≡ lines_of result * lines_of result }
+    {
+        self.size
+    }
+
+    /// Another grid with the same colours.
+    pub fn copy(&self) -> Grid
+        ensures { result ≡ self.now }
+    {
+        Grid {
+            size: self.size,
+            cells: self.cells,
+        }
+    }
+
+    /// The colour of a point of the board, or none where it is empty.
+    pub fn get(&self, p: Point) -> Option<Colour>
+        requires { IsOn self.now.lines p }
+        ensures { result ≡ colour_at self.now.colours (number_of self.now.lines p) }
+    {
+        self.cells[usize::from(p.index(self.size))]
+    }
+
+    /// Gives a point of the board a colour, or empties it.
+    pub fn set(&mut self, p: Point, colour: Option<Colour>)
+        requires { IsOn self.old.lines p }
+        ensures lines { self.new.lines ≡ self.old.lines }
+        ensures colours { self.new.colours ≡ slice_set self.old.colours (number_of self.old.lines p) colour }
+    {
+        self.cells[usize::from(p.index(self.size))] = colour;
+    }
+}

@@ -1,0 +1,121 @@
+ghost use Rattle.std.specs.Prelude.{◌≡◌, ◌<◌, ◌≤◌, ◌*◌, ◌↔◌, ℕ, IsTrue, IsSome, IfSome, All, Contains, map};
+ghost use Rattle.std.specs.List.Sorted.{IsStrictlyIncreasing};
+ghost use Rattle.go_board.specs.Points.{IsOn, are_beside, number_of, point_at};
+ghost use Rattle.go_board.specs.Sizes.{lines_of};
+
+use crate::Size;
+use arrayvec::ArrayVec;
+
+/// A point by its column from the left and its row from the bottom, both from 0. Point order goes
+/// row by row from the bottom, each from the left.
+#[derive(Clone, Copy, Debug, Default, PartialEq, Eq, Hash)]
+pub struct Point {
+    pub col: u8,
+    pub row: u8,
+}
+
+impl Point {
+    /// The point in this column and row, or none off the board.
+    pub fn at(size: Size, col: u8, row: u8) -> Option<Point>
+        ensures range { IsSome result ↔ ((col < lines_of size) × (row < lines_of size)) }
+        ensures value { IfSome result (λ p. (p.col ≡ col) × (p.row ≡ row)) }
+    {
+        let point = Point { col, row };
+        if point.on(size) { Some(point) } else { None }
+    }
+
+    /// The point with this number in point order, or none past the last.
+    pub fn nth(size: Size, number: u16) -> Option<Point>
+        ensures range { IsSome result ↔ (number < lines_of size * lines_of size) }
+        ensures value { IfSome result (λ p. p ≡ point_at (lines_of size) number) }
+        ensures back { IfSome result (λ p. IsOn (lines_of size) p × (number_of (lines_of size) p ≡ number)) }
+    {
+        if number < size.points() {
+            Some(Point::numbered(size, number))
+        } else {
+            None
+        }
+    }
+
+    /// The point with this number in point order, for a number that is known to have one.
+    pub fn numbered(size: Size, number: u16) -> Point
+        requires { number < lines_of size * lines_of size }
+        ensures value { result ≡ point_at (lines_of size) number }
+        ensures on { IsOn (lines_of size) result }
+        ensures back { number_of (lines_of size) result ≡ number }
+    {
+        let lines = u16::from(size.lines());
+        Point {
+            col: (number % lines) as u8,
+            row: (number / lines) as u8,
+        }
+    }
+
+    /// The column from the left, from 0.
+    pub fn col(self) -> u8
+        ensures { result ≡ self.col }
+    {
+        self.col
+    }
+
+    /// The row from the bottom, from 0.
+    pub fn row(self) -> u8
+        ensures { result ≡ self.row }
+    {
+        self.row
+    }
+
+    /// Whether the point is on a board of this size.
+    pub fn on(self, size: Size) -> bool
+        ensures { IsTrue result ↔ IsOn (lines_of size) self }
+    {
+        self.col < size.lines() && self.row < size.lines()
+    }
+
+    /// Its number in point order, from 0.
+    pub fn index(self, size: Size) -> u16
+        requires { IsOn (lines_of size) self }
+        ensures value { result ≡ number_of (lines_of size) self }
+        ensures bound { result < lines_of size * lines_of size }
+        ensures back { point_at (lines_of size) result ≡ self }
+    {
+        u16::from(self.row) * u16::from(size.lines()) + u16::from(self.col)
+    }
+}
+
+/// The points that share a side with this one, in point order.
+pub fn neighbours(p: Point, size: Size) -> ArrayVec<Point, 4>
+    requires { IsOn (lines_of size) p }
+    ensures on { All (λ q. IsOn (lines_of size) q) result.items }
+    ensures beside { All (λ q. IsTrue (are_beside p q)) result.items }
+    ensures each { (q : Point) → IsOn (lines_of size) q → IsTrue (are_beside p q) → Contains result.items q }
+    ensures order { IsStrictlyIncreasing (map (number_of (lines_of size)) result.items) }
+{
+    let mut beside = ArrayVec::new();
+    let last = size.lines() - 1;
+    if p.row > 0 {
+        beside.push(Point {
+            row: p.row - 1,
+            ..p
+        });
+    }
+    if p.col > 0 {
+        beside.push(Point {
+            col: p.col - 1,
+            ..p
+        });
+    }
+    if p.col < last {
+        beside.push(Point {
+            col: p.col + 1,
+            ..p
+        });
+    }
+    if p.row < last {
+        beside.push(Point {
+            row: p.row + 1,
+            ..p
+        });
+    }
+    beside
+}

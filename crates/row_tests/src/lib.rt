@@ -1,0 +1,5 @@
+//! Tests that cross crates: scripts with the answers that they must have.
+#![tactic(auto)]
+
+#[cfg(test)]
+mod lines;
