@@ -3,3 +3,5 @@ pub mod Joins
 pub mod Pushes
 pub mod Lines
 pub mod Requests
+pub mod Conversations
+pub mod Answering

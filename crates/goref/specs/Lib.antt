@@ -3,3 +3,11 @@ pub mod Front
 pub mod Lines
 pub mod Words
 pub mod Requests
+pub mod Games
+pub mod Contents
+pub mod Commands
+pub mod Decisions
+pub mod Answers
+pub mod Replies
+pub mod Conversation
+pub mod Progress

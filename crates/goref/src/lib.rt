@@ -1,8 +1,18 @@
 //! The engine's side of the Go Text Protocol: lines, commands and their answers.
 #![tactic(auto)]
 
+mod answer;
+mod command;
+mod decision;
+mod flow;
+mod game;
 mod line;
 mod request;
+mod session;
+mod shelf;
 mod words;
 
+pub use flow::{Flow, RunError};
 pub use line::{LINE_LIMIT, Line};
+pub use session::Session;
+pub use shelf::{Fetched, Shelf};

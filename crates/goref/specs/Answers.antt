@@ -1,0 +1,99 @@
+-- The texts of answers.
+use Rattle.std.specs.Prelude.{◌≡◌, ℕ, ◌⊎◌, Bool, true, false, if◌then◌else◌, List, [], ◌∷◌, ◌++◌, Option, Some, None, codes, decimal}
+use Rattle.std.specs.List.{join_with_byte}
+use Rattle.goref.specs.declared.decision.Decision.{Decision}
+use Rattle.goref.specs.declared.decision.Decision.TheVariants.{Done, Ends, Tells, Refused}
+use Rattle.goref.specs.declared.decision.Fact.{Fact}
+use Rattle.goref.specs.declared.decision.Fact.TheVariants.{Protocol, Program, Release, Commands, Known}
+use Rattle.goref.specs.declared.decision.Refusal.{Refusal}
+use Rattle.goref.specs.declared.decision.Refusal.TheVariants.{LineTooLong, UnknownCommand, SyntaxError, UnacceptableSize, OutOfMemory}
+use Rattle.goref.specs.Games.{Standing}
+use Rattle.goref.specs.Kept.{Kept, has_bytes, words}
+use Rattle.goref.specs.Requests.{asked_by, id_of_cut}
+use Rattle.goref.specs.Contents.{Content}
+use Rattle.goref.specs.Commands.{command_names}
+use Rattle.goref.specs.Decisions.{Decided, keeps, decided, MayLackMemory}
+
+abbrev pub refusal_text : Refusal → List ℕ
+refusal_text LineTooLong = codes "line too long"
+refusal_text UnknownCommand = codes "unknown command"
+refusal_text SyntaxError = codes "syntax error"
+refusal_text UnacceptableSize = codes "unacceptable size"
+refusal_text OutOfMemory = codes "out of memory"
+
+abbrev pub truth_text : Bool → List ℕ
+truth_text true = codes "true"
+truth_text false = codes "false"
+
+-- what a fact says over a standing
+abbrev pub fact_text : Fact → Standing → List ℕ
+fact_text Protocol s = codes "2"
+fact_text Program s = codes "goref"
+fact_text Release s = codes "1.0"
+fact_text Commands s = join_with_byte 10 command_names
+fact_text (Known b) s = truth_text b
+
+-- the id in front of an answer, without leading zeros
+abbrev pub id_text : Option ℕ → List ℕ
+id_text None = []
+id_text (Some id) = decimal id
+
+-- `=`, the id, a space and the result where there is one, and two line ends
+abbrev pub decision_text : Option ℕ → Decision → Standing → List ℕ
+decision_text id Done s = codes "=" ++ (id_text id ++ codes "\n\n")
+decision_text id Ends s = codes "=" ++ (id_text id ++ codes "\n\n")
+decision_text id (Tells fact) s = codes "=" ++ (id_text id ++ (codes " " ++ (fact_text fact s ++ codes "\n\n")))
+decision_text id (Refused why) s = codes "?" ++ (id_text id ++ (codes " " ++ (refusal_text why ++ codes "\n\n")))
+
+abbrev pub is_end : Decision → Bool
+is_end Ends = true
+is_end _ = false
+
+-- what is said to a line: the text of the answer, the standing after it, and whether the session ends
+pub record Said : Type 0 where
+  pub text : List ℕ
+  pub standing : Standing
+  pub ends : Bool
+
+-- a line without words has no answer
+abbrev pub silent : Standing → Said
+silent s = record { text = []; standing = s; ends = false }
+
+-- the answer with this id by a decision
+abbrev pub spoken : Option ℕ → Decided → Said
+spoken id d = record { text = decision_text id d.decision d.standing; standing = d.standing; ends = is_end d.decision }
+
+-- the id of a line, also of one that is too long
+abbrev pub line_id : Kept → Option ℕ
+line_id k = if k.is_long then id_of_cut k.text else (asked_by (words k.text)).id
+
+-- what is decided on a line with words, the content being what was fetched for it
+abbrev pub decided_line : Standing → Kept → Content → Decided
+decided_line s k content = if k.is_long then keeps s (Refused LineTooLong) else decided s (asked_by (words k.text)) content
+
+-- what is said to a line
+abbrev pub said : Standing → Kept → Content → Said
+said s k content = if has_bytes k.text then spoken (line_id k) (decided_line s k content) else silent s
+
+-- a line that may be refused for want of memory: it has words, is not too long, and its command is so marked
+pub record MayBeRefused (s : Standing) (k : Kept) (content : Content) : Type 0 where
+  pub has_words : has_bytes k.text ≡ true
+  pub fits : k.is_long ≡ false
+  pub marked : MayLackMemory s (asked_by (words k.text)) content
+
+-- the answer where memory is wanting
+abbrev pub without_memory : Standing → Kept → Said
+without_memory s k = spoken (line_id k) (keeps s (Refused OutOfMemory))
+
+-- what may be said to a line
+abbrev pub Reply : Standing → Kept → Content → Said → Type 0
+Reply s k content reply = (reply ≡ said s k content) ⊎ (MayBeRefused s k content × (reply ≡ without_memory s k))
+
+-- what may be decided on a line with words
+abbrev pub DecidesLine : Standing → Kept → Content → Decided → Type 0
+DecidesLine s k content d = (d ≡ decided_line s k content)
+    ⊎ ((k.is_long ≡ false) × MayLackMemory s (asked_by (words k.text)) content × (d ≡ keeps s (Refused OutOfMemory)))
+
+-- the name of the file that a line wants fetched
+abbrev pub wants : Kept → Option (List ℕ)
+wants k = None

@@ -1,0 +1,27 @@
+-- The table of commands.
+use Rattle.std.specs.Prelude.{ℕ, List, [], ◌∷◌, Option, codes, find, map}
+use Rattle.std.specs.Str.{bytes_eq}
+use Rattle.goref.specs.declared.command.Command.{Command}
+use Rattle.goref.specs.declared.command.Command.TheVariants.{ProtocolVersion, Name, Version, KnownCommand, ListCommands, Quit, Boardsize, ClearBoard}
+
+-- the name by which a line asks for a command
+abbrev pub name_of : Command → List ℕ
+name_of ProtocolVersion = codes "protocol_version"
+name_of Name = codes "name"
+name_of Version = codes "version"
+name_of KnownCommand = codes "known_command"
+name_of ListCommands = codes "list_commands"
+name_of Quit = codes "quit"
+name_of Boardsize = codes "boardsize"
+name_of ClearBoard = codes "clear_board"
+
+-- all commands, in the order in which they are listed
+abbrev pub commands : List Command
+commands = ProtocolVersion ∷ Name ∷ Version ∷ KnownCommand ∷ ListCommands ∷ Quit ∷ Boardsize ∷ ClearBoard ∷ []
+
+abbrev pub command_names : List (List ℕ)
+command_names = map name_of commands
+
+-- the command of this name
+abbrev pub command_of : List ℕ → Option Command
+command_of name = find (λ command. bytes_eq name (name_of command)) commands

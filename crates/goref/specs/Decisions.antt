@@ -1,0 +1,74 @@
+-- What is decided on a line: what the answer tells, and what stands then.
+use Rattle.std.specs.Prelude.{◌≡◌, ℕ, ℤ, ◌&&◌, ◌⊎◌, nat_le, Bool, true, false, not, is_some, if◌then◌else◌, List, [], ◌∷◌, Option, Some, None, option_and_then, slice_get, codes}
+use Rattle.std.specs.Option.{option_and_then}
+use Rattle.go_board.specs.declared.size.TheConstants.{MAX_LINES}
+use Rattle.goref.specs.declared.command.Command.{Command}
+use Rattle.goref.specs.declared.command.Command.TheVariants as command
+use Rattle.goref.specs.declared.decision.Decision.{Decision}
+use Rattle.goref.specs.declared.decision.Decision.TheVariants.{Done, Ends, Tells, Refused}
+use Rattle.goref.specs.declared.decision.Fact.TheVariants.{Protocol, Program, Release, Commands, Known}
+use Rattle.goref.specs.declared.decision.Refusal.TheVariants.{LineTooLong, UnknownCommand, SyntaxError, UnacceptableSize, OutOfMemory}
+use Rattle.goref.specs.Games.{Standing, begun}
+use Rattle.goref.specs.Kept.{Kept, has_bytes, words}
+use Rattle.goref.specs.Words.{int_of}
+use Rattle.goref.specs.Requests.{Asked, asked_by, id_of_cut}
+use Rattle.goref.specs.Contents.{Content}
+use Rattle.goref.specs.Commands.{command_of}
+
+-- a decision, and the standing after it
+pub record Decided : Type 0 where
+  pub decision : Decision
+  pub standing : Standing
+
+-- a decision that changes nothing
+abbrev pub keeps : Standing → Decision → Decided
+keeps s decision = record { decision = decision; standing = s }
+
+-- a command that was done, with nothing to tell
+abbrev pub comes_to : Standing → Decided
+comes_to s = record { decision = Done; standing = s }
+
+-- `known_command`: whether the word is the name of a command
+abbrev pub decided_known : Standing → Option (List ℕ) → Decided
+decided_known s None = keeps s (Refused SyntaxError)
+decided_known s (Some word) = keeps s (Tells (Known (is_some (command_of word))))
+
+-- `boardsize`: an empty board of this size; the komi stays
+abbrev pub decided_size : Standing → Option ℕ → Decided
+decided_size s None = keeps s (Refused SyntaxError)
+decided_size s (Some n) = if nat_le 1 n && nat_le n MAX_LINES then comes_to (begun n s.komi) else keeps s (Refused UnacceptableSize)
+
+-- what is decided on a command with these arguments, the content being what was fetched for it
+abbrev pub decided_on : Standing → Command → List (List ℕ) → Content → Decided
+decided_on s command.ProtocolVersion arguments content = keeps s (Tells Protocol)
+decided_on s command.Name arguments content = keeps s (Tells Program)
+decided_on s command.Version arguments content = keeps s (Tells Release)
+decided_on s command.KnownCommand arguments content = decided_known s (slice_get arguments 0)
+decided_on s command.ListCommands arguments content = keeps s (Tells Commands)
+decided_on s command.Quit arguments content = keeps s Ends
+decided_on s command.Boardsize arguments content = decided_size s (option_and_then int_of (slice_get arguments 0))
+decided_on s command.ClearBoard arguments content = comes_to (begun s.lines s.komi)
+
+-- what is decided on a name, which may be that of no command
+abbrev pub decided_if : Standing → Option Command → List (List ℕ) → Content → Decided
+decided_if s None arguments content = keeps s (Refused UnknownCommand)
+decided_if s (Some command) arguments content = decided_on s command arguments content
+
+-- what is decided on what the words of a line ask
+abbrev pub decided : Standing → Asked → Content → Decided
+decided s asked content = decided_if s (option_and_then command_of asked.name) asked.arguments content
+
+-- a command whose refusal for want of memory is allowed, as it stands
+abbrev pub LacksMemoryOn : Standing → Command → List (List ℕ) → Content → Type 0
+LacksMemoryOn s command arguments content = ⊥
+
+abbrev pub LacksMemoryIf : Standing → Option Command → List (List ℕ) → Content → Type 0
+LacksMemoryIf s None arguments content = ⊥
+LacksMemoryIf s (Some command) arguments content = LacksMemoryOn s command arguments content
+
+abbrev pub MayLackMemory : Standing → Asked → Content → Type 0
+MayLackMemory s asked content = LacksMemoryIf s (option_and_then command_of asked.name) asked.arguments content
+
+-- what may be decided: what the table says, or a refusal for want of memory where that is allowed
+abbrev pub Decides : Standing → Asked → Content → Decided → Type 0
+Decides s asked content d = (d ≡ decided s asked content) ⊎ (MayLackMemory s asked content × (d ≡ keeps s (Refused OutOfMemory)))

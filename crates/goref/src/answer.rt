@@ -1,0 +1,101 @@
+ghost use Rattle.std.specs.Prelude.{◌≡◌, ◌++◌, codes};
+ghost use Rattle.go_board.specs.Device.{Adds, Sent, failures_after, place};
+ghost use Rattle.goref.specs.Answers.{id_text, refusal_text, fact_text, decision_text};
+
+use crate::command::listing;
+use crate::decision::{Decision, Fact, Refusal};
+use crate::session::Session;
+use go_board::{Pen, Sink, WriteFault};
+use itoa::Buffer;
+use std::alloc::Allocator;
+
+/// Writes the answer with this id by a decision over the session. On a fault what was written is a
+/// front of the answer.
+pub fn write_answer<A: Allocator + Copy, W: Sink>(session: &Session<A>, id: Option<u32>, decision: Decision, writer: &mut W) -> Result<(), WriteFault>
+    ensures sent { Sent result (W.taken writer.old) (W.taken writer.new) (decision_text id decision session.now) }
+    ensures failures { W.failures writer.new ≡ failures_after result (W.failures writer.old) }
+{
+    let mut pen = Pen::new();
+    put_answer(session, id, decision, &mut pen, writer);
+    pen.finish()
+}
+
+fn put_answer<A: Allocator + Copy, W: Sink>(session: &Session<A>, id: Option<u32>, decision: Decision, pen: &mut Pen, writer: &mut W)
+    ensures { Adds (place pen.old.has_failed (W.taken writer.old) (W.failures writer.old))
+        (place pen.new.has_failed (W.taken writer.new) (W.failures writer.new)) (decision_text id decision session.now) }
+{
+    match decision {
+        Decision::Done => put_empty(id, pen, writer),
+        Decision::Ends => put_empty(id, pen, writer),
+        Decision::Tells(fact) => put_told(session, id, fact, pen, writer),
+        Decision::Refused(why) => put_refused(id, why, pen, writer),
+    }
+}
+
+fn put_empty<W: Sink>(id: Option<u32>, pen: &mut Pen, writer: &mut W)
+    ensures { Adds (place pen.old.has_failed (W.taken writer.old) (W.failures writer.old))
+        (place pen.new.has_failed (W.taken writer.new) (W.failures writer.new)) (codes "=" ++ (id_text id ++ codes "\n\n")) }
+{
+    pen.put(b"=", writer);
+    put_id(id, pen, writer);
+    pen.put(b"\n\n", writer);
+}
+
+fn put_told<A: Allocator + Copy, W: Sink>(session: &Session<A>, id: Option<u32>, fact: Fact, pen: &mut Pen, writer: &mut W)
+    ensures { Adds (place pen.old.has_failed (W.taken writer.old) (W.failures writer.old))
+        (place pen.new.has_failed (W.taken writer.new) (W.failures writer.new)) (codes "=" ++ (id_text id ++ (codes " " ++ (fact_text fact session.now ++ codes "\n\n")))) }
+{
+    pen.put(b"=", writer);
+    put_id(id, pen, writer);
+    pen.put(b" ", writer);
+    put_fact(session, fact, pen, writer);
+    pen.put(b"\n\n", writer);
+}
+
+fn put_refused<W: Sink>(id: Option<u32>, why: Refusal, pen: &mut Pen, writer: &mut W)
+    ensures { Adds (place pen.old.has_failed (W.taken writer.old) (W.failures writer.old))
+        (place pen.new.has_failed (W.taken writer.new) (W.failures writer.new)) (codes "?" ++ (id_text id ++ (codes " " ++ (refusal_text why ++ codes "\n\n")))) }
+{
+    pen.put(b"?", writer);
+    put_id(id, pen, writer);
+    pen.put(b" ", writer);
+    pen.put(refusal_word(why), writer);
+    pen.put(b"\n\n", writer);
+}
+
+fn put_id<W: Sink>(id: Option<u32>, pen: &mut Pen, writer: &mut W)
+    ensures { Adds (place pen.old.has_failed (W.taken writer.old) (W.failures writer.old))
+        (place pen.new.has_failed (W.taken writer.new) (W.failures writer.new)) (id_text id) }
+{
+    match id {
+        Some(id) => pen.put(Buffer::new().format(id).as_bytes(), writer),
+        None => {}
+    }
+}
+
+fn put_fact<A: Allocator + Copy, W: Sink>(session: &Session<A>, fact: Fact, pen: &mut Pen, writer: &mut W)
+    ensures { Adds (place pen.old.has_failed (W.taken writer.old) (W.failures writer.old))
+        (place pen.new.has_failed (W.taken writer.new) (W.failures writer.new)) (fact_text fact session.now) }
+{
+    match fact {
+        Fact::Protocol => pen.put(b"2", writer),
+        Fact::Program => pen.put(b"goref", writer),
+        Fact::Release => pen.put(b"1.0", writer),
+        Fact::Commands => pen.put(listing(), writer),
+        Fact::Known(true) => pen.put(b"true", writer),
+        Fact::Known(false) => pen.put(b"false", writer),
+    }
+}
+
+/// What the answer says to a refused command.
+fn refusal_word(why: Refusal) -> &'static [u8]
+    ensures { result.now ≡ refusal_text why }
+{
+    match why {
+        Refusal::LineTooLong => b"line too long",
+        Refusal::UnknownCommand => b"unknown command",
+        Refusal::SyntaxError => b"syntax error",
+        Refusal::UnacceptableSize => b"unacceptable size",
+        Refusal::OutOfMemory => b"out of memory",
+    }
+}

@@ -1,0 +1,57 @@
+ghost use Rattle.std.specs.Prelude.{◌≡◌, ◌∷◌};
+ghost use Rattle.std.specs.List.{join_with_byte};
+ghost use Rattle.goref.specs.Commands.{command_of, command_names};
+
+/// What a line can ask for.
+#[derive(Clone, Copy, Debug, PartialEq, Eq)]
+pub enum Command {
+    ProtocolVersion,
+    Name,
+    Version,
+    KnownCommand,
+    ListCommands,
+    Quit,
+    Boardsize,
+    ClearBoard,
+}
+
+/// The names of all commands, each on a line of its own.
+const LISTING: &[u8] = b"protocol_version\nname\nversion\nknown_command\nlist_commands\nquit\nboardsize\nclear_board";
+
+/// The command of this name.
+pub fn command_named(name: &[u8]) -> Option<Command>
+    ensures { result ≡ command_of name.now }
+{
+    if name == b"protocol_version".as_slice() {
+        return Some(Command::ProtocolVersion);
+    }
+    if name == b"name".as_slice() {
+        return Some(Command::Name);
+    }
+    if name == b"version".as_slice() {
+        return Some(Command::Version);
+    }
+    if name == b"known_command".as_slice() {
+        return Some(Command::KnownCommand);
+    }
+    if name == b"list_commands".as_slice() {
+        return Some(Command::ListCommands);
+    }
+    if name == b"quit".as_slice() {
+        return Some(Command::Quit);
+    }
+    if name == b"boardsize".as_slice() {
+        return Some(Command::Boardsize);
+    }
+    if name == b"clear_board".as_slice() {
+        return Some(Command::ClearBoard);
+    }
+    None
+}
+
+/// The names of all commands, each on a line of its own.
+pub fn listing() -> &'static [u8]
+    ensures { result.now ≡ join_with_byte 10 command_names }
+{
+    LISTING
+}

@@ -1,0 +1,37 @@
+/// What is decided on a command. Its text is written afterwards.
+#[derive(Clone, Copy, Debug, PartialEq, Eq)]
+pub enum Decision {
+    /// Done, with nothing to tell.
+    Done,
+    /// Done, and the session ends.
+    Ends,
+    /// Done, with something to tell.
+    Tells(Fact),
+    /// Refused: nothing changes.
+    Refused(Refusal),
+}
+
+/// What an answer tells.
+#[derive(Clone, Copy, Debug, PartialEq, Eq)]
+pub enum Fact {
+    /// The version of the protocol.
+    Protocol,
+    /// The name of the program.
+    Program,
+    /// The version of the program.
+    Release,
+    /// The names of all commands.
+    Commands,
+    /// Whether a name is that of a command.
+    Known(bool),
+}
+
+/// Why a command is refused.
+#[derive(Clone, Copy, Debug, PartialEq, Eq)]
+pub enum Refusal {
+    LineTooLong,
+    UnknownCommand,
+    SyntaxError,
+    UnacceptableSize,
+    OutOfMemory,
+}

@@ -1,0 +1,169 @@
+ghost use Rattle.std.specs.Prelude.{◌≡◌, ◌&&◌, if◌then◌else◌, nat_le, option_map, slice_get, pos, Some, None};
+ghost use Rattle.std.specs.Option.{option_and_then};
+ghost use Rattle.go_board.specs.Sizes.{lines_of};
+ghost use Rattle.go_board.specs.declared.size.TheConstants.{MAX_LINES};
+ghost use Rattle.goref.specs.Games.{Standing, begun};
+ghost use Rattle.goref.specs.Words.{int_of};
+ghost use Rattle.goref.specs.Contents.{content_of};
+ghost use Rattle.goref.specs.Commands.{command_of};
+ghost use Rattle.go_board.specs.Device.{failures_after};
+ghost use Rattle.goref.specs.Answers.{DecidesLine, is_end, line_id};
+ghost use Rattle.goref.specs.Replies.{Answered, flow_of};
+ghost use Rattle.goref.specs.Decisions.{Decides, decided_known, decided_size};
+
+use crate::answer::write_answer;
+use crate::command::{Command, command_named};
+use crate::decision::{Decision, Fact, Refusal};
+use crate::flow::Flow;
+use crate::game::Game;
+use crate::line::Line;
+use crate::request::{Request, id_of_cut};
+use crate::shelf::Fetched;
+use crate::words::read_int;
+use go_board::{Sink, Size, WriteFault};
+use std::alloc::Allocator;
+use std::marker::Model;
+
+/// A game that is played by lines.
+#[derive(Drop)]
+pub struct Session<A: Allocator + Copy> {
+    game: Game<A>,
+}
+
+impl<A: Allocator + Copy> Model for Session<A> {
+    ghost Value = { Standing };
+
+    ghost view = { λ s. s.game };
+}
+
+impl<A: Allocator + Copy> Session<A> {
+    /// A session over an empty board of this size.
+    pub fn new(alloc: A, size: Size) -> Session<A>
+        ensures { result ≡ begun (lines_of size) (pos 0) }
+    {
+        Session { game: Game::new(alloc, size) }
+    }
+
+    /// Answers a line. On a fault what was written is a front of the answer, and the session stands
+    /// as after the command.
+    pub fn answer<W: Sink>(&mut self, line: &Line, fetched: Fetched<A>, writer: &mut W) -> Result<Flow, WriteFault>
+        ensures answered { Answered self.old self.new line.now (content_of fetched) result (W.taken writer.old) (W.taken writer.new) }
+        ensures failures { W.failures writer.new ≡ failures_after result (W.failures writer.old) }
+    {
+        if line.text().is_empty() {
+            return Ok(Flow::More);
+        }
+        let decision = self.decide_line(line, fetched);
+        match write_answer(self, id_of(line), decision, writer) {
+            Ok(()) => Ok(flow_after(decision)),
+            Err(WriteFault) => Err(WriteFault),
+        }
+    }
+
+    /// Does what a line with words asks.
+    fn decide_line(&mut self, line: &Line, fetched: Fetched<A>) -> Decision
+        ensures { DecidesLine self.old line.now (content_of fetched) (record { decision = result; standing = self.new }) }
+    {
+        if line.is_long() {
+            return Decision::Refused(Refusal::LineTooLong);
+        }
+        let request = Request::of(line.text());
+        self.decide(&request, fetched)
+    }
+
+    /// Does what is asked.
+    fn decide(&mut self, request: &Request, fetched: Fetched<A>) -> Decision
+        ensures { Decides self.old request.now (content_of fetched) (record { decision = result; standing = self.new }) }
+    {
+        match command_asked(request) {
+            None => Decision::Refused(Refusal::UnknownCommand),
+            Some(Command::ProtocolVersion) => Decision::Tells(Fact::Protocol),
+            Some(Command::Name) => Decision::Tells(Fact::Program),
+            Some(Command::Version) => Decision::Tells(Fact::Release),
+            Some(Command::KnownCommand) => decide_known(request),
+            Some(Command::ListCommands) => Decision::Tells(Fact::Commands),
+            Some(Command::Quit) => Decision::Ends,
+            Some(Command::Boardsize) => self.decide_size(request),
+            Some(Command::ClearBoard) => self.decide_clear(),
+        }
+    }
+
+    fn decide_size(&mut self, request: &Request) -> Decision
+        ensures { record { decision = result; standing = self.new } ≡ decided_size self.old (option_and_then int_of (slice_get request.now.arguments 0)) }
+    {
+        match int_argument(request, 0) {
+            None => Decision::Refused(Refusal::SyntaxError),
+            Some(lines) => match size_of(lines) {
+                None => Decision::Refused(Refusal::UnacceptableSize),
+                Some(size) => {
+                    self.game.resize(size);
+                    Decision::Done
+                }
+            },
+        }
+    }
+
+    fn decide_clear(&mut self) -> Decision
+        ensures decision { result ≡ Decision.Done }
+        ensures standing { self.new ≡ begun self.old.lines self.old.komi }
+    {
+        self.game.clear();
+        Decision::Done
+    }
+}
+
+/// The id of a line, also of one that is too long.
+fn id_of(line: &Line) -> Option<u32>
+    ensures { result ≡ line_id line.now }
+{
+    if line.is_long() {
+        return id_of_cut(line.text());
+    }
+    Request::of(line.text()).id()
+}
+
+fn flow_after(decision: Decision) -> Flow
+    ensures { result ≡ flow_of (is_end decision) }
+{
+    match decision {
+        Decision::Ends => Flow::Quit,
+        _ => Flow::More,
+    }
+}
+
+fn command_asked(request: &Request) -> Option<Command>
+    ensures { result ≡ option_and_then command_of request.now.name }
+{
+    match request.name() {
+        Some(name) => command_named(name),
+        None => None,
+    }
+}
+
+fn decide_known(request: &Request) -> Decision
+    ensures { (s : Standing) → record { decision = result; standing = s } ≡ decided_known s (slice_get request.now.arguments 0) }
+{
+    match request.argument(0) {
+        None => Decision::Refused(Refusal::SyntaxError),
+        Some(word) => Decision::Tells(Fact::Known(command_named(word).is_some())),
+    }
+}
+
+fn int_argument(request: &Request, place: u16) -> Option<u32>
+    ensures { result ≡ option_and_then int_of (slice_get request.now.arguments place) }
+{
+    match request.argument(place) {
+        Some(word) => read_int(word),
+        None => None,
+    }
+}
+
+/// The size of so many lines.
+fn size_of(lines: u32) -> Option<Size>
+    ensures { option_map lines_of result ≡ (if nat_le 1 lines && nat_le lines MAX_LINES then Some lines else None) }
+{
+    match u8::try_from(lines) {
+        Ok(lines) => Size::new(lines),
+        Err(_) => None,
+    }
+}

@@ -1,0 +1,29 @@
+ghost use Rattle.std.specs.Prelude.{◌≡◌, ◌∷◌, [], List, Option};
+ghost use Rattle.goref.specs.Contents.{Pair, content_of, then_pairs};
+
+use std::alloc::Allocator;
+
+/// What was fetched for a line.
+#[derive(Drop)]
+pub enum Fetched<A: Allocator> {
+    /// No file was wanted.
+    None,
+    /// What the file holds.
+    Bytes(Vec<u8, A>),
+    /// There is no such file, or it cannot be read.
+    Missing,
+    /// The file has more bytes than a record may have.
+    TooLarge,
+    /// There was no memory for what the file holds.
+    Memory,
+}
+
+/// Where files are fetched from.
+pub trait Shelf<A: Allocator> {
+    /// The names asked for so far with what was given for each, where the shelf tells them.
+    ghost given: { Self → Option (List Pair) };
+
+    /// Fetches the file of this name.
+    fn fetch(&mut self, name: &[u8]) -> Fetched<A>
+        ensures { given self.new ≡ then_pairs (given self.old) ((name.now, content_of result) ∷ []) };
+}
