@@ -1,4 +1,5 @@
 pub mod Standings
 pub mod Playing
 pub mod Prisoners
+pub mod Whole
 pub mod Held

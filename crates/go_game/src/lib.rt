@@ -1,6 +1,8 @@
 //! A game of Go: its start and its moves, what is legal, prisoners, and exact undo.
 #![tactic(auto)]
 
+pub mod laws;
+
 mod errors;
 mod game;
 mod prisoners;

@@ -1,0 +1,38 @@
+-- Everything that a game holds, as a function of what it stands for.
+use Rattle.std.specs.Prelude.{◌+◌, ℕ, Bool, List, [], ◌∷◌, Option, Some, None, if◌then◌else◌}
+use Rattle.std.specs.Cmp.Lexicographic.{pointwise}
+use Rattle.go_board.specs.declared.colour.Colour.{Colour}
+use Rattle.go_board.specs.declared.colour.Colour.TheVariants.{Black, White}
+use Rattle.go_board.specs.Colours.{Colouring}
+use Rattle.go_board.specs.Chains.{Chain, chains}
+use Rattle.go_board.specs.Reaching.{is_same}
+use Rattle.go_game.specs.Standings.{Standing, board_of, mover_of, positions_of}
+use Rattle.go_game.specs.Playing.{prisoners_of}
+
+abbrev pub same_colours : Colouring → Colouring → Bool
+same_colours g h = pointwise is_same g h
+
+-- the place of the first such colouring, counted from k
+abbrev pub first_at : ℕ → List Colouring → Colouring → Option ℕ
+first_at k [] g = None
+first_at k (h ∷ hs) g = if same_colours h g then Some k else first_at (k + 1) hs g
+
+-- the colouring, its chains with their liberties, the prisoners, the least number of moves after
+-- which each colouring stood, the mover, and the standing itself
+pub record WholeState : Type 0 where
+  pub board : Colouring
+  pub chains : List Chain
+  pub prisoners : Colour → ℕ
+  pub history : Colouring → Option ℕ
+  pub mover : Colour
+  pub standing : Standing
+
+abbrev pub whole_of : Standing → WholeState
+whole_of s = record {
+  board = board_of s;
+  chains = chains s.lines (board_of s);
+  prisoners = prisoners_of s;
+  history = first_at 0 (positions_of s);
+  mover = mover_of s;
+  standing = s;
+}
