@@ -1,0 +1,179 @@
+use failing::Failing;
+use go_board::{Colour, Grid, Move, Point, Size, Taken, Vertex, read_vertex};
+use go_game::{Game, PlayError, SetupError};
+use std::alloc::Allocator;
+use std::process::Abort;
+
+fn size_of(rt: &impl Abort, lines: u8) -> Size {
+    Size::new(lines).expect(rt, "a size")
+}
+
+fn turn(rt: &impl Abort, size: Size, colour: Colour, word: &[u8]) -> Move {
+    let vertex = read_vertex(word, size).expect(rt, "a vertex");
+    Move { colour, vertex }
+}
+
+fn play<A: Allocator + Copy>(rt: &impl Abort, game: &mut Game<A>, colour: Colour, word: &[u8]) -> Result<Taken, PlayError> {
+    let made = turn(rt, game.size(), colour, word);
+    game.play(made)
+}
+
+/// The plays up to the capture of a ko on four lines.
+fn play_ko<A: Allocator + Copy>(rt: &impl Abort, game: &mut Game<A>) {
+    for word in [b"B3".as_slice(), b"A2".as_slice(), b"B1".as_slice()] {
+        assert!(rt; play(rt, game, Colour::Black, word).is_ok());
+    }
+    for word in [b"C3".as_slice(), b"C1".as_slice(), b"D2".as_slice(), b"B2".as_slice()] {
+        assert!(rt; play(rt, game, Colour::White, word).is_ok());
+    }
+    assert!(rt; play(rt, game, Colour::Black, b"C2") == Ok(Taken { theirs: 1, own: 0 }));
+}
+
+#[test]
+fn nothing_to_undo(rt: HostRuntime) {
+    let mut game = Game::new(rt.alloc(), size_of(&rt, 19));
+    assert!(rt; game.undo().is_none());
+    assert!(rt; game.mover() == Colour::Black);
+    assert_eq!(rt; game.move_count(), 0);
+}
+
+#[test]
+fn refusals_in_order(rt: HostRuntime) {
+    let mut game = Game::new(rt.alloc(), size_of(&rt, 9));
+    let off = Move {
+        colour: Colour::Black,
+        vertex: Vertex::At(Point { col: 9, row: 0 }),
+    };
+    assert!(rt; game.play(off) == Err(PlayError::OffBoard));
+    assert!(rt; play(&rt, &mut game, Colour::Black, b"e5").is_ok());
+    assert!(rt; play(&rt, &mut game, Colour::White, b"e5") == Err(PlayError::Occupied));
+    assert_eq!(rt; game.move_count(), 1);
+    assert!(rt; game.mover() == Colour::White);
+}
+
+#[test]
+fn repetition_refused(rt: HostRuntime) {
+    let mut game = Game::new(rt.alloc(), size_of(&rt, 2));
+    assert!(rt; play(&rt, &mut game, Colour::Black, b"A1").is_ok());
+    assert!(rt; play(&rt, &mut game, Colour::White, b"B1").is_ok());
+    assert!(rt; play(&rt, &mut game, Colour::White, b"A2") == Ok(Taken { theirs: 1, own: 0 }));
+    assert!(rt; play(&rt, &mut game, Colour::Black, b"A1") == Err(PlayError::Repeats(3)));
+    assert_eq!(rt; game.prisoners(Colour::Black), 1);
+    assert_eq!(rt; game.prisoners(Colour::White), 0);
+}
+
+#[test]
+fn suicide_of_several(rt: HostRuntime) {
+    let mut game = Game::new(rt.alloc(), size_of(&rt, 3));
+    assert!(rt; play(&rt, &mut game, Colour::Black, b"A1").is_ok());
+    for word in [b"A2".as_slice(), b"B2".as_slice(), b"C1".as_slice()] {
+        assert!(rt; play(&rt, &mut game, Colour::White, word).is_ok());
+    }
+    assert!(rt; play(&rt, &mut game, Colour::Black, b"B1") == Ok(Taken { theirs: 0, own: 2 }));
+    assert_eq!(rt; game.prisoners(Colour::Black), 2);
+    assert!(rt; game.mover() == Colour::White);
+    assert!(rt; game.undo() == Some(turn(&rt, game.size(), Colour::Black, b"B1")));
+    assert_eq!(rt; game.prisoners(Colour::Black), 0);
+    assert_eq!(rt; game.move_count(), 4);
+    assert!(rt; game.colour_at(Point::numbered(game.size(), 0)) == Some(Colour::Black));
+}
+
+#[test]
+fn ko(rt: HostRuntime) {
+    let mut game = Game::new(rt.alloc(), size_of(&rt, 4));
+    play_ko(&rt, &mut game);
+    assert!(rt; play(&rt, &mut game, Colour::White, b"B2") == Err(PlayError::Repeats(7)));
+    assert!(rt; game.undo() == Some(turn(&rt, game.size(), Colour::Black, b"C2")));
+    assert!(rt; play(&rt, &mut game, Colour::Black, b"C2") == Ok(Taken { theirs: 1, own: 0 }));
+}
+
+#[test]
+fn ko_after_passes(rt: HostRuntime) {
+    let mut game = Game::new(rt.alloc(), size_of(&rt, 4));
+    play_ko(&rt, &mut game);
+    assert!(rt; play(&rt, &mut game, Colour::White, b"pass") == Ok(Taken { theirs: 0, own: 0 }));
+    assert!(rt; play(&rt, &mut game, Colour::Black, b"pass").is_ok());
+    assert!(rt; play(&rt, &mut game, Colour::White, b"B2") == Err(PlayError::Repeats(7)));
+}
+
+#[test]
+fn suicide_of_one_repeats(rt: HostRuntime) {
+    let mut game = Game::new(rt.alloc(), size_of(&rt, 1));
+    assert!(rt; play(&rt, &mut game, Colour::Black, b"A1") == Err(PlayError::Repeats(0)));
+    assert!(rt; play(&rt, &mut game, Colour::Black, b"pass").is_ok());
+    assert!(rt; play(&rt, &mut game, Colour::White, b"pass").is_ok());
+    assert!(rt; play(&rt, &mut game, Colour::Black, b"A1") == Err(PlayError::Repeats(0)));
+}
+
+#[test]
+fn komi_is_no_move(rt: HostRuntime) {
+    let mut game = Game::new(rt.alloc(), size_of(&rt, 9));
+    game.set_komi(300);
+    assert!(rt; play(&rt, &mut game, Colour::Black, b"a1").is_ok());
+    game.set_komi(400);
+    assert!(rt; game.undo().is_some());
+    assert!(rt; game.komi() == 400);
+    game.clear();
+    assert!(rt; game.komi() == 400);
+}
+
+#[test]
+fn starts(rt: HostRuntime) {
+    let mut full = Grid::new(size_of(&rt, 2));
+    for number in 0..4u16 {
+        let at = Point::numbered(full.size(), number);
+        full.set(at, Some(Colour::Black));
+    }
+    let refused = Game::start_from(rt.alloc(), &full, Colour::Black);
+    assert!(rt; refused.err() == Some(SetupError::NoLiberty(Point { col: 0, row: 0 })));
+
+    let mut grid = Grid::new(size_of(&rt, 9));
+    grid.set(Point { col: 0, row: 8 }, Some(Colour::Black));
+    grid.set(Point { col: 0, row: 7 }, Some(Colour::White));
+    grid.set(Point { col: 1, row: 8 }, Some(Colour::White));
+    let refused = Game::start_from(rt.alloc(), &grid, Colour::Black);
+    assert!(rt; refused.err() == Some(SetupError::NoLiberty(Point { col: 0, row: 8 })));
+
+    grid.set(Point { col: 0, row: 8 }, None);
+    let mut game = Game::start_from(rt.alloc(), &grid, Colour::Black).expect(&rt, "a start");
+    assert!(rt; game.mover() == Colour::Black && game.start_mover() == Colour::Black);
+    assert!(rt; game.undo().is_none());
+}
+
+/// Passes and plays, each sent again where it was refused for want of memory; how many were.
+fn script<A: Allocator + Copy>(rt: &impl Abort, game: &mut Game<A>) -> u32 {
+    let mut refused = 0u32;
+    for number in 0..9u16 {
+        let before = game.move_count();
+        let vertex = Vertex::At(Point::numbered(game.size(), number * 2));
+        let made = Move {
+            colour: Colour::Black,
+            vertex,
+        };
+        if game.play(made) == Err(PlayError::Memory) {
+            refused = refused.wrapping_add(1);
+            assert!(rt; game.move_count() == before);
+            assert!(rt; game.play(made).is_ok());
+        }
+        assert!(rt; game.play(made) == Err(PlayError::Occupied));
+    }
+    assert!(rt; game.move_count() == 9);
+    refused
+}
+
+#[test]
+fn each_request_for_memory_refused(rt: HostRuntime) {
+    let mut met = 0u32;
+    for number in 1..40u64 {
+        let failing = Failing::new(rt.alloc(), number);
+        let mut game = Game::new(&failing, size_of(&rt, 9));
+        let refused = script(&rt, &mut game);
+        if failing.waits() {
+            assert!(rt; refused == 0);
+            break;
+        }
+        assert!(rt; refused == 1);
+        met = met.wrapping_add(1);
+    }
+    assert!(rt; met > 0 && met < 30, "{met} requests");
+}
