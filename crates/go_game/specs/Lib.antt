@@ -1,5 +1,6 @@
 pub mod Standings
 pub mod Playing
 pub mod Prisoners
+pub mod Scores
 pub mod Whole
 pub mod Held

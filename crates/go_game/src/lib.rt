@@ -6,7 +6,9 @@ pub mod laws;
 mod errors;
 mod game;
 mod prisoners;
+mod score;
 mod step;
 
 pub use errors::{PlayError, SetupError};
 pub use game::{Game, MAX_KOMI};
+pub use score::{hundredths_text, score_text};

@@ -44,7 +44,12 @@ fn vertices(rt: HostRuntime) {
     assert!(rt; read_vertex(b"a5", nine) == corner);
     assert!(rt; read_vertex(b"j9", nine) == Ok(Vertex::At(Point { col: 8, row: 8 })));
     assert!(rt; read_vertex(b"pAsS", nine) == Ok(Vertex::Pass));
-    for word in [b"k1".as_slice(), b"a25".as_slice(), b"t19".as_slice(), b"Z25".as_slice()] {
+    for word in [
+        b"k1".as_slice(),
+        b"a25".as_slice(),
+        b"t19".as_slice(),
+        b"Z25".as_slice(),
+    ] {
         assert!(rt; read_vertex(word, nine) == Err(VertexError::OffBoard));
     }
 }
@@ -52,13 +57,28 @@ fn vertices(rt: HostRuntime) {
 #[test]
 fn malformed_vertices(rt: HostRuntime) {
     let nine = size_of(&rt, 9);
-    for word in [b"".as_slice(), b"a".as_slice(), b"i5".as_slice(), b"I5".as_slice()] {
+    for word in [
+        b"".as_slice(),
+        b"a".as_slice(),
+        b"i5".as_slice(),
+        b"I5".as_slice(),
+    ] {
         assert!(rt; read_vertex(word, nine) == Err(VertexError::Malformed));
     }
-    for word in [b"a26".as_slice(), b"a0".as_slice(), b"a00".as_slice(), b"5b".as_slice()] {
+    for word in [
+        b"a26".as_slice(),
+        b"a0".as_slice(),
+        b"a00".as_slice(),
+        b"5b".as_slice(),
+    ] {
         assert!(rt; read_vertex(word, nine) == Err(VertexError::Malformed));
     }
-    for word in [b"a123".as_slice(), b"a5b".as_slice(), b"a-1".as_slice(), b"passs".as_slice()] {
+    for word in [
+        b"a123".as_slice(),
+        b"a5b".as_slice(),
+        b"a-1".as_slice(),
+        b"passs".as_slice(),
+    ] {
         assert!(rt; read_vertex(word, nine) == Err(VertexError::Malformed));
     }
 }
@@ -132,7 +152,12 @@ fn area_and_dead_stones(rt: HostRuntime) {
     assert!(rt; area.black == 81 && area.white == 0);
     assert!(rt; first_dead(&grid).is_none());
     let mut full = Grid::new(size_of(&rt, 2));
-    for word in [b"A1".as_slice(), b"B1".as_slice(), b"A2".as_slice(), b"B2".as_slice()] {
+    for word in [
+        b"A1".as_slice(),
+        b"B1".as_slice(),
+        b"A2".as_slice(),
+        b"B2".as_slice(),
+    ] {
         let at = point(&rt, full.size(), word);
         full.set(at, Some(Colour::Black));
     }

@@ -13,7 +13,12 @@ fn turn(rt: &impl Abort, size: Size, colour: Colour, word: &[u8]) -> Move {
     Move { colour, vertex }
 }
 
-fn play<A: Allocator + Copy>(rt: &impl Abort, game: &mut Game<A>, colour: Colour, word: &[u8]) -> Result<Taken, PlayError> {
+fn play<A: Allocator + Copy>(
+    rt: &impl Abort,
+    game: &mut Game<A>,
+    colour: Colour,
+    word: &[u8],
+) -> Result<Taken, PlayError> {
     let made = turn(rt, game.size(), colour, word);
     game.play(made)
 }
@@ -23,7 +28,12 @@ fn play_ko<A: Allocator + Copy>(rt: &impl Abort, game: &mut Game<A>) {
     for word in [b"B3".as_slice(), b"A2".as_slice(), b"B1".as_slice()] {
         assert!(rt; play(rt, game, Colour::Black, word).is_ok());
     }
-    for word in [b"C3".as_slice(), b"C1".as_slice(), b"D2".as_slice(), b"B2".as_slice()] {
+    for word in [
+        b"C3".as_slice(),
+        b"C1".as_slice(),
+        b"D2".as_slice(),
+        b"B2".as_slice(),
+    ] {
         assert!(rt; play(rt, game, Colour::White, word).is_ok());
     }
     assert!(rt; play(rt, game, Colour::Black, b"C2") == Ok(Taken { theirs: 1, own: 0 }));
