@@ -77,3 +77,29 @@ all_done n g p colour items i M p_on all them done j adjacent same =
     let number : number_of n q ≡ j = number_of-point_at n j adjacent.1 in
     let low : found.0 < i = let within : found.0 < length items = found.1 in omega arith in
     subst M number (done found.0 q low found.2 (ap (colour_at g) number ∙ same))
+
+-- M holds of each of the first i neighbours
+abbrev pub HoldsOfEach : ℕ → List Point → ℕ → (ℕ → Type 0) → Type 0
+HoldsOfEach n items i M = (k : ℕ) (q : Point) → k < i → get_or items k q ≡ q → M (number_of n q)
+
+pub each_none : (n : ℕ) (items : List Point) (M : ℕ → Type 0) → HoldsOfEach n items 0 M
+each_none n items M k q below at = absurd (omega arith)
+
+pub each_more : (n : ℕ) (items : List Point) (i : ℕ) (M : ℕ → Type 0) → i < length items → HoldsOfEach n items i M → M (number_of n (get_or items i origin)) → HoldsOfEach n items (i + 1) M
+each_more n items i M low done here k q below at = elim (cases_lt k i) [
+  | inl before ↦ done k q before at
+  | inr last ↦
+    let k_is : k ≡ i = omega arith in
+    let q_is : get_or items i origin ≡ q = get_or_default items i origin q low ∙ ap (λ m. get_or items m q) (sym k_is) ∙ at in
+    subst (λ (r : Point). M (number_of n r)) q_is here
+]
+
+-- when all neighbours were looked at, M holds of each adjacent point
+pub each_done : (n : ℕ) (p : Point) (items : List Point) (i : ℕ) (M : ℕ → Type 0) → IsOn n p → length items ≤ i → AreNeighbours n p items → HoldsOfEach n items i M
+    → (j : ℕ) → IsAdjacent n (number_of n p) j → M j
+each_done n p items i M p_on all them done j adjacent =
+    let q : Point = point_at n j in
+    let beside : IsTrue (are_beside p q) = sym (ap (λ (r : Point). are_beside r q) (point_at-number_of n p p_on)) ∙ adjacent.2 in
+    let found = them.each q (IsOn-point_at n j adjacent.1) beside in
+    let low : found.0 < i = let within : found.0 < length items = found.1 in omega arith in
+    subst M (number_of-point_at n j adjacent.1) (done found.0 q low found.2)

@@ -2,9 +2,9 @@
 //! leaves, whose area a point is. Faster tables are compared with these.
 ghost use Rattle.std.specs.Prelude.{◌≡◌, ◌<◌, ◌*◌, ◌↔◌, ◌&&◌, ◌||◌, ℕ, Bool, Some, None, IsTrue, IfSome, IfNone, if◌then◌else◌, not, slice_set, true, false, cond};
 ghost use Rattle.go_board.specs.Colours.{colour_at, other};
-ghost use Rattle.go_board.specs.Points.{IsOn, number_of};
-ghost use Rattle.go_board.specs.Reaching.{area, cleared, has_colour, is_dead, is_liberty_of, joined, moved, vanished};
-ghost use Rattle.go_board.specs.Flood.{AreReaching};
+ghost use Rattle.go_board.specs.Points.{IsOn, is_adjacent, number_of};
+ghost use Rattle.go_board.specs.Reaching.{area, cleared, connects, has_colour, is_dead, is_liberty_of, joined, moved, vanished};
+ghost use Rattle.go_board.specs.Flood.{AreJoined, AreReaching};
 ghost use Rattle.go_board.specs.Clearing.{IsFirstDead, is_area_marked};
 
 use crate::colour::is_same;
@@ -116,6 +116,32 @@ pub fn same_chain(grid: &Grid, p: Point, q: Point) -> bool
     ensures { result ≡ joined grid.now.lines grid.now.colours (number_of grid.now.lines p) (number_of grid.now.lines q) }
 {
     joined_to(grid, p)[usize::from(q.index(grid.size()))]
+}
+
+/// Whether a point is a liberty of a stone's chain: it is empty and adjacent to a stone of it.
+pub fn is_liberty(grid: &Grid, p: Point, q: Point) -> bool
+    requires p_on { IsOn grid.now.lines p }
+    requires q_on { IsOn grid.now.lines q }
+    ensures { result ≡ is_liberty_of grid.now.lines grid.now.colours (number_of grid.now.lines p) (number_of grid.now.lines q) }
+{
+    is_same(grid.get(q), None) && is_beside_chain(grid, &joined_to(grid, p), p, q)
+}
+
+/// Whether a point is adjacent to one of the marked stones of p's chain.
+fn is_beside_chain(grid: &Grid, chain: &Marks, p: Point, q: Point) -> bool
+    requires p_on { IsOn grid.now.lines p }
+    requires q_on { IsOn grid.now.lines q }
+    requires chain { AreJoined grid.now.lines grid.now.colours (number_of grid.now.lines p) chain.now }
+    ensures { result ≡ connects grid.now.lines grid.now.colours (number_of grid.now.lines p) (λ r. is_adjacent grid.now.lines r (number_of grid.now.lines q)) }
+{
+    let size = grid.size();
+    let beside = neighbours(q, size);
+    for r in beside.as_slice() {
+        if chain[usize::from(r.index(size))] {
+            return true;
+        }
+    }
+    false
 }
 
 /// The first point in point order whose stone doesn't reach empty.
