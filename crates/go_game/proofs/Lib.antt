@@ -1,3 +1,4 @@
 pub mod Sound
 pub mod Played
 pub mod Taken
+pub mod Margins

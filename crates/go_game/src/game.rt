@@ -4,8 +4,8 @@ use crate::prisoners::Prisoners;
 use crate::step::Step;
 use crate::{PlayError, SetupError};
 use go_board::laws::vanished_at_most_all;
-use go_board::plain::{first_dead, place};
-use go_board::{Colour, Grid, Move, Point, Size, Taken, Vertex};
+use go_board::plain::{areas, first_dead, is_liberty, place, same_chain};
+use go_board::{Area, Colour, Grid, Move, Point, Size, Taken, Vertex};
 use std::alloc::{AllocError, Allocator};
 use std::marker::Model;
 
@@ -39,13 +39,14 @@ impl<A: Allocator + Copy> Game<A> {
     ghost use Rattle.go_board.specs.Colours.{colour_at, other};
     ghost use Rattle.go_board.specs.Points.{IsOn, number_of};
     ghost use Rattle.go_board.specs.Clearing.{IsFirstDead};
-    ghost use Rattle.go_board.specs.Reaching.{is_dead};
+    ghost use Rattle.go_board.specs.Reaching.{is_dead, is_liberty_of, joined};
     ghost use Rattle.go_board.specs.declared.colour.Colour.{Colour};
     ghost use Rattle.go_board.specs.declared.point.Point.{Point};
     ghost use Rattle.go_board.specs.declared.size.TheConstants.{MAX_POINTS};
     ghost use Rattle.go_game.specs.Held.{IsPlayed};
     ghost use Rattle.go_game.specs.Prisoners.{share_of};
     ghost use Rattle.go_game.specs.Standings.{IsEmptyStart, IsFirstAt, IsKomi, IsLegal, IsOccupied, IsOffBoard, IsSound, Repeats, board_of, mover_of, positions_of, with_move, without_last};
+    ghost use Rattle.go_game.specs.Scores.{area_of, margin_of};
     ghost use Rattle.go_game.specs.Playing.{prisoners_of, stones_taken};
 
     /// An empty board, Black to move, komi 0.
@@ -151,6 +152,42 @@ impl<A: Allocator + Copy> Game<A> {
         ensures { result ≡ colour_at (board_of self.now.standing) (number_of self.now.standing.lines p) }
     {
         self.present().get(p)
+    }
+
+    /// Whether two stones are in one chain.
+    pub fn same_chain(&self, p: Point, q: Point) -> bool
+        requires p_on { IsOn self.now.standing.lines p }
+        requires q_on { IsOn self.now.standing.lines q }
+        ensures { result ≡ joined self.now.standing.lines (board_of self.now.standing) (number_of self.now.standing.lines p) (number_of self.now.standing.lines q) }
+    {
+        same_chain(self.present(), p, q)
+    }
+
+    /// Whether a point is a liberty of a stone's chain.
+    pub fn is_liberty(&self, p: Point, q: Point) -> bool
+        requires p_on { IsOn self.now.standing.lines p }
+        requires q_on { IsOn self.now.standing.lines q }
+        ensures { result ≡ is_liberty_of self.now.standing.lines (board_of self.now.standing) (number_of self.now.standing.lines p) (number_of self.now.standing.lines q) }
+    {
+        is_liberty(self.present(), p, q)
+    }
+
+    /// How many points count for each colour.
+    pub fn area(&self) -> Area
+        ensures black { result.black ≡ area_of self.now.standing Colour.Black }
+        ensures white { result.white ≡ area_of self.now.standing Colour.White }
+    {
+        areas(self.present())
+    }
+
+    /// By how many hundredths of a point Black is ahead, komi counted.
+    pub fn margin(&self) -> i64
+        ensures { result ≡ margin_of self.now.standing }
+    {
+        let area = self.area();
+        let black = i64::from(area.black) * 100;
+        let white = i64::from(area.white) * 100;
+        black - white - self.komi
     }
 
     /// The colour that is to move: the other than the last mover's, or the first mover.
