@@ -1,0 +1,64 @@
+//! `goref`: the words, the standard streams and the exit status of the program.
+#![tactic(auto)]
+
+ghost use Rattle.std.specs.Prelude.{◌≡◌};
+ghost use Rattle.clap.specs.Values.{kind_of};
+ghost use Rattle.goref_program.specs.Status.{words_status};
+
+use goref_words::{Task, task_of};
+use std::process::ExitCode;
+use goref_streams::{Input, Output};
+
+/// The exit status where the words are refused.
+const REFUSED: u8 = 2;
+
+/// The exit status where a task meets a fault of its streams.
+const FAULT: u8 = 3;
+
+fn main(rt: HostRuntime) -> ExitCode {
+    ExitCode::from(status(&rt))
+}
+
+/// Reads the program's words, does what they ask, and gives the exit status.
+fn status(rt: &HostRuntime) -> u8 {
+    let words: Vec<String> = match all_words(rt) {
+        Some(words) => words,
+        None => return unreadable(rt),
+    };
+    match words.iter().map(|word| word.as_str()).collect(rt.alloc()) {
+        Ok(views) => obeyed(rt, &views),
+        Err(_) => unreadable(rt),
+    }
+}
+
+/// The program's words, where each is a text.
+fn all_words(rt: &HostRuntime) -> Option<Vec<String>> {
+    match std::env::args(rt) {
+        Ok(words) => words.collect(rt.alloc()).ok(),
+        Err(_) => None,
+    }
+}
+
+/// Does what the words ask, and gives the exit status.
+fn obeyed(rt: &HostRuntime, words: &Vec<&str>) -> u8 {
+    match task_of(rt.alloc(), words.as_slice()) {
+        Ok(Task::Gtp(_size)) => 0,
+        Err(error) => told(rt, &error),
+    }
+}
+
+/// Tells why no task came of the words, or the help that they asked for.
+fn told(rt: &HostRuntime, error: &clap::Error) -> u8
+    ensures { result ≡ words_status (kind_of error.now) }
+{
+    let _ = error.print(rt);
+    if error.use_stderr() { REFUSED } else { 0 }
+}
+
+fn unreadable(rt: &HostRuntime) -> u8 {
+    let _ = eprintln!(rt; "goref: the words cannot be read");
+    REFUSED
+}
+
+#[cfg(test)]
+mod tests;

@@ -1,0 +1,23 @@
+-- What the program's streams come to: the bytes that are left of an input, and those given to an output.
+use Rattle.std.specs.Prelude.{ℕ, ◌-◌, ◌==◌, if◌then◌else◌, List, Option}
+use Rattle.std.specs.Io.KnownBytes.{append_known}
+
+-- an input: the bytes that its stream has left, where it tells them, and the counts of reads and of failures
+pub record Reading : Type 0 where
+  pub left : Option (List ℕ)
+  pub pulls : ℕ
+  pub failures : ℕ
+
+-- an output: the bytes that its stream holds, where it tells them, those kept back, and the count of failures
+pub record Writing : Type 0 where
+  pub held : Option (List ℕ)
+  pub kept : List ℕ
+  pub failures : ℕ
+
+-- all bytes that an output was given
+abbrev pub given_to : Writing → Option (List ℕ)
+given_to writing = append_known writing.held writing.kept
+
+-- the most bytes that a put takes, of an output that keeps so many and at most the limit: a full one is emptied first
+abbrev pub room : ℕ → ℕ → ℕ
+room limit kept = if kept == limit then limit else limit - kept

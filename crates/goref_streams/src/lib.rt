@@ -1,0 +1,146 @@
+//! The streams of the program as devices that count, with the output held back until it is flushed.
+#![tactic(auto)]
+
+ghost use Rattle.std.specs.Prelude.{◌≡◌, ◌≤◌, ◌<◌, ◌+◌, IfOk, None, OnErr, OnOk, [], length, min};
+ghost use Rattle.std.specs.Prelude.{take};
+ghost use Rattle.std.specs.Io.KnownBytes.{Appends, Consumes, IsAtEnd};
+ghost use Rattle.go_board.specs.Device.{failures_after, put_failures_after};
+ghost use Rattle.goref_streams.specs.Streams.{given_to, room};
+
+use arrayvec::ArrayVec;
+use go_board::{Failed, Meter, Sink, Source};
+use std::io::{self, Read, Write};
+use std::marker::Model;
+
+/// The most bytes that an output keeps back.
+const KEPT: usize = 4096;
+
+/// A stream that is read, as a device that doesn't tell its bytes.
+#[derive(Drop)]
+pub struct Input<R: Read> {
+    stream: R,
+    pulls: Meter,
+    failures: Meter,
+}
+
+impl<R: Read> Model for Input<R> {
+    ghost use Rattle.goref_streams.specs.Streams.{Reading};
+
+    ghost Value = { Reading };
+
+    ghost view = { λ input. record { left = R.remaining input.stream; pulls = input.pulls; failures = input.failures } };
+}
+
+impl<R: Read> Input<R> {
+    pub fn new(stream: R) -> Input<R>
+        ensures { result ≡ record { left = R.remaining stream; pulls = 0; failures = 0 } }
+    {
+        Input {
+            stream,
+            pulls: Meter::new(),
+            failures: Meter::new(),
+        }
+    }
+}
+
+impl<R: Read> Source for Input<R> {
+    ghost left = { λ _. None };
+
+    ghost pulls = { λ input. input.pulls };
+
+    ghost failures = { λ input. input.failures };
+
+    fn pull(&mut self, buffer: &mut [u8]) -> Result<usize, Failed>
+        ensures within { IfOk result (λ n. n ≤ length buffer.new) }
+        ensures read { IfOk result (λ n. Consumes self.old.left self.new.left (take n buffer.new)) }
+        ensures end { IfOk result (λ n. n ≡ 0 → 0 < length buffer.new → IsAtEnd self.new.left) }
+        ensures pulls { self.new.pulls ≡ self.old.pulls + 1 }
+        ensures failures { self.new.failures ≡ failures_after result self.old.failures }
+    {
+        self.pulls.tick();
+        match self.stream.read(buffer) {
+            Ok(count) => Ok(count),
+            Err(_) => {
+                self.failures.tick();
+                Err(Failed)
+            }
+        }
+    }
+}
+
+/// A stream that is written, as a device that doesn't tell its bytes. It keeps them back until it
+/// is full or flushed, and a fault of the stream loses those.
+#[derive(Drop)]
+pub struct Output<W: Write> {
+    stream: W,
+    kept: ArrayVec<u8, KEPT>,
+    failures: Meter,
+}
+
+impl<W: Write> Model for Output<W> {
+    ghost use Rattle.goref_streams.specs.Streams.{Writing};
+
+    ghost Value = { Writing };
+
+    ghost view = { λ output. record { held = W.contents output.stream; kept = output.kept.items; failures = output.failures } };
+}
+
+impl<W: Write> Output<W> {
+    pub fn new(stream: W) -> Output<W>
+        ensures { result ≡ record { held = W.contents stream; kept = []; failures = 0 } }
+    {
+        Output {
+            stream,
+            kept: ArrayVec::new(),
+            failures: Meter::new(),
+        }
+    }
+}
+
+impl<W: Write> Sink for Output<W> {
+    ghost taken = { λ _. None };
+
+    ghost failures = { λ output. output.failures };
+
+    fn put(&mut self, bytes: &[u8]) -> Result<usize, Failed>
+        ensures within { IfOk result (λ n. n ≤ length bytes.now) }
+        ensures count { IfOk result (λ n. n ≡ min (length bytes.now) (room KEPT (length self.old.kept))) }
+        ensures given { IfOk result (λ n. Appends (given_to self.old) (given_to self.new) (take n bytes.now)) }
+        ensures failures { self.new.failures ≡ put_failures_after result (length bytes.now) self.old.failures }
+    {
+        if self.kept.is_full() {
+            self.flush()?;
+        }
+        let count = bytes.len().min(self.kept.remaining_capacity());
+        let _ = self.kept.try_extend_from_slice(&bytes[..count]);
+        Ok(count)
+    }
+
+    fn flush(&mut self) -> Result<(), Failed>
+        ensures emptied { OnOk result (self.new.kept ≡ []) }
+        ensures passed { OnOk result (Appends self.old.held self.new.held self.old.kept) }
+        ensures failures { self.new.failures ≡ failures_after result self.old.failures }
+    {
+        let outcome = passed_on(&mut self.stream, self.kept.as_slice());
+        self.kept.clear();
+        match outcome {
+            Ok(()) => Ok(()),
+            Err(_) => {
+                self.failures.tick();
+                Err(Failed)
+            }
+        }
+    }
+}
+
+/// Writes the bytes to a stream, and flushes it.
+#[tactic(auto, using(crate::proofs::Given::appends_keeps))]
+fn passed_on<W: Write>(stream: &mut W, bytes: &[u8]) -> io::Result<()>
+    ensures { OnOk result (Appends (W.contents stream.old) (W.contents stream.new) bytes.now) }
+{
+    stream.write_all(bytes)?;
+    stream.flush()
+}
+
+#[cfg(test)]
+mod tests;

@@ -1,0 +1,9 @@
+//! The words of the program, and the task that they name.
+#![tactic(auto)]
+
+mod task;
+
+pub use task::{Task, task_of};
+
+#[cfg(test)]
+mod tests;

@@ -1,0 +1,98 @@
+ghost use Rattle.std.specs.Prelude.{◌≡◌, ◌⊎◌, IfErr, IfOk, IfSome, IsErrAnd, IsSome, List, Some, codes, ℕ};
+ghost use Rattle.std.specs.Prelude.{false};
+ghost use Rattle.std.specs.Fmt.{decimal};
+ghost use Rattle.clap.specs.Matches.{found_of};
+ghost use Rattle.clap.specs.Simple.{app_of, subcommand_rows_of};
+ghost use Rattle.clap.specs.Values.{kind_of};
+ghost use Rattle.clap.specs.Walk.{Row, Text, one_of, rows_of, rule_of};
+ghost use Rattle.clap.specs.declared.error.kind.ErrorKind.{ErrorKind};
+ghost use Rattle.go_board.specs.Sizes.{lines_of};
+ghost use Rattle.goref_words.specs.Words.{Asks, HasSize, IsPlainMatch, IsPlainUse, IsSize};
+ghost use Rattle.goref_words.specs.Words.{Means, program, size_option, texts_of};
+
+use clap::error::ErrorKind;
+use clap::{Arg, ArgMatches, Command, Error, value_parser};
+use go_board::{MAX_LINES, Size};
+use std::alloc::{AllocError, Global};
+
+/// What the program is to do.
+#[derive(Clone, Copy)]
+pub enum Task {
+    /// Answer the commands of the Go Text Protocol, on a board that has this size at first.
+    Gtp(Size),
+}
+
+/// The task that the program's words name, the program's own name first.
+///
+/// A call for help is an `Err` too: its text is for the standard output. Words that ask for no
+/// task are refused with the text that tells the user why.
+pub fn task_of<'a>(alloc: Global, words: &'a [&'a str]) -> Result<Task, Error>
+    ensures ok { IfOk result (Means (texts_of words.entry.now)) }
+    ensures plain { IsPlainUse (texts_of words.entry.now)
+        → IfErr result (λ e. kind_of e ≡ ErrorKind.OutOfMemory) }
+{
+    let matches = program_command(alloc)?.try_get_matches_from(words)?;
+    match asked(&matches) {
+        Some(task) => Ok(task),
+        None => refused(alloc),
+    }
+}
+
+/// The program's words as clap reads them.
+fn program_command<'a>(alloc: Global) -> Result<Command<'a>, AllocError>
+    ensures { IfOk result (λ c. app_of c ≡ program) }
+{
+    let gtp = Command::new(alloc, "gtp")
+        .about("Answers the commands of the Go Text Protocol, version 2")
+        .after_help("Example: goref gtp --size 9")
+        .arg(size_argument(alloc))?;
+    Command::new(alloc, "goref")
+        .about("A Go engine and referee for the Tromp-Taylor rules")
+        .subcommand_required(true)
+        .subcommand(gtp)
+}
+
+/// The option `--size`.
+fn size_argument<'a>(alloc: Global) -> Arg<'a>
+    ensures rule { rule_of result ≡ size_option }
+    ensures local { result.global ≡ false }
+{
+    Arg::new(alloc, "size")
+        .long("size")
+        .value_name("N")
+        .help("The lines of the board at the start, from 1 to 19")
+        .default_value("19")
+        .value_parser(value_parser!(u8).range(1..=i64::from(MAX_LINES)))
+}
+
+/// The task that the matches ask for.
+fn asked<'a>(matches: &ArgMatches<'a>) -> Option<Task>
+    ensures is { IfSome result (λ task. (p : Text × List Row)
+        × (subcommand_rows_of matches.now ≡ Some p) × Asks p task) }
+    ensures some { (p : Text × List Row) → subcommand_rows_of matches.now ≡ Some p → IsPlainMatch p
+        → IsSome result }
+{
+    match matches.subcommand() {
+        Some(("gtp", inner)) => Some(Task::Gtp(size_of(inner)?)),
+        _ => None,
+    }
+}
+
+/// The size that the option `--size` states.
+fn size_of(matches: &ArgMatches) -> Option<Size>
+    ensures is { IfSome result (λ size. HasSize (rows_of (found_of matches.now)) (lines_of size)) }
+    ensures some { (n : ℕ) → IsSize n
+        → one_of (codes "size") (rows_of (found_of matches.now)) ≡ Some (decimal n)
+        → IsSome result }
+{
+    Size::new(matches.get_one::<u8>("size")?)
+}
+
+/// The refusal of words that ask for no task.
+fn refused(alloc: Global) -> Result<Task, Error>
+    ensures { IsErrAnd result (λ e. (kind_of e ≡ ErrorKind.MissingSubcommand)
+        ⊎ (kind_of e ≡ ErrorKind.OutOfMemory)) }
+{
+    let mut command = program_command(alloc)?;
+    Err(command.error(ErrorKind::MissingSubcommand, "no task is named")?)
+}

@@ -1,0 +1,56 @@
+use crate::{Reader, Writer};
+use go_board::{Failed, Sink, Source, send};
+use std::process::Abort;
+
+/// Asserts what the next pull into four bytes gives.
+fn pulls(rt: &impl Abort, reader: &mut Reader<'_>, piece: &[u8]) {
+    let mut buffer = [0u8; 4];
+    assert!(rt; reader.pull(&mut buffer) == Ok(piece.len()));
+    assert!(rt; buffer.starts_with(piece));
+}
+
+#[test]
+fn a_text_is_read_in_pieces(rt: HostRuntime) {
+    let mut reader = Reader::new(b"play b e5\n").in_pieces_of(3);
+    for piece in [b"pla".as_slice(), b"y b", b" e5", b"\n", b"", b""] {
+        pulls(&rt, &mut reader, piece);
+    }
+    let mut whole = Reader::new(b"undo\nquit");
+    for piece in [b"undo".as_slice(), b"\nqui", b"t", b""] {
+        pulls(&rt, &mut whole, piece);
+    }
+    assert!(rt; whole.pull_count() == 4);
+}
+
+#[test]
+fn one_pull_fails(rt: HostRuntime) {
+    let mut reader = Reader::new(b"undo").in_pieces_of(1).failing_at(3);
+    pulls(&rt, &mut reader, b"u");
+    pulls(&rt, &mut reader, b"n");
+    assert!(rt; reader.pull(&mut [0u8; 4]) == Err(Failed));
+    pulls(&rt, &mut reader, b"d");
+}
+
+#[test]
+fn a_text_is_taken_in_pieces(rt: HostRuntime) {
+    let mut writer = Writer::new(rt.alloc()).in_pieces_of(2);
+    assert!(rt; send(b"= B2\n\n", &mut writer).is_ok());
+    assert!(rt; writer.flush().is_ok());
+    assert!(rt; writer.bytes() == b"= B2\n\n".as_slice());
+    assert!(rt; writer.put_count() == 3);
+    assert!(rt; writer.flush_count() == 1);
+}
+
+#[test]
+fn one_call_of_a_writer_fails(rt: HostRuntime) {
+    let mut failing = Writer::new(rt.alloc()).in_pieces_of(2).failing_at_put(2);
+    assert!(rt; send(b"= B2\n\n", &mut failing).is_err());
+    assert!(rt; failing.bytes() == b"= ".as_slice());
+    let mut stalling = Writer::new(rt.alloc()).in_pieces_of(2).stalling_at_put(3);
+    assert!(rt; send(b"= B2\n\n", &mut stalling).is_err());
+    assert!(rt; stalling.bytes() == b"= B2".as_slice());
+    let mut held = Writer::new(rt.alloc()).failing_at_flush(2);
+    assert!(rt; held.flush() == Ok(()));
+    assert!(rt; held.flush() == Err(Failed));
+    assert!(rt; held.flush() == Ok(()));
+}
