@@ -1,9 +1,9 @@
 -- The flood as a whole: what holds at each turn of it, and when nothing waits.
-use Rattle.std.proofs.Common.{arith, ◌≡◌, ◌<◌, ◌≤◌, ◌+◌, ◌*◌, ◌∙◌, ◌↔◌, Bool, not, inl, inr, ◌⊎◌, ℕ, List, [], ◌∷◌, ◌++◌, Contains, count_by, length, length-append, refl, sym, subst}
+use Rattle.std.proofs.Common.{arith, ◌≡◌, ◌<◌, ◌≤◌, ◌+◌, ◌*◌, ◌↔◌, Bool, not, inl, inr, ◌⊎◌, ℕ, List, [], ◌∷◌, ◌++◌, Contains, count_by, length, length-append, refl, sym, subst}
 use Rattle.std.proofs.lemmas.List.Elements.{Contains-append_left, Contains-push, Contains-push_cases}
 use Rattle.go_board.specs.declared.size.TheConstants.{MAX_POINTS}
-use Rattle.go_board.specs.Colours.{Colouring, colour_at}
-use Rattle.go_board.specs.Paths.{IsAdjacent, Joined, Leads}
+use Rattle.go_board.specs.Colours.{Colouring}
+use Rattle.go_board.specs.Paths.{Leads}
 use Rattle.go_board.specs.Flood.{Grows, HasRoom, IsJoinedTo, IsMarked, IsStep, work}
 
 -- what holds at each turn: the marked points are joined to the first ones, and those that wait are

@@ -1,7 +1,14 @@
 pub mod Squares
 pub mod Numbers
+pub mod Tests
+pub mod Counting
 pub mod VertexLemmas
 pub mod Devices
 pub mod Marks
 pub mod Beside
 pub mod Flooding
+pub mod Deciding
+pub mod Seeding
+pub mod Clearing
+pub mod Counted
+pub mod Equal

@@ -1,5 +1,5 @@
 -- How the set of marked points grows.
-use Rattle.std.proofs.Common.{arith, ◌≡◌, ◌≢◌, ◌<◌, ◌≤◌, ◌+◌, ◌*◌, ◌∙◌, Bool, true, false, not, cond, inl, inr, ◌⊎◌, ℕ, List, [], ◌∷◌, ◌++◌, length, Contains, count_by, get_or, replicate, refl, sym, ap, rules, length-append, length-set}
+use Rattle.std.proofs.Common.{arith, ◌≡◌, ◌<◌, ◌+◌, ◌∙◌, Bool, true, false, not, cond, inl, inr, ℕ, List, [], ◌∷◌, ◌++◌, length, count_by, get_or, replicate, sym, ap, length-append, length-set}
 use Rattle.std.proofs.lemmas.List.{length-replicate}
 use Rattle.std.proofs.Math.ListN.{set}
 use Rattle.std.proofs.lemmas.List.{get_or-replicate, get_or-set_other, get_or-set_same, get_or_past}
@@ -8,7 +8,7 @@ use Rattle.std.proofs.lemmas.List.Sums.{sum_by-set}
 use Rattle.std.proofs.lemmas.Bool.{cases_lt}
 use Rattle.std.proofs.lemmas.Bool.Decides.{eqb_tells}
 use Rattle.go_board.specs.declared.size.TheConstants.{MAX_POINTS}
-use Rattle.go_board.specs.Flood.{Grows, HasRoom, IsMarked, work}
+use Rattle.go_board.specs.Flood.{Grows, HasRoom, IsMarked}
 
 -- among unmarked points none is marked
 pub unmarked : (m j : ℕ) → IsMarked (replicate m false) j → ⊥

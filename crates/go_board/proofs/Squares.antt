@@ -1,5 +1,5 @@
 -- How many points a board has.
-use Rattle.std.proofs.Common.{arith, ◌≡◌, ◌≤◌, ◌*◌, ℕ}
+use Rattle.std.proofs.Common.{arith, ◌≤◌, ◌*◌, ℕ}
 use Rattle.go_board.specs.declared.size.TheConstants.{MAX_LINES, MAX_POINTS}
 
 -- no board has more points than the largest

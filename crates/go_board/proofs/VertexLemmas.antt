@@ -14,6 +14,7 @@ use Rattle.go_board.specs.declared.point.Point.{Point}
 use Rattle.go_board.specs.declared.vertex.Vertex.{Vertex}
 use Rattle.go_board.specs.declared.vertex.Vertex.TheVariants.{Pass, At}
 use Rattle.go_board.specs.declared.vertex.VertexError.TheVariants.{Malformed, OffBoard}
+use Rattle.go_board.proofs.Tests.{both}
 use Rattle.go_board.specs.Points.{IsOn}
 use Rattle.go_board.specs.Vertices.{IsOnBoard, SpellsOffBoard, column_letters, column_of, letter_of, point_of, row_of, vertex_of, vertex_on, vertex_word}
 
@@ -25,11 +26,6 @@ letter_past col past = get_or_past column_letters col 63 past
 abbrev each_below : (ℕ → Bool) → ℕ → Bool
 each_below p zero = true
 each_below p (suc n) = p n && each_below p n
-
-both : (a b : Bool) → (a && b) ≡ true → (a ≡ true) × (b ≡ true)
-both true true e = (refl, refl)
-both true false e = absurd (true≢false (sym e))
-both false b e = absurd (true≢false (sym e))
 
 at_each : (p : ℕ → Bool) (n k : ℕ) → each_below p n ≡ true → k < n → p k ≡ true
 at_each p zero k all below = absurd (omega arith)

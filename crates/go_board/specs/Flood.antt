@@ -4,7 +4,7 @@ use Rattle.go_board.specs.declared.colour.Colour.{Colour}
 use Rattle.go_board.specs.declared.size.TheConstants.{MAX_POINTS}
 use Rattle.go_board.specs.Colours.{Colouring, colour_at}
 use Rattle.go_board.specs.Paths.{IsAdjacent, Joined}
-use Rattle.go_board.specs.Reaching.{reaches, connects}
+use Rattle.go_board.specs.Reaching.{reaches}
 
 -- the point with this number is marked
 abbrev pub IsMarked : List Bool → ℕ → Type 0
@@ -21,6 +21,14 @@ AreReaching n g from to marks = (j : ℕ) → IsMarked marks j ↔ ((j < n * n) 
 -- the marked points are those that a path of points of p's colour joins to p
 abbrev pub AreJoined : ℕ → Colouring → ℕ → List Bool → Type 0
 AreJoined n g p marks = (j : ℕ) → IsMarked marks j ↔ Joined n g p j
+
+-- some neighbour of p has this colour
+abbrev pub IsBeside : ℕ → Colouring → ℕ → Option Colour → Type 0
+IsBeside n g p colour = (q : ℕ) × IsAdjacent n p q × (colour_at g q ≡ colour)
+
+-- p has the one colour and a neighbour of the other
+abbrev pub IsSeed : ℕ → Colouring → Option Colour → Option Colour → ℕ → Type 0
+IsSeed n g from to p = (colour_at g p ≡ from) × IsBeside n g p to
 
 -- the work that is left: two steps for each point that isn't marked, one for each that waits
 abbrev pub work : List Bool → List ℕ → ℕ
@@ -43,3 +51,11 @@ pub record Grows (New : ℕ → Type 0) (marks : List Bool) (waiting : List ℕ)
   pub waiting_only : (j : ℕ) → Contains waiting' j → Contains waiting j ⊎ IsMarked marks' j
   pub less : work marks' waiting' ≤ work marks waiting
   pub room : HasRoom marks' waiting'
+
+-- the seeds among the first i points are marked, and they wait
+pub record IsSeeding (n : ℕ) (g : Colouring) (from to : Option Colour) (i : ℕ) (marks : List Bool) (waiting : List ℕ) : Type 0 where
+  pub sound : (j : ℕ) → IsMarked marks j → (j < i) × IsSeed n g from to j
+  pub complete : (j : ℕ) → j < i → IsSeed n g from to j → IsMarked marks j
+  pub wait : (j : ℕ) → IsMarked marks j → Contains waiting j
+  pub marked : (j : ℕ) → Contains waiting j → IsMarked marks j
+  pub room : HasRoom marks waiting

@@ -4,6 +4,7 @@ pub mod Points
 pub mod Paths
 pub mod Reaching
 pub mod Flood
+pub mod Clearing
 pub mod Grids
 pub mod Vertices
 pub mod Number

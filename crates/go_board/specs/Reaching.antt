@@ -1,5 +1,5 @@
 -- What paths decide, as functions that compute.
-use Rattle.std.specs.Prelude.{◌==◌, ◌&&◌, ◌||◌, ℕ, zero, suc, ◌*◌, Bool, true, false, not, List, Option, Some, None, if◌then◌else◌, map, count_by, filter, slice_set}
+use Rattle.std.specs.Prelude.{◌==◌, ◌&&◌, ◌||◌, ℕ, zero, suc, ◌*◌, Bool, true, false, not, List, Option, Some, None, if◌then◌else◌, map, count_by, slice_set}
 use Rattle.std.specs.List.{list_any, range_with_len}
 use Rattle.go_board.specs.declared.colour.Colour.{Colour}
 use Rattle.go_board.specs.declared.colour.Colour.TheVariants.{Black, White}

@@ -1,4 +1,4 @@
-ghost use Rattle.std.specs.Prelude.{◌≡◌};
+ghost use Rattle.std.specs.Prelude.{◌≡◌, ◌↔◌, IsTrue};
 
 /// The colour of a stone, and of the player who has the stones of that colour.
 #[derive(Clone, Copy, Debug, PartialEq, Eq, Hash)]
@@ -19,4 +19,11 @@ impl Colour {
             Colour::White => Colour::Black,
         }
     }
+}
+
+/// Whether two points with these colours have the same one.
+pub fn is_same(a: Option<Colour>, b: Option<Colour>) -> bool
+    ensures { IsTrue result ↔ (a ≡ b) }
+{
+    a == b
 }

@@ -11,10 +11,10 @@ use arrayvec::ArrayVec;
 pub type Marks = [bool; MAX_POINTS];
 
 /// The marked points whose neighbours weren't looked at yet.
-type Waiting = ArrayVec<u16, MAX_POINTS>;
+pub type Waiting = ArrayVec<u16, MAX_POINTS>;
 
 /// No point is marked.
-fn no_marks() -> Marks
+pub fn no_marks() -> Marks
     ensures none { (j : ℕ) → IsMarked result j → ⊥ }
     ensures room { HasRoom result [] }
 {
@@ -22,7 +22,7 @@ fn no_marks() -> Marks
 }
 
 /// Marks a point, which waits then, unless it was marked before.
-fn mark(number: u16, marks: &mut Marks, waiting: &mut Waiting)
+pub fn mark(number: u16, marks: &mut Marks, waiting: &mut Waiting)
     requires on { number < MAX_POINTS }
     requires room { HasRoom marks.old waiting.old.items }
     ensures grows { Grows (λ j. j ≡ number) marks.old waiting.old.items marks.new waiting.new.items }
@@ -36,7 +36,13 @@ fn mark(number: u16, marks: &mut Marks, waiting: &mut Waiting)
 }
 
 /// Marks a point if it has this colour.
-fn mark_coloured(grid: &Grid, at: Point, colour: Option<Colour>, marks: &mut Marks, waiting: &mut Waiting)
+fn mark_coloured(
+    grid: &Grid,
+    at: Point,
+    colour: Option<Colour>,
+    marks: &mut Marks,
+    waiting: &mut Waiting,
+)
     requires on { IsOn grid.now.lines at }
     requires room { HasRoom marks.old waiting.old.items }
     ensures grows { Grows (λ j. (j ≡ number_of grid.now.lines at) × (colour_at grid.now.colours (number_of grid.now.lines at) ≡ colour)) marks.old waiting.old.items marks.new waiting.new.items }

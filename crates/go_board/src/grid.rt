@@ -1,5 +1,6 @@
 ghost use Rattle.std.specs.Prelude.{◌≡◌, ◌<◌, ◌≤◌, ◌*◌, ◌↔◌, ℕ, None, IsTrue, length, replicate, slice_set, take};
 
+use crate::colour::is_same;
 use crate::{Colour, MAX_POINTS, Point, Size};
 use std::marker::Model;
 
@@ -72,5 +73,22 @@ impl Grid {
         ensures colours { self.new.colours ≡ slice_set self.old.colours (number_of self.old.lines p) colour }
     {
         self.cells[usize::from(p.index(self.size))] = colour;
+    }
+
+    /// Whether two grids have the same size and the same colours.
+    pub fn is_same_as(&self, other: &Grid) -> bool
+        ensures { IsTrue result ↔ (self.now ≡ other.now) }
+    {
+        let size = self.size();
+        if other.size().lines() != size.lines() {
+            return false;
+        }
+        for number in 0..size.points() {
+            let at = Point::numbered(size, number);
+            if !is_same(self.get(at), other.get(at)) {
+                return false;
+            }
+        }
+        true
     }
 }

@@ -2,16 +2,22 @@
 //! is read from and written to.
 #![tactic(auto)]
 
+mod area;
 mod colour;
 mod device;
 mod flood;
 mod grid;
+pub mod laws;
 mod meter;
 mod pen;
+pub mod plain;
 mod point;
+mod seeds;
 mod size;
+mod taken;
 mod vertex;
 
+pub use area::Area;
 pub use colour::Colour;
 pub use device::{Failed, Sink, Source, WriteFault};
 pub use grid::Grid;
@@ -19,6 +25,7 @@ pub use meter::Meter;
 pub use pen::{Pen, send};
 pub use point::{Point, neighbours};
 pub use size::{MAX_LINES, MAX_POINTS, Size};
+pub use taken::Taken;
 pub use vertex::{
     COLUMN_LETTERS, MAX_ROW_NUMBER, Move, Vertex, VertexError, read_vertex, vertex_text,
 };

@@ -1,4 +1,4 @@
-use Rattle.std.proofs.Common.{◌≡◌, ◌<◌, ◌*◌, ◌∙◌, ℕ, List, Bool, sym, subst, ap, true≢false}
+use Rattle.std.proofs.Common.{◌≡◌, ◌<◌, ◌*◌, ◌∙◌, ℕ, sym, subst, ap, true≢false}
 use Rattle.go_board.specs.Points.{number_of}
 use Rattle.go_board.specs.Flood.{Grows, IsMarked, IsStep}
 use Rattle.go_board.proofs.Flooding.{flood_done, flood_more, last_on}

@@ -1,0 +1,30 @@
+//! What the words of this crate's contracts mean: laws about definitions, each the contract of a
+//! function that does nothing.
+ghost use Rattle.std.specs.Prelude.{◌≡◌, ◌<◌, ◌≤◌, ◌*◌, ◌↔◌, ℕ, Option, None, IsTrue};
+ghost use Rattle.go_board.specs.declared.colour.Colour.{Colour};
+ghost use Rattle.go_board.specs.Colours.{Colouring, colour_at};
+ghost use Rattle.go_board.specs.Paths.{Joined, Reaches};
+ghost use Rattle.go_board.specs.Reaching.{is_liberty_of, joined, reaches, vanished};
+ghost use Rattle.go_board.specs.Points.{is_adjacent};
+
+/// The test whether a point reaches a colour holds exactly where a path leads there.
+pub fn reaches_by_a_path()
+    ensures { (n : ℕ) (g : Colouring) (p : ℕ) (c : Option Colour) → p < n * n → IsTrue (reaches n g p c) ↔ Reaches n g p c }
+{}
+
+/// The test whether two points are joined holds exactly where a path joins them.
+pub fn joined_by_a_path()
+    ensures { (n : ℕ) (g : Colouring) (p q : ℕ) → p < n * n → IsTrue (joined n g p q) ↔ Joined n g p q }
+{}
+
+/// A liberty of a stone's chain is an empty point adjacent to a stone that a path joins to it.
+pub fn liberty_by_a_path()
+    ensures { (n : ℕ) (g : Colouring) (p q : ℕ) → p < n * n → IsTrue (is_liberty_of n g p q)
+        ↔ ((colour_at g q ≡ None) × ((r : ℕ) × Joined n g p r × IsTrue (is_adjacent n r q))) }
+{}
+
+/// No more stones of a colour vanish than the board has points.
+pub fn vanished_at_most_all()
+    ensures { (n : ℕ) (before after : Colouring) (c : Colour) → vanished n before after c ≤ n * n }
+{
+}

@@ -1,0 +1,4 @@
+pub mod Standings
+pub mod Playing
+pub mod Prisoners
+pub mod Held

@@ -1,0 +1,114 @@
+-- What a game stands for: its start and its moves.
+use Rattle.std.specs.Prelude.{◌≡◌, ◌≢◌, ◌<◌, ◌≤◌, ◌-◌, ◌*◌, ◌++◌, ℕ, ℤ, pos, negsuc, List, [], ◌∷◌, None, IsTrue, Contains, length, replicate, slice_index_or, take}
+use Rattle.std.specs.Prelude.{◌≤ℤ◌}
+use Rattle.go_board.specs.declared.colour.Colour.{Colour}
+use Rattle.go_board.specs.declared.colour.Colour.TheVariants.{Black}
+use Rattle.go_board.specs.declared.size.TheConstants.{MAX_LINES}
+use Rattle.go_board.specs.declared.vertex.Move.{Move}
+use Rattle.go_board.specs.declared.vertex.Vertex.{Vertex}
+use Rattle.go_board.specs.declared.vertex.Vertex.TheVariants.{Pass, At}
+use Rattle.go_board.specs.Colours.{Colouring, colour_at, other}
+use Rattle.go_board.specs.Points.{IsOn, number_of}
+use Rattle.go_board.specs.Reaching.{moved, reaches}
+
+-- the size, the komi in hundredths, the colouring and the mover at the start, and the moves
+pub record Standing : Type 0 where
+  pub lines : ℕ
+  pub komi : ℤ
+  pub start : Colouring
+  pub first : Colour
+  pub moves : List Move
+
+-- what contracts see of a game
+pub record GameValue : Type 0 where
+  pub standing : Standing
+
+-- the colouring that a turn leaves: a pass leaves it as it is
+abbrev pub after_vertex : ℕ → Colouring → Colour → Vertex → Colouring
+after_vertex n g c Pass = g
+after_vertex n g c (At p) = moved n g c (number_of n p)
+
+abbrev pub after_move : ℕ → Colouring → Move → Colouring
+after_move n g m = after_vertex n g m.colour m.vertex
+
+-- the colouring after each number of moves, the start first
+abbrev pub positions : ℕ → Colouring → List Move → List Colouring
+positions n g [] = g ∷ []
+positions n g (m ∷ moves) = g ∷ positions n (after_move n g m) moves
+
+abbrev pub positions_of : Standing → List Colouring
+positions_of s = positions s.lines s.start s.moves
+
+-- the last of them
+abbrev pub board : ℕ → Colouring → List Move → Colouring
+board n g [] = g
+board n g (m ∷ moves) = board n (after_move n g m) moves
+
+abbrev pub board_of : Standing → Colouring
+board_of s = board s.lines s.start s.moves
+
+-- the standing with one more move
+abbrev pub with_move : Standing → Move → Standing
+with_move s m = record s { moves = s.moves ++ m ∷ [] }
+
+-- the standing with these moves played after those that stand
+abbrev pub with_moves : Standing → List Move → Standing
+with_moves s [] = s
+with_moves s (m ∷ moves) = with_moves (with_move s m) moves
+
+-- the standing with the last k moves taken back
+abbrev pub without_last : ℕ → Standing → Standing
+without_last k s = record s { moves = take (length s.moves - k) s.moves }
+
+-- the standing after its first k moves
+abbrev pub first_moves : Standing → ℕ → Standing
+first_moves s k = record s { moves = take k s.moves }
+
+-- no move stands on an empty board, and Black is to move
+abbrev pub IsEmptyStart : Standing → ℕ → ℤ → Type 0
+IsEmptyStart s n komi = s ≡ record { lines = n; komi = komi; start = replicate (n * n) None; first = Black; moves = [] }
+
+-- the colour that is to move: the other than the last mover's
+abbrev pub mover_after : Colour → List Move → Colour
+mover_after first [] = first
+mover_after first (m ∷ moves) = mover_after (other m.colour) moves
+
+abbrev pub mover_of : Standing → Colour
+mover_of s = mover_after s.first s.moves
+
+-- the point is past the board's edge
+abbrev pub IsOffBoard : Standing → Vertex → Type 0
+IsOffBoard s Pass = ⊥
+IsOffBoard s (At p) = IsOn s.lines p → ⊥
+
+-- the point is on the board and not empty
+abbrev pub IsOccupied : Standing → Vertex → Type 0
+IsOccupied s Pass = ⊥
+IsOccupied s (At p) = IsOn s.lines p × (colour_at (board_of s) (number_of s.lines p) ≢ None)
+
+-- the colouring stood after k moves, and not after fewer
+abbrev pub IsFirstAt : List Colouring → Colouring → ℕ → Type 0
+IsFirstAt gs g k = (k < length gs) × (slice_index_or gs k [] ≡ g) × ((j : ℕ) → j < k → slice_index_or gs j [] ≢ g)
+
+-- the play would repeat the colouring that stood first after k moves
+abbrev pub Repeats : Standing → Colour → Vertex → ℕ → Type 0
+Repeats s c Pass k = ⊥
+Repeats s c (At p) k = IsFirstAt (positions_of s) (moved s.lines (board_of s) c (number_of s.lines p)) k
+
+-- a pass, or a play on an empty point of the board whose colouring didn't stand yet
+abbrev pub IsLegal : Standing → Colour → Vertex → Type 0
+IsLegal s c Pass = Unit {0}
+IsLegal s c (At p) = IsOn s.lines p × (colour_at (board_of s) (number_of s.lines p) ≡ None)
+    × (Contains (positions_of s) (moved s.lines (board_of s) c (number_of s.lines p)) → ⊥)
+
+-- a komi in hundredths of a point: at most 999,999,999.99 either way
+abbrev pub IsKomi : ℤ → Type 0
+IsKomi komi = (negsuc 99999999998 ≤ℤ komi) × (komi ≤ℤ pos 99999999999)
+
+-- a standing that play can come to
+pub record IsSound (s : Standing) : Type 0 where
+  pub size : (0 < s.lines) × (s.lines ≤ MAX_LINES)
+  pub whole : length s.start ≡ s.lines * s.lines
+  pub komi : IsKomi s.komi
+  pub alive : (p : ℕ) → p < s.lines * s.lines → colour_at s.start p ≢ None → IsTrue (reaches s.lines s.start p None)
+  pub legal : (k : ℕ) (m : Move) → k < length s.moves → slice_index_or s.moves k m ≡ m → IsLegal (first_moves s k) m.colour m.vertex

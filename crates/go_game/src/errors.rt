@@ -1,0 +1,30 @@
+use go_board::Point;
+use thiserror::Error;
+
+/// Why a move can't be played.
+#[derive(Clone, Copy, Debug, PartialEq, Eq, Error)]
+pub enum PlayError {
+    /// The point holds a stone.
+    #[error("the point is on a stone")]
+    Occupied,
+    /// The point is past the board's edge.
+    #[error("the point is off the board")]
+    OffBoard,
+    /// The play repeats the colouring that stood first after this many moves.
+    #[error("the play repeats the position after {0} moves")]
+    Repeats(usize),
+    /// There was no memory for the move.
+    #[error("out of memory")]
+    Memory,
+}
+
+/// Why a grid can't be the start of a game.
+#[derive(Clone, Copy, Debug, PartialEq, Eq, Error)]
+pub enum SetupError {
+    /// The first point in point order whose chain has no liberty.
+    #[error("a chain has no liberty")]
+    NoLiberty(Point),
+    /// There was no memory for the game.
+    #[error("out of memory")]
+    Memory,
+}
