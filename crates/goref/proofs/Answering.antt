@@ -1,5 +1,5 @@
 -- A line that was answered, from what was decided and what was written.
-use Rattle.std.proofs.Common.{◌≡◌, ◌∙◌, inl, inr, ℕ, Bool, true, false, if◌then◌else◌, List, Option, Result, Ok, Err, refl, sym, ap, not, nat_eq, length}
+use Rattle.std.proofs.Common.{◌≡◌, ◌∙◌, inl, inr, ℕ, Bool, true, false, if◌then◌else◌, List, Option, Ok, Err, refl, sym, ap, not, nat_eq, length}
 use Rattle.go_board.specs.Device.{then_bytes, TakesFront}
 use Rattle.go_board.specs.Writing.{then_bytes-nil}
 use Rattle.go_board.specs.declared.device.WriteFault.{WriteFault}
@@ -9,7 +9,7 @@ use Rattle.goref.specs.Games.{Standing}
 use Rattle.goref.specs.Kept.{Kept, has_bytes}
 use Rattle.goref.specs.Contents.{Content}
 use Rattle.goref.specs.Decisions.{Decided}
-use Rattle.goref.specs.Answers.{Said, said, silent, spoken, line_id, decided_line, Reply, DecidesLine, is_end, decision_text}
+use Rattle.goref.specs.Answers.{silent, spoken, line_id, decided_line, Reply, DecidesLine, is_end, decision_text}
 use Rattle.goref.specs.Replies.{Answered, flow_of}
 use Rattle.goref.proofs.Pushes.{has_bytes_is}
 
@@ -22,32 +22,32 @@ answered_silent s k content taken none = record {
   reply = silent s;
   is_reply = inl (sym (ap (λ b. if b then spoken (line_id k) (decided_line s k content) else silent s) none));
   stands = refl;
-  sent = (refl, sym (then_bytes-nil taken))
+  sent = (refl, sym (then_bytes-nil taken));
 }
 
 pub reply_of : (s : Standing) (k : Kept) (content : Content) (d : Decided) → has_bytes k.text ≡ true → DecidesLine s k content d → Reply s k content (spoken (line_id k) d)
 reply_of s k content d some (inl e) =
-  inl (ap (spoken (line_id k)) e ∙ sym (ap (λ b. if b then spoken (line_id k) (decided_line s k content) else silent s) some))
+    inl (ap (spoken (line_id k)) e ∙ sym (ap (λ b. if b then spoken (line_id k) (decided_line s k content) else silent s) some))
 reply_of s k content d some (inr h) = inr (record { has_words = some; fits = h.0; marked = h.1 }, ap (spoken (line_id k)) h.2)
 
 -- a line with words, its answer written whole
 pub answered_whole : (s : Standing) (k : Kept) (content : Content) (d : Decided) (flow : Flow) {taken taken' : Option (List ℕ)} → has_bytes k.text ≡ true → DecidesLine s k content d →
-  flow ≡ flow_of (is_end d.decision) → taken' ≡ then_bytes taken (decision_text (line_id k) d.decision d.standing) →
-  Answered s d.standing k content (Ok flow) taken taken'
+    flow ≡ flow_of (is_end d.decision) → taken' ≡ then_bytes taken (decision_text (line_id k) d.decision d.standing) →
+    Answered s d.standing k content (Ok flow) taken taken'
 answered_whole s k content d flow some decides e sent = record {
   reply = spoken (line_id k) d;
   is_reply = reply_of s k content d some decides;
   stands = refl;
-  sent = (e, sent)
+  sent = (e, sent);
 }
 
 -- a line with words, of whose answer a front was written
 pub answered_front : (s : Standing) (k : Kept) (content : Content) (d : Decided) (fault : WriteFault) {taken taken' : Option (List ℕ)} → has_bytes k.text ≡ true → DecidesLine s k content d →
-  TakesFront taken taken' (decision_text (line_id k) d.decision d.standing) →
-  Answered s d.standing k content (Err fault) taken taken'
+    TakesFront taken taken' (decision_text (line_id k) d.decision d.standing) →
+    Answered s d.standing k content (Err fault) taken taken'
 answered_front s k content d fault some decides front = record {
   reply = spoken (line_id k) d;
   is_reply = reply_of s k content d some decides;
   stands = refl;
-  sent = front
+  sent = front;
 }

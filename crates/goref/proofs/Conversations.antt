@@ -1,8 +1,8 @@
 -- How a session goes on from line to line.
-use Rattle.std.proofs.Common.{◌≡◌, ◌∙◌, inl, ℕ, Bool, true, false, List, [], ◌∷◌, ◌++◌, Option, Some, None, refl, sym, ap, subst, append_assoc}
+use Rattle.std.proofs.Common.{◌≡◌, inl, ℕ, Bool, true, false, List, [], ◌∷◌, ◌++◌, Option, Some, None, refl, sym, subst, append_assoc}
 use Rattle.std.proofs.lemmas.List.{append-nil}
 use Rattle.goref.specs.Games.{Standing}
-use Rattle.goref.specs.Kept.{Kept, kept}
+use Rattle.goref.specs.Kept.{kept}
 use Rattle.goref.specs.Contents.{Content, nothing, missing, Pair}
 use Rattle.goref.specs.Answers.{Said, said, Reply, wants}
 use Rattle.goref.specs.Conversation.{Asks, Conversation, ends, quits, goes_on}
@@ -10,12 +10,12 @@ use Rattle.goref.specs.Progress.{Reaches}
 
 -- the same session, told in other words
 pub retold : {s : Standing} {lines lines' : List (List ℕ)} {asked asked' : List Pair} {text text' : List ℕ} →
-  lines ≡ lines' → asked ≡ asked' → text ≡ text' → Conversation s lines asked text → Conversation s lines' asked' text'
+    lines ≡ lines' → asked ≡ asked' → text ≡ text' → Conversation s lines asked text → Conversation s lines' asked' text'
 retold {s} {lines} {lines'} {asked} {asked'} {text} {text'} l a t c =
-  let P : List (List ℕ) → Type 0 = λ x. Conversation s x asked text in
-  let Q : List Pair → Type 0 = λ x. Conversation s lines' x text in
-  let R : List ℕ → Type 0 = λ x. Conversation s lines' asked' x in
-  subst R t (subst Q a (subst P l c))
+    let P : List (List ℕ) → Type 0 = λ x. Conversation s x asked text in
+    let Q : List Pair → Type 0 = λ x. Conversation s lines' x text in
+    let R : List ℕ → Type 0 = λ x. Conversation s lines' asked' x in
+    subst R t (subst Q a (subst P l c))
 
 -- something can be fetched for each line
 some_content : (want : Option (List ℕ)) → (content : Content) × (asked : List Pair) × Asks want content asked
@@ -27,21 +27,21 @@ SomeConversation s lines = (asked : List Pair) × (text : List ℕ) × Conversat
 
 -- a reply that ends the session, or one behind which it goes on
 pub some_more : (s : Standing) (line : List ℕ) (lines : List (List ℕ)) (content : Content) (asked : List Pair) (reply : Said) (stop : Bool) →
-  Asks (wants (kept line)) content asked → Reply s (kept line) content reply → reply.ends ≡ stop → SomeConversation reply.standing lines →
-  (later : List Pair) × (rest : List ℕ) × Conversation s (line ∷ lines) (asked ++ later) (reply.text ++ rest)
+    Asks (wants (kept line)) content asked → Reply s (kept line) content reply → reply.ends ≡ stop → SomeConversation reply.standing lines →
+    (later : List Pair) × (rest : List ℕ) × Conversation s (line ∷ lines) (asked ++ later) (reply.text ++ rest)
 some_more s line lines content asked reply true asks is e c =
-  ([], [], retold refl (sym (append-nil asked)) (sym (append-nil reply.text)) (quits s line lines content asked reply asks is e))
+    ([], [], retold refl (sym (append-nil asked)) (sym (append-nil reply.text)) (quits s line lines content asked reply asks is e))
 some_more s line lines content asked reply false asks is e c =
-  (c.0, c.1, goes_on s line lines content asked reply c.0 c.1 asks is e c.2)
+    (c.0, c.1, goes_on s line lines content asked reply c.0 c.1 asks is e c.2)
 
 -- each list of lines can be answered
 pub some_conversation : (lines : List (List ℕ)) (s : Standing) → SomeConversation s lines
 some_conversation [] s = ([], [], ends s)
 some_conversation (line ∷ lines) s =
-  let f = some_content (wants (kept line)) in
-  let reply : Said = said s (kept line) f.0 in
-  let c = some_more s line lines f.0 f.1 reply reply.ends f.2 (inl refl) refl (some_conversation lines reply.standing) in
-  (f.1 ++ c.0, reply.text ++ c.1, c.2)
+    let f = some_content (wants (kept line)) in
+    let reply : Said = said s (kept line) f.0 in
+    let c = some_more s line lines f.0 f.1 reply reply.ends f.2 (inl refl) refl (some_conversation lines reply.standing) in
+    (f.1 ++ c.0, reply.text ++ c.1, c.2)
 
 -- before the first line
 pub reaches_first : (s : Standing) → Reaches s [] [] [] s
@@ -49,11 +49,11 @@ reaches_first s = record { on = λ more later rest c. c }
 
 -- a line that was answered, with the session going on
 pub reaches_next : {s now : Standing} {lines : List (List ℕ)} {asked : List Pair} {text : List ℕ} → Reaches s lines asked text now →
-  (line : List ℕ) (content : Content) (asked' : List Pair) (reply : Said) →
-  Asks (wants (kept line)) content asked' → Reply now (kept line) content reply → reply.ends ≡ false →
-  Reaches s (lines ++ line ∷ []) (asked ++ asked') (text ++ reply.text) reply.standing
+    (line : List ℕ) (content : Content) (asked' : List Pair) (reply : Said) →
+    Asks (wants (kept line)) content asked' → Reply now (kept line) content reply → reply.ends ≡ false →
+    Reaches s (lines ++ line ∷ []) (asked ++ asked') (text ++ reply.text) reply.standing
 reaches_next {s} {now} {lines} {asked} {text} r line content asked' reply asks is e = record {
   on = λ more later rest c.
-    retold (sym (append_assoc lines (line ∷ []) more)) (sym (append_assoc asked asked' later)) (sym (append_assoc text reply.text rest))
-      (r.on (line ∷ more) (asked' ++ later) (reply.text ++ rest) (goes_on now line more content asked' reply later rest asks is e c))
+      retold (sym (append_assoc lines (line ∷ []) more)) (sym (append_assoc asked asked' later)) (sym (append_assoc text reply.text rest))
+      (r.on (line ∷ more) (asked' ++ later) (reply.text ++ rest) (goes_on now line more content asked' reply later rest asks is e c));
 }

@@ -5,3 +5,5 @@ pub mod Lines
 pub mod Requests
 pub mod Conversations
 pub mod Answering
+pub mod Progressing
+pub mod Running

@@ -1,7 +1,10 @@
 -- How the lines of a text change as more bytes come to its end.
-use Rattle.std.proofs.Common.{◌≡◌, ◌∙◌, ℕ, Bool, true, false, List, [], ◌∷◌, ◌++◌, refl, sym, ap, append_assoc}
+use Rattle.std.proofs.Common.{◌≡◌, ◌∙◌, ℕ, Bool, true, false, List, [], ◌∷◌, ◌++◌, refl, sym, ap, append_assoc, Some, None, zero, suc, ◌<◌, length, take, drop, arith}
+use Rattle.std.specs.Prelude.{slice_index}
+use Rattle.std.proofs.lemmas.Bool.{eqb-true}
 use Rattle.std.specs.List.{slice_split}
 use Rattle.std.proofs.lemmas.List.{append-nil}
+use Rattle.memchr.specs.Find.{IsFirstByte, is_byte}
 use Rattle.goref.specs.Lines.{is_line_end, all_but_last, last_part, complete_lines, unfinished_line, if_any, lines, HasNoEnd}
 use Rattle.goref.proofs.Splits.{onto_last, HasParts, slice_split_some, slice_split_push_yes, slice_split_push_no}
 
@@ -86,11 +89,10 @@ pub unfinished_line_end : (text part : List ℕ) → unfinished_line (text ++ (p
 unfinished_line_end text part = ap unfinished_line (sym (append_assoc text part (10 ∷ []))) ∙ unfinished_line_push_end (text ++ part) 10 refl
 
 -- what is read later adds lines alone
-pub Later : List ℕ → List ℕ → Type 0
+abbrev pub Later : List ℕ → List ℕ → Type 0
 Later text more = (later : List (List ℕ)) × (lines (text ++ more) ≡ complete_lines text ++ later)
 
 later_step : (text : List ℕ) (b : ℕ) (more : List ℕ) (e : Bool) → is_line_end b ≡ e → Later (text ++ b ∷ []) more → Later text (b ∷ more)
-unfolding Later
 later_step text b more true e h = (
   unfinished_line text ∷ h.0,
   ap lines (shift text b more) ∙ h.1 ∙ ap (λ ls. ls ++ h.0) (complete_lines_push_end text b e)
@@ -99,6 +101,35 @@ later_step text b more true e h = (
 later_step text b more false e h = (h.0, ap lines (shift text b more) ∙ h.1 ∙ ap (λ ls. ls ++ h.0) (complete_lines_push text b e))
 
 pub lines_later : (text more : List ℕ) → Later text more
-unfolding Later
 lines_later text [] = (if_any (unfinished_line text), ap lines (append-nil text))
 lines_later text (b ∷ more) = later_step text b more (is_line_end b) refl (lines_later (text ++ b ∷ []) more)
+
+not_true : (b : Bool) → ¬ (b ≡ true) → b ≡ false
+not_true true h = absurd (h refl)
+not_true false h = refl
+
+-- a text in which no byte ends a line, by its places
+pub no_end : (bytes : List ℕ) → ((k : ℕ) → k < length bytes → ¬ (is_line_end (slice_index bytes k) ≡ true)) → HasNoEnd bytes
+no_end [] h = tt
+no_end (b ∷ bytes) h = (not_true (is_line_end b) (h 0 (omega arith)), no_end bytes (λ k l. h (suc k) (omega arith)))
+
+-- the first line of a text that has a line end
+pub first_line : (text : List ℕ) (end : ℕ) → ((k : ℕ) → k < end → ¬ (is_line_end (slice_index text k) ≡ true)) → end < length text → is_line_end (slice_index text end) ≡ true →
+    HasNoEnd (take end text) × (text ≡ take end text ++ (10 ∷ drop 1 (drop end text)))
+first_line [] end h l e = absurd (omega arith)
+first_line (b ∷ text) zero h l e = (tt, ap (λ c. c ∷ text) (eqb-true b 10 e))
+first_line (b ∷ text) (suc end) h l e =
+    let rest = first_line text end (λ k m. h (suc k) (omega arith)) (omega arith) e in
+    ((not_true (is_line_end b) (h 0 (omega arith)), rest.0), ap (λ t. b ∷ t) rest.1)
+
+-- what a search for LF finds
+pub no_cut : (rest : List ℕ) → IsFirstByte (is_byte 10) rest None → HasNoEnd rest
+no_cut rest h = no_end rest (λ k l. h k (omega arith) l)
+
+pub first_cut : (rest : List ℕ) (end : ℕ) → IsFirstByte (is_byte 10) rest (Some end) → HasNoEnd (take end rest) × (rest ≡ take end rest ++ (10 ∷ drop 1 (drop end rest)))
+first_cut rest end h = first_line rest end (λ k l. h.0.before k (omega arith) l) h.0.high h.1
+
+pub chunk_cut : (chunk front rest part after : List ℕ) (end : ℕ) → chunk ≡ front ++ rest → part ≡ take end rest → after ≡ drop 1 (drop end rest) → IsFirstByte (is_byte 10) rest (Some end) →
+    chunk ≡ front ++ ((part ++ 10 ∷ []) ++ after)
+chunk_cut chunk front rest part after end whole p a h =
+    whole ∙ ap (λ xs. front ++ xs) ((first_cut rest end h).1 ∙ ap (λ xs. xs ++ (10 ∷ drop 1 (drop end rest))) (sym p) ∙ ap (λ xs. part ++ (10 ∷ xs)) (sym a) ∙ sym (append_assoc part (10 ∷ []) after))

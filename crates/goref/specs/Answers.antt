@@ -1,5 +1,5 @@
 -- The texts of answers.
-use Rattle.std.specs.Prelude.{◌≡◌, ℕ, ◌⊎◌, Bool, true, false, if◌then◌else◌, List, [], ◌∷◌, ◌++◌, Option, Some, None, codes, decimal}
+use Rattle.std.specs.Prelude.{◌≡◌, ℕ, ◌⊎◌, Bool, true, false, if◌then◌else◌, List, [], ◌++◌, Option, Some, None, codes, decimal}
 use Rattle.std.specs.List.{join_with_byte}
 use Rattle.goref.specs.declared.decision.Decision.{Decision}
 use Rattle.goref.specs.declared.decision.Decision.TheVariants.{Done, Ends, Tells, Refused}

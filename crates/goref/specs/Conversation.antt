@@ -2,7 +2,7 @@
 use Rattle.std.specs.Prelude.{◌≡◌, ℕ, true, false, List, [], ◌∷◌, ◌++◌, Option, Some, None}
 use Rattle.go_board.specs.Device.{then_bytes}
 use Rattle.goref.specs.Games.{Standing}
-use Rattle.goref.specs.Kept.{Kept, kept}
+use Rattle.goref.specs.Kept.{kept}
 use Rattle.goref.specs.Contents.{Content, nothing, Pair, then_pairs}
 use Rattle.goref.specs.Answers.{Said, Reply, wants}
 
@@ -16,12 +16,12 @@ Asks (Some name) content asked = asked ≡ (name, content) ∷ []
 pub data Conversation : Standing → List (List ℕ) → List Pair → List ℕ → Type 0 where
   ends : (s : Standing) → Conversation s [] [] []
   quits : (s : Standing) (line : List ℕ) (lines : List (List ℕ)) (content : Content) (asked : List Pair) (reply : Said) →
-    Asks (wants (kept line)) content asked → Reply s (kept line) content reply → reply.ends ≡ true →
-    Conversation s (line ∷ lines) asked reply.text
+      Asks (wants (kept line)) content asked → Reply s (kept line) content reply → reply.ends ≡ true →
+      Conversation s (line ∷ lines) asked reply.text
   goes_on : (s : Standing) (line : List ℕ) (lines : List (List ℕ)) (content : Content) (asked : List Pair) (reply : Said) (later : List Pair) (rest : List ℕ) →
-    Asks (wants (kept line)) content asked → Reply s (kept line) content reply → reply.ends ≡ false →
-    Conversation reply.standing lines later rest →
-    Conversation s (line ∷ lines) (asked ++ later) (reply.text ++ rest)
+      Asks (wants (kept line)) content asked → Reply s (kept line) content reply → reply.ends ≡ false →
+      Conversation reply.standing lines later rest →
+      Conversation s (line ∷ lines) (asked ++ later) (reply.text ++ rest)
 
 -- a run that answered these lines, by what the shelf was asked and what the writer took
 pub record Converses (s : Standing) (lines : List (List ℕ)) (given given' : Option (List Pair)) (taken taken' : Option (List ℕ)) : Type 0 where

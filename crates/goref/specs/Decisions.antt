@@ -1,5 +1,5 @@
 -- What is decided on a line: what the answer tells, and what stands then.
-use Rattle.std.specs.Prelude.{◌≡◌, ℕ, ℤ, ◌&&◌, ◌⊎◌, nat_le, Bool, true, false, not, is_some, if◌then◌else◌, List, [], ◌∷◌, Option, Some, None, option_and_then, slice_get, codes}
+use Rattle.std.specs.Prelude.{◌≡◌, ℕ, ◌&&◌, ◌⊎◌, nat_le, is_some, if◌then◌else◌, List, Option, Some, None, option_and_then, slice_get}
 use Rattle.std.specs.Option.{option_and_then}
 use Rattle.go_board.specs.declared.size.TheConstants.{MAX_LINES}
 use Rattle.goref.specs.declared.command.Command.{Command}
@@ -7,11 +7,10 @@ use Rattle.goref.specs.declared.command.Command.TheVariants as command
 use Rattle.goref.specs.declared.decision.Decision.{Decision}
 use Rattle.goref.specs.declared.decision.Decision.TheVariants.{Done, Ends, Tells, Refused}
 use Rattle.goref.specs.declared.decision.Fact.TheVariants.{Protocol, Program, Release, Commands, Known}
-use Rattle.goref.specs.declared.decision.Refusal.TheVariants.{LineTooLong, UnknownCommand, SyntaxError, UnacceptableSize, OutOfMemory}
+use Rattle.goref.specs.declared.decision.Refusal.TheVariants.{UnknownCommand, SyntaxError, UnacceptableSize, OutOfMemory}
 use Rattle.goref.specs.Games.{Standing, begun}
-use Rattle.goref.specs.Kept.{Kept, has_bytes, words}
 use Rattle.goref.specs.Words.{int_of}
-use Rattle.goref.specs.Requests.{Asked, asked_by, id_of_cut}
+use Rattle.goref.specs.Requests.{Asked}
 use Rattle.goref.specs.Contents.{Content}
 use Rattle.goref.specs.Commands.{command_of}
 

@@ -1,5 +1,5 @@
 -- What stands in a game: its size, komi, start and moves.
-use Rattle.std.specs.Prelude.{ℕ, ℤ, pos, ◌*◌, List, [], None, replicate}
+use Rattle.std.specs.Prelude.{ℕ, ℤ, ◌*◌, List, [], None, replicate}
 use Rattle.go_board.specs.declared.colour.Colour.{Colour}
 use Rattle.go_board.specs.declared.colour.Colour.TheVariants.{Black}
 use Rattle.go_board.specs.declared.vertex.Move.{Move}

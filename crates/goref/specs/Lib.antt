@@ -11,3 +11,4 @@ pub mod Answers
 pub mod Replies
 pub mod Conversation
 pub mod Progress
+pub mod Runs

@@ -15,7 +15,7 @@ use Rattle.goref.specs.Conversation.{Asks, Conversation, Converses, BreaksOff}
 -- whatever follows from the standing now, all of it is one session from the first standing
 pub record Reaches (s : Standing) (lines : List (List ℕ)) (asked : List Pair) (text : List ℕ) (now : Standing) : Type 0 where
   pub on : (more : List (List ℕ)) (later : List Pair) (rest : List ℕ) → Conversation now more later rest →
-    Conversation s (lines ++ more) (asked ++ later) (text ++ rest)
+      Conversation s (lines ++ more) (asked ++ later) (text ++ rest)
 
 -- a run that has read these bytes, and answered the lines that are complete
 pub record Progress (s : Standing) (read : List ℕ) (line : Kept) (now : Standing) (given given' : Option (List Pair)) (taken taken' : Option (List ℕ)) : Type 0 where
@@ -45,3 +45,8 @@ pub record Fetches (line : Kept) (content : Content) (given given' : Option (Lis
   pub asked : List Pair
   pub asks : Asks (wants line) content asked
   pub tells : given' ≡ then_pairs given asked
+
+-- a run whose input ended behind these bytes: all lines were answered, or it broke off by a fault
+abbrev pub Finishes : {T : Type 0} → Result T WriteFault → Standing → List ℕ → Option (List Pair) → Option (List Pair) → Option (List ℕ) → Option (List ℕ) → Type 0
+Finishes (Ok x) s read given given' taken taken' = Converses s (lines read) given given' taken taken'
+Finishes (Err e) s read given given' taken taken' = BreaksOff s (lines read) given given' taken taken'

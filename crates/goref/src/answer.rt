@@ -11,7 +11,12 @@ use std::alloc::Allocator;
 
 /// Writes the answer with this id by a decision over the session. On a fault what was written is a
 /// front of the answer.
-pub fn write_answer<A: Allocator + Copy, W: Sink>(session: &Session<A>, id: Option<u32>, decision: Decision, writer: &mut W) -> Result<(), WriteFault>
+pub fn write_answer<A: Allocator + Copy, W: Sink>(
+    session: &Session<A>,
+    id: Option<u32>,
+    decision: Decision,
+    writer: &mut W,
+) -> Result<(), WriteFault>
     ensures sent { Sent result (W.taken writer.old) (W.taken writer.new) (decision_text id decision session.now) }
     ensures failures { W.failures writer.new ≡ failures_after result (W.failures writer.old) }
 {
@@ -20,7 +25,13 @@ pub fn write_answer<A: Allocator + Copy, W: Sink>(session: &Session<A>, id: Opti
     pen.finish()
 }
 
-fn put_answer<A: Allocator + Copy, W: Sink>(session: &Session<A>, id: Option<u32>, decision: Decision, pen: &mut Pen, writer: &mut W)
+fn put_answer<A: Allocator + Copy, W: Sink>(
+    session: &Session<A>,
+    id: Option<u32>,
+    decision: Decision,
+    pen: &mut Pen,
+    writer: &mut W,
+)
     ensures { Adds (place pen.old.has_failed (W.taken writer.old) (W.failures writer.old))
         (place pen.new.has_failed (W.taken writer.new) (W.failures writer.new)) (decision_text id decision session.now) }
 {
@@ -41,7 +52,13 @@ fn put_empty<W: Sink>(id: Option<u32>, pen: &mut Pen, writer: &mut W)
     pen.put(b"\n\n", writer);
 }
 
-fn put_told<A: Allocator + Copy, W: Sink>(session: &Session<A>, id: Option<u32>, fact: Fact, pen: &mut Pen, writer: &mut W)
+fn put_told<A: Allocator + Copy, W: Sink>(
+    session: &Session<A>,
+    id: Option<u32>,
+    fact: Fact,
+    pen: &mut Pen,
+    writer: &mut W,
+)
     ensures { Adds (place pen.old.has_failed (W.taken writer.old) (W.failures writer.old))
         (place pen.new.has_failed (W.taken writer.new) (W.failures writer.new)) (codes "=" ++ (id_text id ++ (codes " " ++ (fact_text fact session.now ++ codes "\n\n")))) }
 {
@@ -73,7 +90,12 @@ fn put_id<W: Sink>(id: Option<u32>, pen: &mut Pen, writer: &mut W)
     }
 }
 
-fn put_fact<A: Allocator + Copy, W: Sink>(session: &Session<A>, fact: Fact, pen: &mut Pen, writer: &mut W)
+fn put_fact<A: Allocator + Copy, W: Sink>(
+    session: &Session<A>,
+    fact: Fact,
+    pen: &mut Pen,
+    writer: &mut W,
+)
     ensures { Adds (place pen.old.has_failed (W.taken writer.old) (W.failures writer.old))
         (place pen.new.has_failed (W.taken writer.new) (W.failures writer.new)) (fact_text fact session.now) }
 {

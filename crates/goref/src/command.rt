@@ -16,7 +16,8 @@ pub enum Command {
 }
 
 /// The names of all commands, each on a line of its own.
-const LISTING: &[u8] = b"protocol_version\nname\nversion\nknown_command\nlist_commands\nquit\nboardsize\nclear_board";
+const LISTING: &[u8] =
+    b"protocol_version\nname\nversion\nknown_command\nlist_commands\nquit\nboardsize\nclear_board";
 
 /// The command of this name.
 pub fn command_named(name: &[u8]) -> Option<Command>

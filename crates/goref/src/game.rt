@@ -24,7 +24,11 @@ impl<A: Allocator + Copy> Game<A> {
     pub fn new(alloc: A, size: Size) -> Game<A>
         ensures { result ≡ begun (lines_of size) (pos 0) }
     {
-        Game { alloc, size, komi: 0 }
+        Game {
+            alloc,
+            size,
+            komi: 0,
+        }
     }
 
     pub fn size(&self) -> Size

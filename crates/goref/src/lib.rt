@@ -8,11 +8,13 @@ mod flow;
 mod game;
 mod line;
 mod request;
+mod runs;
 mod session;
 mod shelf;
 mod words;
 
 pub use flow::{Flow, RunError};
 pub use line::{LINE_LIMIT, Line};
+pub use runs::{READS, run, run_within};
 pub use session::Session;
-pub use shelf::{Fetched, Shelf};
+pub use shelf::{Fetched, Shelf, wants};

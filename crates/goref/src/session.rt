@@ -41,12 +41,19 @@ impl<A: Allocator + Copy> Session<A> {
     pub fn new(alloc: A, size: Size) -> Session<A>
         ensures { result ≡ begun (lines_of size) (pos 0) }
     {
-        Session { game: Game::new(alloc, size) }
+        Session {
+            game: Game::new(alloc, size),
+        }
     }
 
     /// Answers a line. On a fault what was written is a front of the answer, and the session stands
     /// as after the command.
-    pub fn answer<W: Sink>(&mut self, line: &Line, fetched: Fetched<A>, writer: &mut W) -> Result<Flow, WriteFault>
+    pub fn answer<W: Sink>(
+        &mut self,
+        line: &Line,
+        fetched: Fetched<A>,
+        writer: &mut W,
+    ) -> Result<Flow, WriteFault>
         ensures answered { Answered self.old self.new line.now (content_of fetched) result (W.taken writer.old) (W.taken writer.new) }
         ensures failures { W.failures writer.new ≡ failures_after result (W.failures writer.old) }
     {

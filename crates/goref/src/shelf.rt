@@ -1,6 +1,8 @@
-ghost use Rattle.std.specs.Prelude.{◌≡◌, ◌∷◌, [], List, Option};
+ghost use Rattle.std.specs.Prelude.{◌≡◌, ◌∷◌, [], List, Option, option_copied};
 ghost use Rattle.goref.specs.Contents.{Pair, content_of, then_pairs};
+ghost use Rattle.goref.specs.Answers.{wants as wants_of};
 
+use crate::line::Line;
 use std::alloc::Allocator;
 
 /// What was fetched for a line.
@@ -26,4 +28,11 @@ pub trait Shelf<A: Allocator> {
     /// Fetches the file of this name.
     fn fetch(&mut self, name: &[u8]) -> Fetched<A>
         ensures { given self.new ≡ then_pairs (given self.old) ((name.now, content_of result) ∷ []) };
+}
+
+/// The name of the file that a line wants fetched.
+pub fn wants(_line: &Line) -> Option<&[u8]>
+    ensures { option_copied result ≡ wants_of _line.now }
+{
+    None
 }

@@ -3,11 +3,16 @@
 
 ghost use Rattle.std.specs.Prelude.{◌≡◌};
 ghost use Rattle.clap.specs.Values.{kind_of};
-ghost use Rattle.goref_program.specs.Status.{words_status};
+ghost use Rattle.goref_program.specs.Status.{run_status, words_status};
 
+mod files;
+
+use files::NoFiles;
+use go_board::Size;
+use goref::{RunError, run};
+use goref_streams::{Input, Output};
 use goref_words::{Task, task_of};
 use std::process::ExitCode;
-use goref_streams::{Input, Output};
 
 /// The exit status where the words are refused.
 const REFUSED: u8 = 2;
@@ -39,10 +44,17 @@ fn all_words(rt: &HostRuntime) -> Option<Vec<String>> {
     }
 }
 
+fn unreadable(rt: &HostRuntime) -> u8
+    ensures { result ≡ REFUSED }
+{
+    let _ = eprintln!(rt; "goref: the words cannot be read");
+    REFUSED
+}
+
 /// Does what the words ask, and gives the exit status.
 fn obeyed(rt: &HostRuntime, words: &Vec<&str>) -> u8 {
     match task_of(rt.alloc(), words.as_slice()) {
-        Ok(Task::Gtp(_size)) => 0,
+        Ok(Task::Gtp(size)) => ended(rt, gtp(rt, size)),
         Err(error) => told(rt, &error),
     }
 }
@@ -55,9 +67,24 @@ fn told(rt: &HostRuntime, error: &clap::Error) -> u8
     if error.use_stderr() { REFUSED } else { 0 }
 }
 
-fn unreadable(rt: &HostRuntime) -> u8 {
-    let _ = eprintln!(rt; "goref: the words cannot be read");
-    REFUSED
+/// Answers the commands that come on the standard input.
+fn gtp(rt: &HostRuntime, size: Size) -> Result<(), RunError> {
+    let mut input = Input::new(rt.stdin());
+    let mut output = Output::new(rt.stdout());
+    run(rt.alloc(), size, &mut input, &mut output, &mut NoFiles)
+}
+
+/// Tells of the fault that a run met.
+fn ended(rt: &HostRuntime, outcome: Result<(), RunError>) -> u8
+    ensures { result ≡ run_status outcome }
+{
+    match outcome {
+        Ok(()) => 0,
+        Err(fault) => {
+            let _ = eprintln!(rt; "goref: {fault}");
+            FAULT
+        }
+    }
 }
 
 #[cfg(test)]

@@ -32,6 +32,7 @@ impl<R: Read> Model for Input<R> {
 }
 
 impl<R: Read> Input<R> {
+    /// A device over this stream, which nothing was read from.
     pub fn new(stream: R) -> Input<R>
         ensures { result ≡ record { left = R.remaining stream; pulls = 0; failures = 0 } }
     {
@@ -86,6 +87,7 @@ impl<W: Write> Model for Output<W> {
 }
 
 impl<W: Write> Output<W> {
+    /// A device over this stream, which keeps nothing back so far.
     pub fn new(stream: W) -> Output<W>
         ensures { result ≡ record { held = W.contents stream; kept = []; failures = 0 } }
     {

@@ -1,4 +1,3 @@
-use Rattle.std.proofs.Common.{◌≡◌, Result}
 use Rattle.go_board.specs.Writing.{finished}
 use Rattle.goref.proofs.answer.write_answer.Goals as goal
 

@@ -1,0 +1,197 @@
+ghost use Rattle.std.specs.Prelude.{◌≡◌, ◌≤◌, ◌+◌, ℕ, List, [], ◌∷◌, ◌++◌, Option, IfOk, IfSome, OnOk, IsErrOf, pos};
+ghost use Rattle.go_board.specs.Device.{failures_after};
+ghost use Rattle.go_board.specs.Sizes.{lines_of};
+ghost use Rattle.goref.specs.Games.{Standing, begun};
+ghost use Rattle.goref.specs.Lines.{HasNoEnd, lines};
+ghost use Rattle.goref.specs.Contents.{Pair, content_of};
+ghost use Rattle.goref.specs.Conversation.{Converses, BreaksOff};
+ghost use Rattle.goref.specs.Progress.{Fetches, Responds, Progress, Proceeds, Finishes};
+ghost use Rattle.goref.specs.Runs.{AnswersComplete, AnswersFront, read_failures_after, write_failures_after};
+
+use crate::flow::{Flow, RunError};
+use crate::line::Line;
+use crate::session::Session;
+use crate::shelf::{Fetched, Shelf, wants};
+use go_board::{Failed, Sink, Size, Source, WriteFault};
+use memchr::memchr;
+use std::alloc::Allocator;
+
+/// The most reads that a run makes.
+pub const READS: u64 = 1 << 40;
+
+/// Reads lines and answers each before the next read, up to `quit` or to the end of the input. A
+/// last line without a line end is answered too. It makes at most [`READS`] reads.
+pub fn run<A: Allocator + Copy, R: Source, W: Sink, S: Shelf<A>>(
+    alloc: A,
+    size: Size,
+    reader: &mut R,
+    writer: &mut W,
+    shelf: &mut S,
+) -> Result<(), RunError>
+    ensures ok { OnOk result (IfSome (R.left reader.old) (λ input.
+        Converses (begun (lines_of size) (pos 0)) (lines input) (S.given shelf.old) (S.given shelf.new) (W.taken writer.old) (W.taken writer.new))) }
+    ensures read { IsErrOf result RunError.Read →
+        AnswersComplete (begun (lines_of size) (pos 0)) (R.left reader.old) (R.left reader.new) (S.given shelf.old) (S.given shelf.new) (W.taken writer.old) (W.taken writer.new) }
+    ensures endless { IsErrOf result RunError.Endless →
+        AnswersComplete (begun (lines_of size) (pos 0)) (R.left reader.old) (R.left reader.new) (S.given shelf.old) (S.given shelf.new) (W.taken writer.old) (W.taken writer.new) }
+    ensures write { IsErrOf result RunError.Write →
+        AnswersFront (begun (lines_of size) (pos 0)) (R.left reader.old) (R.left reader.new) (S.given shelf.old) (S.given shelf.new) (W.taken writer.old) (W.taken writer.new) }
+    ensures read_failures { R.failures reader.new ≡ read_failures_after result (R.failures reader.old) }
+    ensures write_failures { W.failures writer.new ≡ write_failures_after result (W.failures writer.old) }
+    ensures pulls { R.pulls reader.new ≤ R.pulls reader.old + READS }
+    ensures all_pulls { IsErrOf result RunError.Endless → R.pulls reader.new ≡ R.pulls reader.old + READS }
+{
+    run_within(READS, alloc, size, reader, writer, shelf)
+}
+
+/// As [`run`], with this number of reads at most.
+pub fn run_within<A: Allocator + Copy, R: Source, W: Sink, S: Shelf<A>>(
+    limit: u64,
+    alloc: A,
+    size: Size,
+    reader: &mut R,
+    writer: &mut W,
+    shelf: &mut S,
+) -> Result<(), RunError>
+    ensures ok { OnOk result (IfSome (R.left reader.old) (λ input.
+        Converses (begun (lines_of size) (pos 0)) (lines input) (S.given shelf.old) (S.given shelf.new) (W.taken writer.old) (W.taken writer.new))) }
+    ensures read { IsErrOf result RunError.Read →
+        AnswersComplete (begun (lines_of size) (pos 0)) (R.left reader.old) (R.left reader.new) (S.given shelf.old) (S.given shelf.new) (W.taken writer.old) (W.taken writer.new) }
+    ensures endless { IsErrOf result RunError.Endless →
+        AnswersComplete (begun (lines_of size) (pos 0)) (R.left reader.old) (R.left reader.new) (S.given shelf.old) (S.given shelf.new) (W.taken writer.old) (W.taken writer.new) }
+    ensures write { IsErrOf result RunError.Write →
+        AnswersFront (begun (lines_of size) (pos 0)) (R.left reader.old) (R.left reader.new) (S.given shelf.old) (S.given shelf.new) (W.taken writer.old) (W.taken writer.new) }
+    ensures read_failures { R.failures reader.new ≡ read_failures_after result (R.failures reader.old) }
+    ensures write_failures { W.failures writer.new ≡ write_failures_after result (W.failures writer.old) }
+    ensures pulls { R.pulls reader.new ≤ R.pulls reader.old + limit }
+    ensures all_pulls { IsErrOf result RunError.Endless → R.pulls reader.new ≡ R.pulls reader.old + limit }
+{
+    let mut session = Session::new(alloc, size);
+    let mut line = Line::new();
+    let mut buffer = [0u8; 4096];
+    for _ in 0..limit {
+        let count = match reader.pull(&mut buffer) {
+            Ok(count) => count,
+            Err(Failed) => return Err(RunError::Read),
+        };
+        if count == 0 {
+            return match end_input(&mut session, &line, writer, shelf) {
+                Ok(()) => Ok(()),
+                Err(WriteFault) => Err(RunError::Write),
+            };
+        }
+        let (chunk, _) = buffer.split_at(count);
+        match feed(&mut session, &mut line, chunk, writer, shelf) {
+            Ok(Flow::More) => {}
+            Ok(Flow::Quit) => return Ok(()),
+            Err(WriteFault) => return Err(RunError::Write),
+        }
+    }
+    Err(RunError::Endless)
+}
+
+/// Takes more bytes of the input, and answers each line that they complete.
+fn feed<A: Allocator + Copy, W: Sink, S: Shelf<A>>(
+    session: &mut Session<A>,
+    line: &mut Line,
+    chunk: &[u8],
+    writer: &mut W,
+    shelf: &mut S,
+) -> Result<Flow, WriteFault>
+    ensures proceeds { (start : Standing) (read : List ℕ) (given : Option (List Pair)) (taken : Option (List ℕ)) →
+        Progress start read line.old session.old given (S.given shelf.old) taken (W.taken writer.old) →
+        Proceeds result start (read ++ chunk.now) line.new session.new given (S.given shelf.new) taken (W.taken writer.new) }
+    ensures failures { W.failures writer.new ≡ failures_after result (W.failures writer.old) }
+{
+    let mut rest = chunk;
+    while let Some(end) = memchr(b'\n', rest) {
+        let (part, after) = rest.split_at(end);
+        match end_line(session, line, part, writer, shelf) {
+            Ok(Flow::More) => {}
+            Ok(Flow::Quit) => return Ok(Flow::Quit),
+            Err(WriteFault) => return Err(WriteFault),
+        }
+        rest = after.split_at(1).1;
+    }
+    line.extend(rest);
+    Ok(Flow::More)
+}
+
+/// Takes the last bytes of a line, answers it, and begins the next.
+fn end_line<A: Allocator + Copy, W: Sink, S: Shelf<A>>(
+    session: &mut Session<A>,
+    line: &mut Line,
+    part: &[u8],
+    writer: &mut W,
+    shelf: &mut S,
+) -> Result<Flow, WriteFault>
+    requires { HasNoEnd part.now }
+    ensures proceeds { (start : Standing) (read : List ℕ) (given : Option (List Pair)) (taken : Option (List ℕ)) →
+        Progress start read line.old session.old given (S.given shelf.old) taken (W.taken writer.old) →
+        Proceeds result start (read ++ (part.now ++ 10 ∷ [])) line.new session.new given (S.given shelf.new) taken (W.taken writer.new) }
+    ensures failures { W.failures writer.new ≡ failures_after result (W.failures writer.old) }
+{
+    line.extend(part);
+    let result = respond(session, line, writer, shelf);
+    line.clear();
+    result
+}
+
+/// Answers a last line without a line end, if there is one.
+fn end_input<A: Allocator + Copy, W: Sink, S: Shelf<A>>(
+    session: &mut Session<A>,
+    line: &Line,
+    writer: &mut W,
+    shelf: &mut S,
+) -> Result<(), WriteFault>
+    ensures finishes { (start : Standing) (read : List ℕ) (given : Option (List Pair)) (taken : Option (List ℕ)) →
+        Progress start read line.now session.old given (S.given shelf.old) taken (W.taken writer.old) →
+        Finishes result start read given (S.given shelf.new) taken (W.taken writer.new) }
+    ensures failures { W.failures writer.new ≡ failures_after result (W.failures writer.old) }
+{
+    match respond(session, line, writer, shelf) {
+        Ok(_) => Ok(()),
+        Err(WriteFault) => Err(WriteFault),
+    }
+}
+
+/// Fetches what a line wants, answers the line, and passes the answer on.
+fn respond<A: Allocator + Copy, W: Sink, S: Shelf<A>>(
+    session: &mut Session<A>,
+    line: &Line,
+    writer: &mut W,
+    shelf: &mut S,
+) -> Result<Flow, WriteFault>
+    ensures responds { Responds session.old session.new line.now result (S.given shelf.old) (S.given shelf.new) (W.taken writer.old) (W.taken writer.new) }
+    ensures failures { W.failures writer.new ≡ failures_after result (W.failures writer.old) }
+{
+    let fetched = fetch_for(line, shelf);
+    match session.answer(line, fetched, writer) {
+        Ok(flow) => pass_on(line, flow, writer),
+        Err(WriteFault) => Err(WriteFault),
+    }
+}
+
+fn fetch_for<A: Allocator + Copy, S: Shelf<A>>(line: &Line, shelf: &mut S) -> Fetched<A>
+    ensures { Fetches line.now (content_of result) (S.given shelf.old) (S.given shelf.new) }
+{
+    match wants(line) {
+        Some(name) => shelf.fetch(name),
+        None => Fetched::None,
+    }
+}
+
+/// Flushes the answer of a line, where it has one.
+fn pass_on<W: Sink>(line: &Line, flow: Flow, writer: &mut W) -> Result<Flow, WriteFault>
+    ensures same { IfOk result (λ passed. passed ≡ flow) }
+    ensures bytes { W.taken writer.new ≡ W.taken writer.old }
+    ensures failures { W.failures writer.new ≡ failures_after result (W.failures writer.old) }
+{
+    if line.text().is_empty() {
+        return Ok(flow);
+    }
+    match writer.flush() {
+        Ok(()) => Ok(flow),
+        Err(Failed) => Err(WriteFault),
+    }
+}
