@@ -7,3 +7,5 @@ mod board;
 mod games;
 #[cfg(test)]
 mod lines;
+#[cfg(test)]
+mod scripts;
