@@ -89,9 +89,9 @@ pub each_more : (n : ℕ) (items : List Point) (i : ℕ) (M : ℕ → Type 0) �
 each_more n items i M low done here k q below at = elim (cases_lt k i) [
   | inl before ↦ done k q before at
   | inr last ↦
-    let k_is : k ≡ i = omega arith in
-    let q_is : get_or items i origin ≡ q = get_or_default items i origin q low ∙ ap (λ m. get_or items m q) (sym k_is) ∙ at in
-    subst (λ (r : Point). M (number_of n r)) q_is here
+      let k_is : k ≡ i = omega arith in
+      let q_is : get_or items i origin ≡ q = get_or_default items i origin q low ∙ ap (λ m. get_or items m q) (sym k_is) ∙ at in
+      subst (λ (r : Point). M (number_of n r)) q_is here
 ]
 
 -- when all neighbours were looked at, M holds of each adjacent point

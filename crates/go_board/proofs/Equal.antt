@@ -1,5 +1,5 @@
 -- Colourings that agree at each point are equal.
-use Rattle.std.proofs.Common.{arith, ◌≡◌, ◌<◌, ◌≤◌, ◌*◌, ◌∙◌, ℕ, None, ap₂, length, refl, sym}
+use Rattle.std.proofs.Common.{◌≡◌, ◌<◌, ◌∙◌, ℕ, None, ap₂, length, refl, sym}
 use Rattle.std.proofs.lemmas.List.FromFn.{fill_by_all}
 use Rattle.go_board.specs.Grids.{GridValue}
 use Rattle.go_board.specs.Colours.{Colouring, colour_at}

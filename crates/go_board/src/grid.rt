@@ -63,7 +63,8 @@ impl Grid {
         requires { IsOn self.now.lines p }
         ensures { result ≡ colour_at self.now.colours (number_of self.now.lines p) }
     {
-        self.cells[usize::from(p.index(self.size))]
+        let number = p.index(self.size);
+        self.cells[usize::from(number)]
     }
 
     /// Gives a point of the board a colour, or empties it.

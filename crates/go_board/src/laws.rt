@@ -26,5 +26,4 @@ pub fn liberty_by_a_path()
 /// No more stones of a colour vanish than the board has points.
 pub fn vanished_at_most_all()
     ensures { (n : ℕ) (before after : Colouring) (c : Colour) → vanished n before after c ≤ n * n }
-{
-}
+{}

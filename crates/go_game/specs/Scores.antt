@@ -1,5 +1,5 @@
 -- Areas, margins and their texts.
-use Rattle.std.specs.Prelude.{◌≡◌, ◌+◌, ◌*◌, ◌/◌, ◌%◌, ◌++◌, ◌==◌, ◌-ℤ◌, ℕ, ℤ, pos, negsuc, List, [], ◌∷◌, codes, decimal, if◌then◌else◌}
+use Rattle.std.specs.Prelude.{◌+◌, ◌*◌, ◌/◌, ◌%◌, ◌++◌, ◌==◌, ◌-ℤ◌, ℕ, ℤ, pos, negsuc, List, [], ◌∷◌, codes, decimal, if◌then◌else◌}
 use Rattle.go_board.specs.declared.colour.Colour.{Colour}
 use Rattle.go_board.specs.declared.colour.Colour.TheVariants.{Black, White}
 use Rattle.go_board.specs.Reaching.{area}

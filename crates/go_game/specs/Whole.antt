@@ -2,7 +2,6 @@
 use Rattle.std.specs.Prelude.{◌+◌, ℕ, Bool, List, [], ◌∷◌, Option, Some, None, if◌then◌else◌}
 use Rattle.std.specs.Cmp.Lexicographic.{pointwise}
 use Rattle.go_board.specs.declared.colour.Colour.{Colour}
-use Rattle.go_board.specs.declared.colour.Colour.TheVariants.{Black, White}
 use Rattle.go_board.specs.Colours.{Colouring}
 use Rattle.go_board.specs.Chains.{Chain, chains}
 use Rattle.go_board.specs.Reaching.{is_same}

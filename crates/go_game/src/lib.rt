@@ -1,14 +1,15 @@
 //! A game of Go: its start and its moves, what is legal, prisoners, and exact undo.
 #![tactic(auto)]
 
-pub mod laws;
-
 mod errors;
 mod game;
+mod handicap;
+pub mod laws;
 mod prisoners;
 mod score;
 mod step;
 
 pub use errors::{PlayError, SetupError};
 pub use game::{Game, MAX_KOMI};
+pub use handicap::{fixed_points, greatest_handicap};
 pub use score::{hundredths_text, score_text};

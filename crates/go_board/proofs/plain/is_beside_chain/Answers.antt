@@ -1,4 +1,4 @@
-use Rattle.std.proofs.Common.{arith, ◌≡◌, ◌∙◌, ℕ, ap, false, refl, subst, sym, true, true≢false}
+use Rattle.std.proofs.Common.{◌∙◌, ℕ, ap, subst, sym, true≢false}
 use Rattle.std.proofs.lemmas.Bool.{false_from_ne_true}
 use Rattle.std.proofs.Math.ListN.{get_or}
 use Rattle.go_board.specs.Flood.{IsMarked}

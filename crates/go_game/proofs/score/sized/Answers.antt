@@ -1,4 +1,4 @@
-use Rattle.std.proofs.Common.{arith, ◌≡◌, ◌<◌, ◌≤◌, ◌+◌, ◌/◌, ◌%◌, ◌^◌, ◌∙◌, ◌++◌, List, ℕ, ap, append_assoc, decimal, length, length-append, sym}
+use Rattle.std.proofs.Common.{arith, ◌≤◌, ◌/◌, ◌%◌, ◌∙◌, ◌++◌, List, ℕ, ap, append_assoc, decimal, length, length-append}
 use Rattle.std.proofs.lemmas.Fmt.{length-decimal-le}
 use Rattle.go_game.specs.Scores.{decimals_of, size_text}
 use Rattle.go_game.proofs.score.sized.Goals as goal

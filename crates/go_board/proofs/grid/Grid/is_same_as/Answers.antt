@@ -1,5 +1,4 @@
-use Rattle.std.proofs.Common.{arith, ◌≡◌, ◌<◌, ◌*◌, ◌∙◌, ℕ, ap, refl, sym}
-use Rattle.go_board.specs.Grids.{GridValue}
+use Rattle.std.proofs.Common.{arith, ◌≡◌, ◌*◌, ◌∙◌, ℕ, ap, refl, sym}
 use Rattle.go_board.specs.Sizes.{lines_of}
 use Rattle.go_board.proofs.Equal.{equal_grids}
 use Rattle.go_board.proofs.grid.Grid.is_same_as.Goals as goal

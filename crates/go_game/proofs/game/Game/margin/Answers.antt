@@ -1,5 +1,5 @@
-use Rattle.std.proofs.Common.{arith, ◌≡◌, ◌*◌, ◌∙◌, ◌<◌, ℕ, ap, ap₂}
-use Rattle.std.specs.Prelude.{ℤ, pos, ◌-ℤ◌}
+use Rattle.std.proofs.Common.{arith, ◌*◌, ◌∙◌, ◌<◌, ℕ, ap, ap₂}
+use Rattle.std.specs.Prelude.{pos, ◌-ℤ◌}
 use Rattle.go_board.specs.declared.colour.Colour.TheVariants.{Black, White}
 use Rattle.go_game.specs.Scores.{area_of}
 use Rattle.go_game.specs.Standings.{GameValue}

@@ -1,0 +1,103 @@
+ghost use Rattle.std.specs.Prelude.{◌≡◌, ◌≤◌, ◌<◌, ◌+◌, ◌++◌, ◌%◌, ◌==◌, ◌&&◌, length, min, nat_lt, option_map};
+ghost use Rattle.go_board.specs.declared.size.TheConstants.{MAX_LINES};
+ghost use Rattle.go_board.specs.Sizes.{lines_of};
+ghost use Rattle.go_game.specs.Handicaps.{fixed, greatest, handicap_points, near, point_in, where_wanted};
+
+use arrayvec::ArrayVec;
+use go_board::{Point, Size};
+
+/// The most handicap stones that a board of this size has places for: none below 7 lines, 4 at 7 and
+/// at even sizes, else 9.
+pub fn greatest_handicap(size: Size) -> u32
+    ensures { result ≡ greatest (lines_of size) }
+{
+    let lines = size.lines();
+    if lines < 7 {
+        return 0;
+    }
+    if lines == 7 || lines % 2 == 0 { 4 } else { 9 }
+}
+
+/// Where so many handicap stones stand, or none where the number isn't from 2 to the greatest.
+pub fn fixed_points(size: Size, number: u32) -> Option<ArrayVec<Point, 9>>
+    ensures { option_map (λ points. points.items) result ≡ fixed (lines_of size) number }
+{
+    if number < 2 || greatest_handicap(size) < number {
+        return None;
+    }
+    Some(points_of(size.lines(), number))
+}
+
+/// The points of a valid number of stones: corners, sides, ends, centre.
+fn points_of(lines: u8, number: u32) -> ArrayVec<Point, 9>
+    requires lines { (6 < lines) × (lines ≤ MAX_LINES) }
+    requires number { number ≤ 9 }
+    ensures { result.items ≡ handicap_points lines number }
+{
+    let near = near_line(lines);
+    let far = lines - 1 - near;
+    let middle = lines / 2;
+    let corners = [at(near, near), at(far, far), at(near, far), at(far, near)];
+    let mut points = ArrayVec::new();
+    push_where(&mut points, true, corners.split_at(first_of(number)).0);
+    push_where(
+        &mut points,
+        number >= 6,
+        &[at(near, middle), at(far, middle)],
+    );
+    push_where(
+        &mut points,
+        number >= 8,
+        &[at(middle, near), at(middle, far)],
+    );
+    push_where(&mut points, takes_centre(number), &[at(middle, middle)]);
+    points
+}
+
+/// How many of the four corners so many stones take.
+fn first_of(number: u32) -> usize
+    ensures { result ≡ min 4 number }
+{
+    4.min(number as usize)
+}
+
+/// Whether so many stones take the centre.
+fn takes_centre(number: u32) -> bool
+    ensures { result ≡ (nat_lt 4 number && number % 2 == 1) }
+{
+    number > 4 && number % 2 == 1
+}
+
+/// The line near an edge on which stones stand, from 0.
+fn near_line(lines: u8) -> u8
+    ensures line { result ≡ near lines }
+    ensures small { result ≤ 3 }
+{
+    if lines < 13 { 2 } else { 3 }
+}
+
+fn at(col: u8, row: u8) -> Point
+    ensures { result ≡ point_in col row }
+{
+    Point { col, row }
+}
+
+/// Appends the points where they are wanted.
+fn push_where(points: &mut ArrayVec<Point, 9>, wanted: bool, more: &[Point])
+    requires { length points.old.items + length more.now ≤ 9 }
+    ensures items { points.new.items ≡ points.old.items ++ where_wanted wanted more.now }
+    ensures few { length points.new.items ≤ length points.old.items + length more.now }
+{
+    if wanted {
+        push_all(points, more);
+    }
+}
+
+fn push_all(points: &mut ArrayVec<Point, 9>, more: &[Point])
+    requires { length points.old.items + length more.now ≤ 9 }
+    ensures { points.new.items ≡ points.old.items ++ more.now }
+{
+    for point in more {
+        points.push(*point);
+    }
+}
