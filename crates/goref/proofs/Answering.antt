@@ -5,7 +5,7 @@ use Rattle.go_board.specs.Writing.{then_bytes-nil}
 use Rattle.go_board.specs.declared.device.WriteFault.{WriteFault}
 use Rattle.goref.specs.declared.flow.Flow.{Flow}
 use Rattle.goref.specs.declared.flow.Flow.TheVariants.{More}
-use Rattle.goref.specs.Games.{Standing}
+use Rattle.go_game.specs.Standings.{Standing}
 use Rattle.goref.specs.Kept.{Kept, has_bytes}
 use Rattle.goref.specs.Contents.{Content}
 use Rattle.goref.specs.Decisions.{Decided}

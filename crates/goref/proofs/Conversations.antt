@@ -1,7 +1,7 @@
 -- How a session goes on from line to line.
 use Rattle.std.proofs.Common.{◌≡◌, inl, ℕ, Bool, true, false, List, [], ◌∷◌, ◌++◌, Option, Some, None, refl, sym, subst, append_assoc}
 use Rattle.std.proofs.lemmas.List.{append-nil}
-use Rattle.goref.specs.Games.{Standing}
+use Rattle.go_game.specs.Standings.{Standing}
 use Rattle.goref.specs.Kept.{kept}
 use Rattle.goref.specs.Contents.{Content, nothing, missing, Pair}
 use Rattle.goref.specs.Answers.{Said, said, Reply, wants}

@@ -7,3 +7,5 @@ pub mod Conversations
 pub mod Answering
 pub mod Progressing
 pub mod Running
+pub mod Legal
+pub mod Moves

@@ -6,8 +6,8 @@ use Rattle.goref.specs.declared.decision.Decision.TheVariants.{Done, Ends, Tells
 use Rattle.goref.specs.declared.decision.Fact.{Fact}
 use Rattle.goref.specs.declared.decision.Fact.TheVariants.{Protocol, Program, Release, Commands, Known}
 use Rattle.goref.specs.declared.decision.Refusal.{Refusal}
-use Rattle.goref.specs.declared.decision.Refusal.TheVariants.{LineTooLong, UnknownCommand, SyntaxError, UnacceptableSize, OutOfMemory}
-use Rattle.goref.specs.Games.{Standing}
+use Rattle.goref.specs.declared.decision.Refusal.TheVariants.{LineTooLong, UnknownCommand, SyntaxError, UnacceptableSize, IllegalMove, CannotUndo, OutOfMemory}
+use Rattle.go_game.specs.Standings.{Standing}
 use Rattle.goref.specs.Kept.{Kept, has_bytes, words}
 use Rattle.goref.specs.Requests.{asked_by, id_of_cut}
 use Rattle.goref.specs.Contents.{Content}
@@ -19,6 +19,8 @@ refusal_text LineTooLong = codes "line too long"
 refusal_text UnknownCommand = codes "unknown command"
 refusal_text SyntaxError = codes "syntax error"
 refusal_text UnacceptableSize = codes "unacceptable size"
+refusal_text IllegalMove = codes "illegal move"
+refusal_text CannotUndo = codes "cannot undo"
 refusal_text OutOfMemory = codes "out of memory"
 
 abbrev pub truth_text : Bool → List ℕ

@@ -1,7 +1,7 @@
 -- A session: lines, what was fetched for them, and the text of the answers.
 use Rattle.std.specs.Prelude.{◌≡◌, ℕ, true, false, List, [], ◌∷◌, ◌++◌, Option, Some, None}
 use Rattle.go_board.specs.Device.{then_bytes}
-use Rattle.goref.specs.Games.{Standing}
+use Rattle.go_game.specs.Standings.{Standing}
 use Rattle.goref.specs.Kept.{kept}
 use Rattle.goref.specs.Contents.{Content, nothing, Pair, then_pairs}
 use Rattle.goref.specs.Answers.{Said, Reply, wants}

@@ -1,5 +1,5 @@
 -- What is decided on a line: what the answer tells, and what stands then.
-use Rattle.std.specs.Prelude.{◌≡◌, ℕ, ◌&&◌, ◌⊎◌, nat_le, is_some, if◌then◌else◌, List, Option, Some, None, option_and_then, slice_get}
+use Rattle.std.specs.Prelude.{◌≡◌, ℕ, ◌&&◌, ◌⊎◌, nat_le, true, is_some, if◌then◌else◌, List, [], ◌∷◌, Option, Some, None, slice_get}
 use Rattle.std.specs.Option.{option_and_then}
 use Rattle.go_board.specs.declared.size.TheConstants.{MAX_LINES}
 use Rattle.goref.specs.declared.command.Command.{Command}
@@ -7,9 +7,18 @@ use Rattle.goref.specs.declared.command.Command.TheVariants as command
 use Rattle.goref.specs.declared.decision.Decision.{Decision}
 use Rattle.goref.specs.declared.decision.Decision.TheVariants.{Done, Ends, Tells, Refused}
 use Rattle.goref.specs.declared.decision.Fact.TheVariants.{Protocol, Program, Release, Commands, Known}
-use Rattle.goref.specs.declared.decision.Refusal.TheVariants.{UnknownCommand, SyntaxError, UnacceptableSize, OutOfMemory}
-use Rattle.goref.specs.Games.{Standing, begun}
-use Rattle.goref.specs.Words.{int_of}
+use Rattle.go_game.specs.declared.errors.PlayError.{PlayError}
+use Rattle.go_game.specs.declared.errors.PlayError.TheVariants.{OffBoard, Occupied, Repeats, Memory}
+use Rattle.goref.specs.declared.decision.Refusal.{Refusal}
+use Rattle.goref.specs.declared.decision.Refusal.TheVariants.{UnknownCommand, SyntaxError, UnacceptableSize, IllegalMove, CannotUndo, OutOfMemory}
+use Rattle.go_board.specs.declared.colour.Colour.{Colour}
+use Rattle.go_board.specs.declared.vertex.Move.{Move}
+use Rattle.go_board.specs.declared.vertex.Vertex.{Vertex}
+use Rattle.go_board.specs.Vertices.{vertex_of}
+use Rattle.go_game.specs.Standings.{Standing, with_move, without_last}
+use Rattle.goref.specs.Starts.{begun}
+use Rattle.goref.specs.Legal.{is_legal, is_open}
+use Rattle.goref.specs.Words.{int_of, colour_of}
 use Rattle.goref.specs.Requests.{Asked}
 use Rattle.goref.specs.Contents.{Content}
 use Rattle.goref.specs.Commands.{command_of}
@@ -37,6 +46,28 @@ abbrev pub decided_size : Standing → Option ℕ → Decided
 decided_size s None = keeps s (Refused SyntaxError)
 decided_size s (Some n) = if nat_le 1 n && nat_le n MAX_LINES then comes_to (begun n s.komi) else keeps s (Refused UnacceptableSize)
 
+-- what the answer tells of a refused move
+abbrev pub move_refusal : PlayError → Refusal
+move_refusal OffBoard = IllegalMove
+move_refusal Occupied = IllegalMove
+move_refusal (Repeats k) = IllegalMove
+move_refusal Memory = OutOfMemory
+
+-- a move, where it is legal
+abbrev pub decided_move : Standing → Colour → Vertex → Decided
+decided_move s c v = if is_legal s c v then comes_to (with_move s (record { colour = c; vertex = v })) else keeps s (Refused IllegalMove)
+
+-- `play`: the move of a colour at a vertex
+abbrev pub decided_play : Standing → Option Colour → Option Vertex → Decided
+decided_play s None vertex = keeps s (Refused SyntaxError)
+decided_play s (Some c) None = keeps s (Refused SyntaxError)
+decided_play s (Some c) (Some v) = decided_move s c v
+
+-- `undo`: the last of these moves is taken back
+abbrev pub decided_undo : Standing → List Move → Decided
+decided_undo s [] = keeps s (Refused CannotUndo)
+decided_undo s (m ∷ moves) = comes_to (without_last 1 s)
+
 -- what is decided on a command with these arguments, the content being what was fetched for it
 abbrev pub decided_on : Standing → Command → List (List ℕ) → Content → Decided
 decided_on s command.ProtocolVersion arguments content = keeps s (Tells Protocol)
@@ -47,6 +78,8 @@ decided_on s command.ListCommands arguments content = keeps s (Tells Commands)
 decided_on s command.Quit arguments content = keeps s Ends
 decided_on s command.Boardsize arguments content = decided_size s (option_and_then int_of (slice_get arguments 0))
 decided_on s command.ClearBoard arguments content = comes_to (begun s.lines s.komi)
+decided_on s command.Play arguments content = decided_play s (option_and_then colour_of (slice_get arguments 0)) (option_and_then vertex_of (slice_get arguments 1))
+decided_on s command.Undo arguments content = decided_undo s s.moves
 
 -- what is decided on a name, which may be that of no command
 abbrev pub decided_if : Standing → Option Command → List (List ℕ) → Content → Decided
@@ -57,9 +90,16 @@ decided_if s (Some command) arguments content = decided_on s command arguments c
 abbrev pub decided : Standing → Asked → Content → Decided
 decided s asked content = decided_if s (option_and_then command_of asked.name) asked.arguments content
 
--- a command whose refusal for want of memory is allowed, as it stands
+-- a move for which memory may be wanting: one that is neither off the board nor on a stone
+abbrev pub LacksMemoryAt : Standing → Option Colour → Option Vertex → Type 0
+LacksMemoryAt s None vertex = ⊥
+LacksMemoryAt s (Some c) None = ⊥
+LacksMemoryAt s (Some c) (Some v) = is_open s v ≡ true
+
+-- a command that may be refused for want of memory
 abbrev pub LacksMemoryOn : Standing → Command → List (List ℕ) → Content → Type 0
-LacksMemoryOn s command arguments content = ⊥
+LacksMemoryOn s command.Play arguments content = LacksMemoryAt s (option_and_then colour_of (slice_get arguments 0)) (option_and_then vertex_of (slice_get arguments 1))
+LacksMemoryOn s _ arguments content = ⊥
 
 abbrev pub LacksMemoryIf : Standing → Option Command → List (List ℕ) → Content → Type 0
 LacksMemoryIf s None arguments content = ⊥
@@ -67,6 +107,10 @@ LacksMemoryIf s (Some command) arguments content = LacksMemoryOn s command argum
 
 abbrev pub MayLackMemory : Standing → Asked → Content → Type 0
 MayLackMemory s asked content = LacksMemoryIf s (option_and_then command_of asked.name) asked.arguments content
+
+-- what may be decided on a move: what the rules say, or a refusal for want of memory where that is allowed
+abbrev pub DecidesPlay : Standing → Option Colour → Option Vertex → Decided → Type 0
+DecidesPlay s c v d = (d ≡ decided_play s c v) ⊎ (LacksMemoryAt s c v × (d ≡ keeps s (Refused OutOfMemory)))
 
 -- what may be decided: what the table says, or a refusal for want of memory where that is allowed
 abbrev pub Decides : Standing → Asked → Content → Decided → Type 0

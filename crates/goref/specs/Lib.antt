@@ -3,7 +3,8 @@ pub mod Front
 pub mod Lines
 pub mod Words
 pub mod Requests
-pub mod Games
+pub mod Starts
+pub mod Legal
 pub mod Contents
 pub mod Commands
 pub mod Decisions

@@ -4,7 +4,7 @@ use Rattle.go_board.specs.Device.{then_bytes}
 use Rattle.go_board.specs.declared.device.WriteFault.{WriteFault}
 use Rattle.goref.specs.declared.flow.Flow.{Flow}
 use Rattle.goref.specs.declared.flow.Flow.TheVariants.{More, Quit}
-use Rattle.goref.specs.Games.{Standing}
+use Rattle.go_game.specs.Standings.{Standing}
 use Rattle.goref.specs.Kept.{Kept, kept}
 use Rattle.goref.specs.Lines.{lines, complete_lines, unfinished_line}
 use Rattle.goref.specs.Contents.{Content, Pair, then_pairs}

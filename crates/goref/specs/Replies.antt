@@ -4,7 +4,7 @@ use Rattle.go_board.specs.Device.{then_bytes, TakesFront}
 use Rattle.go_board.specs.declared.device.WriteFault.{WriteFault}
 use Rattle.goref.specs.declared.flow.Flow.{Flow}
 use Rattle.goref.specs.declared.flow.Flow.TheVariants.{More, Quit}
-use Rattle.goref.specs.Games.{Standing}
+use Rattle.go_game.specs.Standings.{Standing}
 use Rattle.goref.specs.Kept.{Kept}
 use Rattle.goref.specs.Contents.{Content}
 use Rattle.goref.specs.Answers.{Said, Reply}

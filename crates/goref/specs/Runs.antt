@@ -3,7 +3,7 @@ use Rattle.std.specs.Prelude.{◌≡◌, ℕ, ◌+◌, List, Option, Result, Err
 use Rattle.go_board.specs.Device.{after_bytes}
 use Rattle.goref.specs.declared.flow.RunError.{RunError}
 use Rattle.goref.specs.declared.flow.RunError.TheVariants.{Read, Write}
-use Rattle.goref.specs.Games.{Standing}
+use Rattle.go_game.specs.Standings.{Standing}
 use Rattle.goref.specs.Lines.{lines, complete_lines}
 use Rattle.goref.specs.Contents.{Pair}
 use Rattle.goref.specs.Conversation.{Converses, BreaksOff}

@@ -118,6 +118,8 @@ fn refusal_word(why: Refusal) -> &'static [u8]
         Refusal::UnknownCommand => b"unknown command",
         Refusal::SyntaxError => b"syntax error",
         Refusal::UnacceptableSize => b"unacceptable size",
+        Refusal::IllegalMove => b"illegal move",
+        Refusal::CannotUndo => b"cannot undo",
         Refusal::OutOfMemory => b"out of memory",
     }
 }

@@ -13,11 +13,13 @@ pub enum Command {
     Quit,
     Boardsize,
     ClearBoard,
+    Play,
+    Undo,
 }
 
 /// The names of all commands, each on a line of its own.
 const LISTING: &[u8] =
-    b"protocol_version\nname\nversion\nknown_command\nlist_commands\nquit\nboardsize\nclear_board";
+    b"protocol_version\nname\nversion\nknown_command\nlist_commands\nquit\nboardsize\nclear_board\nplay\nundo";
 
 /// The command of this name.
 pub fn command_named(name: &[u8]) -> Option<Command>
@@ -46,6 +48,12 @@ pub fn command_named(name: &[u8]) -> Option<Command>
     }
     if name == b"clear_board".as_slice() {
         return Some(Command::ClearBoard);
+    }
+    if name == b"play".as_slice() {
+        return Some(Command::Play);
+    }
+    if name == b"undo".as_slice() {
+        return Some(Command::Undo);
     }
     None
 }

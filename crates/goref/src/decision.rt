@@ -33,5 +33,7 @@ pub enum Refusal {
     UnknownCommand,
     SyntaxError,
     UnacceptableSize,
+    IllegalMove,
+    CannotUndo,
     OutOfMemory,
 }

@@ -5,7 +5,6 @@ mod answer;
 mod command;
 mod decision;
 mod flow;
-mod game;
 mod line;
 mod request;
 mod runs;

@@ -1,7 +1,8 @@
 ghost use Rattle.std.specs.Prelude.{◌≡◌, ◌≤◌, ◌+◌, ℕ, List, [], ◌∷◌, ◌++◌, Option, IfOk, IfSome, OnOk, IsErrOf, pos};
 ghost use Rattle.go_board.specs.Device.{failures_after};
 ghost use Rattle.go_board.specs.Sizes.{lines_of};
-ghost use Rattle.goref.specs.Games.{Standing, begun};
+ghost use Rattle.go_game.specs.Standings.{Standing};
+ghost use Rattle.goref.specs.Starts.{begun};
 ghost use Rattle.goref.specs.Lines.{HasNoEnd, lines};
 ghost use Rattle.goref.specs.Contents.{Pair, content_of};
 ghost use Rattle.goref.specs.Conversation.{Converses, BreaksOff};
@@ -75,10 +76,10 @@ pub fn run_within<A: Allocator + Copy, R: Source, W: Sink, S: Shelf<A>>(
             Err(Failed) => return Err(RunError::Read),
         };
         if count == 0 {
-            return match end_input(&mut session, &line, writer, shelf) {
-                Ok(()) => Ok(()),
-                Err(WriteFault) => Err(RunError::Write),
-            };
+            match end_input(&mut session, &line, writer, shelf) {
+                Ok(()) => return Ok(()),
+                Err(WriteFault) => return Err(RunError::Write),
+            }
         }
         let (chunk, _) = buffer.split_at(count);
         match feed(&mut session, &mut line, chunk, writer, shelf) {

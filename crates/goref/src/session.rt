@@ -1,26 +1,28 @@
 ghost use Rattle.std.specs.Prelude.{◌≡◌, ◌&&◌, if◌then◌else◌, nat_le, option_map, slice_get, pos, Some, None};
 ghost use Rattle.std.specs.Option.{option_and_then};
+ghost use Rattle.go_board.specs.Vertices.{vertex_of, vertex_on};
 ghost use Rattle.go_board.specs.Sizes.{lines_of};
 ghost use Rattle.go_board.specs.declared.size.TheConstants.{MAX_LINES};
-ghost use Rattle.goref.specs.Games.{Standing, begun};
-ghost use Rattle.goref.specs.Words.{int_of};
+ghost use Rattle.go_game.specs.Standings.{Standing};
+ghost use Rattle.goref.specs.Starts.{begun};
+ghost use Rattle.goref.specs.Words.{int_of, colour_of};
 ghost use Rattle.goref.specs.Contents.{content_of};
 ghost use Rattle.goref.specs.Commands.{command_of};
 ghost use Rattle.go_board.specs.Device.{failures_after};
 ghost use Rattle.goref.specs.Answers.{DecidesLine, is_end, line_id};
 ghost use Rattle.goref.specs.Replies.{Answered, flow_of};
-ghost use Rattle.goref.specs.Decisions.{Decides, decided_known, decided_size};
+ghost use Rattle.goref.specs.Decisions.{Decides, DecidesPlay, decided_known, decided_size, decided_undo, move_refusal};
 
 use crate::answer::write_answer;
 use crate::command::{Command, command_named};
 use crate::decision::{Decision, Fact, Refusal};
 use crate::flow::Flow;
-use crate::game::Game;
 use crate::line::Line;
 use crate::request::{Request, id_of_cut};
 use crate::shelf::Fetched;
-use crate::words::read_int;
-use go_board::{Sink, Size, WriteFault};
+use crate::words::{read_colour, read_int};
+use go_board::{Colour, Move, Sink, Size, Vertex, VertexError, WriteFault, read_vertex};
+use go_game::{Game, PlayError};
 use std::alloc::Allocator;
 use std::marker::Model;
 
@@ -33,7 +35,7 @@ pub struct Session<A: Allocator + Copy> {
 impl<A: Allocator + Copy> Model for Session<A> {
     ghost Value = { Standing };
 
-    ghost view = { λ s. s.game };
+    ghost view = { λ s. s.game.standing };
 }
 
 impl<A: Allocator + Copy> Session<A> {
@@ -92,6 +94,8 @@ impl<A: Allocator + Copy> Session<A> {
             Some(Command::Quit) => Decision::Ends,
             Some(Command::Boardsize) => self.decide_size(request),
             Some(Command::ClearBoard) => self.decide_clear(),
+            Some(Command::Play) => self.decide_play(request),
+            Some(Command::Undo) => self.decide_undo(),
         }
     }
 
@@ -116,6 +120,37 @@ impl<A: Allocator + Copy> Session<A> {
     {
         self.game.clear();
         Decision::Done
+    }
+
+    fn decide_play(&mut self, request: &Request) -> Decision
+        ensures { DecidesPlay self.old (option_and_then colour_of (slice_get request.now.arguments 0)) (option_and_then vertex_of (slice_get request.now.arguments 1)) (record { decision = result; standing = self.new }) }
+    {
+        match colour_argument(request, 0) {
+            None => Decision::Refused(Refusal::SyntaxError),
+            Some(colour) => match vertex_argument(request, 1, self.game.size()) {
+                Err(VertexError::Malformed) => Decision::Refused(Refusal::SyntaxError),
+                Err(VertexError::OffBoard) => Decision::Refused(Refusal::IllegalMove),
+                Ok(vertex) => self.decide_move(Move { colour, vertex }),
+            },
+        }
+    }
+
+    fn decide_move(&mut self, made: Move) -> Decision
+        ensures { DecidesPlay self.old (Some made.colour) (Some made.vertex) (record { decision = result; standing = self.new }) }
+    {
+        match self.game.play(made) {
+            Ok(_) => Decision::Done,
+            Err(error) => Decision::Refused(refusal_of(error)),
+        }
+    }
+
+    fn decide_undo(&mut self) -> Decision
+        ensures { record { decision = result; standing = self.new } ≡ decided_undo self.old self.old.moves }
+    {
+        match self.game.undo() {
+            Some(_) => Decision::Done,
+            None => Decision::Refused(Refusal::CannotUndo),
+        }
     }
 }
 
@@ -162,6 +197,37 @@ fn int_argument(request: &Request, place: u16) -> Option<u32>
     match request.argument(place) {
         Some(word) => read_int(word),
         None => None,
+    }
+}
+
+/// Why a move is refused, as the answer tells it.
+fn refusal_of(error: PlayError) -> Refusal
+    ensures { result ≡ move_refusal error }
+{
+    match error {
+        PlayError::OffBoard => Refusal::IllegalMove,
+        PlayError::Occupied => Refusal::IllegalMove,
+        PlayError::Repeats(_) => Refusal::IllegalMove,
+        PlayError::Memory => Refusal::OutOfMemory,
+    }
+}
+
+fn colour_argument(request: &Request, place: u16) -> Option<Colour>
+    ensures { result ≡ option_and_then colour_of (slice_get request.now.arguments place) }
+{
+    match request.argument(place) {
+        Some(word) => read_colour(word),
+        None => None,
+    }
+}
+
+/// The vertex that an argument spells; where there is no argument it is malformed.
+fn vertex_argument(request: &Request, place: u16, size: Size) -> Result<Vertex, VertexError>
+    ensures { result ≡ vertex_on (lines_of size) (option_and_then vertex_of (slice_get request.now.arguments place)) }
+{
+    match request.argument(place) {
+        Some(word) => read_vertex(word, size),
+        None => Err(VertexError::Malformed),
     }
 }
 

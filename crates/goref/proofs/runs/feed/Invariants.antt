@@ -1,5 +1,5 @@
 use Rattle.std.proofs.Common.{◌≡◌, ℕ, List, ◌++◌, Option, length}
-use Rattle.goref.specs.Games.{Standing}
+use Rattle.go_game.specs.Standings.{Standing}
 use Rattle.goref.specs.Contents.{Pair}
 use Rattle.goref.specs.Progress.{Progress}
 use Rattle.goref.proofs.runs.feed.Given as goal

@@ -2,7 +2,7 @@ use Rattle.std.proofs.Common.{◌∙◌, [], ◌++◌, refl, sym, ap, pos, arith
 use Rattle.std.proofs.lemmas.List.{append-nil}
 use Rattle.go_board.specs.Device.{after_bytes}
 use Rattle.go_board.specs.Sizes.{lines_of}
-use Rattle.goref.specs.Games.{begun}
+use Rattle.goref.specs.Starts.{begun}
 use Rattle.goref.specs.Lines.{lines}
 use Rattle.goref.specs.Conversation.{Converses}
 use Rattle.goref.proofs.Progressing.{begins}

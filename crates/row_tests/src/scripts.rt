@@ -1,0 +1,231 @@
+use go_board::{MAX_LINES, Size};
+use goref::{Fetched, Flow, Line, RunError, Session, Shelf, run, run_within};
+use memory_devices::{Reader, Writer};
+use std::alloc::{Allocator, Global};
+use std::process::Abort;
+use std::test::Fail;
+
+/// A shelf without files.
+#[derive(Drop)]
+struct NoFiles;
+
+impl<A: Allocator> Shelf<A> for NoFiles {
+    ghost use Rattle.std.specs.Prelude.{None};
+
+    ghost given = { λ _. None };
+
+    fn fetch(&mut self, _name: &[u8]) -> Fetched<A> {
+        Fetched::Missing
+    }
+}
+
+fn largest(rt: &impl Abort) -> Size {
+    Size::new(MAX_LINES).expect(rt, "a board has so many lines")
+}
+
+/// Asserts that a script is answered by this text, however its bytes come in.
+fn says(rt: &impl Abort, alloc: Global, script: &[u8], answers: &[u8]) {
+    for most in [1, 7, 4_096] {
+        let mut reader = Reader::new(script).in_pieces_of(most);
+        let mut writer = Writer::new(alloc);
+        let end = run(alloc, largest(rt), &mut reader, &mut writer, &mut NoFiles);
+        assert!(rt; end == Ok(()));
+        assert!(rt; writer.bytes() == answers);
+    }
+}
+
+#[test]
+fn first_run(rt: HostRuntime) {
+    says(
+        &rt,
+        rt.alloc(),
+        b"boardsize 9\nplay b e5\nundo\nquit\n",
+        b"=\n\n=\n\n=\n\n=\n\n",
+    );
+}
+
+#[test]
+fn nothing_to_undo(rt: HostRuntime) {
+    says(&rt, rt.alloc(), b"undo\n", b"? cannot undo\n\n");
+}
+
+#[test]
+fn two_by_two_capture(rt: HostRuntime) {
+    says(
+        &rt,
+        rt.alloc(),
+        b"boardsize 2\nplay b A1\nplay w B1\nplay w A2\nplay b a1\n",
+        b"=\n\n=\n\n=\n\n=\n\n? illegal move\n\n",
+    );
+}
+
+#[test]
+fn ids_and_known_commands(rt: HostRuntime) {
+    says(
+        &rt,
+        rt.alloc(),
+        b"007 name\n5\n2147483648 name\nknown_command play\nknown_command Play\n0 name\n00 quit\n",
+        b"=7 goref\n\n?5 unknown command\n\n? unknown command\n\n= true\n\n= false\n\n=0 goref\n\n=0\n\n",
+    );
+    says(
+        &rt,
+        rt.alloc(),
+        b"known_command\nprotocol_version 7\n\t12\t\tversion\n",
+        b"? syntax error\n\n= 2\n\n=12 1.0\n\n",
+    );
+}
+
+#[test]
+fn commands_are_listed(rt: HostRuntime) {
+    says(
+        &rt,
+        rt.alloc(),
+        b"list_commands\n",
+        b"= protocol_version\nname\nversion\nknown_command\nlist_commands\nquit\nboardsize\nclear_board\nplay\nundo\n\n",
+    );
+}
+
+#[test]
+fn lines_as_sent(rt: HostRuntime) {
+    says(
+        &rt,
+        rt.alloc(),
+        b" \t\n# note\nna\r\x07me\r\nname#x",
+        b"= goref\n\n= goref\n\n",
+    );
+}
+
+#[test]
+fn sizes_and_vertices(rt: HostRuntime) {
+    says(
+        &rt,
+        rt.alloc(),
+        b"boardsize 20\nboardsize 0\nboardsize x\nboardsize 2147483648\nboardsize 9\nplay b k1\n",
+        b"? unacceptable size\n\n? unacceptable size\n\n? syntax error\n\n? syntax error\n\n=\n\n? illegal move\n\n",
+    );
+    says(
+        &rt,
+        rt.alloc(),
+        b"boardsize 9\nplay b i5\nplay b a25\nplay b a26\nplay b a0\nplay b A05\nplay b a5\n",
+        b"=\n\n? syntax error\n\n? illegal move\n\n? syntax error\n\n? syntax error\n\n=\n\n? illegal move\n\n",
+    );
+}
+
+#[test]
+fn empty_input_and_quit(rt: HostRuntime) {
+    says(&rt, rt.alloc(), b"", b"");
+    says(&rt, rt.alloc(), b"quit\nname\n", b"=\n\n");
+}
+
+#[test]
+fn ko(rt: HostRuntime) {
+    says(
+        &rt,
+        rt.alloc(),
+        b"boardsize 4\nplay b b3\nplay b a2\nplay b b1\nplay w c3\nplay w c1\nplay w d2\nplay w b2\nplay b c2\nplay w b2\nundo\nplay b c2\n",
+        b"=\n\n=\n\n=\n\n=\n\n=\n\n=\n\n=\n\n=\n\n=\n\n? illegal move\n\n=\n\n=\n\n",
+    );
+}
+
+/// What a writer took of the answers to a script, and how the run ended.
+fn faulty(rt: &impl Abort, alloc: Global, script: &[u8], mut writer: Writer<Global>, taken: &[u8]) {
+    let mut reader = Reader::new(script);
+    let end = run(alloc, largest(rt), &mut reader, &mut writer, &mut NoFiles);
+    assert!(rt; end == Err(RunError::Write));
+    assert!(rt; writer.bytes() == taken);
+}
+
+#[test]
+fn a_writer_fails(rt: HostRuntime) {
+    let script = b"boardsize 9\nplay b e5\nundo\nquit\n".as_slice();
+    let writer = || Writer::new(rt.alloc()).in_pieces_of(1);
+    faulty(
+        &rt,
+        rt.alloc(),
+        script,
+        writer().failing_at_put(5),
+        b"=\n\n=",
+    );
+    faulty(&rt, rt.alloc(), script, writer().stalling_at_put(1), b"");
+    faulty(
+        &rt,
+        rt.alloc(),
+        script,
+        writer().failing_at_flush(1),
+        b"=\n\n",
+    );
+}
+
+#[test]
+fn a_reader_fails(rt: HostRuntime) {
+    let mut reader = Reader::new(b"boardsize 9\nplay b").failing_at(2);
+    let mut writer = Writer::new(rt.alloc());
+    let end = run(
+        rt.alloc(),
+        largest(&rt),
+        &mut reader,
+        &mut writer,
+        &mut NoFiles,
+    );
+    assert!(rt; end == Err(RunError::Read));
+    assert!(rt; writer.bytes() == b"=\n\n".as_slice());
+}
+
+/// Asserts how a run of `undo`, one byte at a time, ends within so many reads.
+fn undone_within(
+    rt: &impl Abort,
+    alloc: Global,
+    limit: u64,
+    end: Result<(), RunError>,
+    taken: &[u8],
+    pulls: u64,
+) {
+    let mut reader = Reader::new(b"undo\n").in_pieces_of(1);
+    let mut writer = Writer::new(alloc);
+    let ended = run_within(
+        limit,
+        alloc,
+        largest(rt),
+        &mut reader,
+        &mut writer,
+        &mut NoFiles,
+    );
+    assert!(rt; ended == end);
+    assert!(rt; writer.bytes() == taken);
+    assert!(rt; reader.pull_count() == pulls);
+}
+
+#[test]
+fn reads_are_limited(rt: HostRuntime) {
+    undone_within(
+        &rt,
+        rt.alloc(),
+        5,
+        Err(RunError::Endless),
+        b"? cannot undo\n\n",
+        5,
+    );
+    undone_within(&rt, rt.alloc(), 6, Ok(()), b"? cannot undo\n\n", 6);
+    undone_within(&rt, rt.alloc(), 0, Err(RunError::Endless), b"", 0);
+}
+
+#[test]
+fn an_answer_that_fails_was_decided(rt: HostRuntime) {
+    let mut session = Session::new(rt.alloc(), largest(&rt));
+    let mut broken = Writer::new(rt.alloc()).failing_at_put(1);
+    let end = session.answer(&Line::of(b"play b e5"), Fetched::None, &mut broken);
+    assert!(rt; end.is_err());
+    let mut writer = Writer::new(rt.alloc());
+    let end = session.answer(&Line::of(b"undo"), Fetched::None, &mut writer);
+    assert!(rt; end == Ok(Flow::More));
+    assert!(rt; writer.bytes() == b"=\n\n".as_slice());
+}
+
+#[test]
+fn fault_texts(rt: HostRuntime) -> Result<(), Fail> {
+    let alloc = rt.alloc();
+    assert!(rt; format!(in alloc; "{}", RunError::Read)?.as_str() == "read fault");
+    assert!(rt; format!(in alloc; "{}", RunError::Write)?.as_str() == "write fault");
+    assert!(rt; format!(in alloc; "{}", RunError::Endless)?.as_str() == "input without end");
+    Ok(())
+}
