@@ -2,7 +2,7 @@
 use Rattle.std.specs.Prelude.{ℕ, List, [], ◌∷◌, Option, codes, find, map}
 use Rattle.std.specs.Str.{bytes_eq}
 use Rattle.goref.specs.declared.command.Command.{Command}
-use Rattle.goref.specs.declared.command.Command.TheVariants.{ProtocolVersion, Name, Version, KnownCommand, ListCommands, Quit, Boardsize, ClearBoard, Play, Undo}
+use Rattle.goref.specs.declared.command.Command.TheVariants.{ProtocolVersion, Name, Version, KnownCommand, ListCommands, Quit, Boardsize, ClearBoard, Komi, Play, Undo}
 
 -- the name by which a line asks for a command
 abbrev pub name_of : Command → List ℕ
@@ -14,12 +14,13 @@ name_of ListCommands = codes "list_commands"
 name_of Quit = codes "quit"
 name_of Boardsize = codes "boardsize"
 name_of ClearBoard = codes "clear_board"
+name_of Komi = codes "komi"
 name_of Play = codes "play"
 name_of Undo = codes "undo"
 
 -- all commands, in the order in which they are listed
 abbrev pub commands : List Command
-commands = ProtocolVersion ∷ Name ∷ Version ∷ KnownCommand ∷ ListCommands ∷ Quit ∷ Boardsize ∷ ClearBoard ∷ Play ∷ Undo ∷ []
+commands = ProtocolVersion ∷ Name ∷ Version ∷ KnownCommand ∷ ListCommands ∷ Quit ∷ Boardsize ∷ ClearBoard ∷ Komi ∷ Play ∷ Undo ∷ []
 
 abbrev pub command_names : List (List ℕ)
 command_names = map name_of commands

@@ -1,5 +1,5 @@
 -- What is decided on a line: what the answer tells, and what stands then.
-use Rattle.std.specs.Prelude.{◌≡◌, ℕ, ◌&&◌, ◌⊎◌, nat_le, true, is_some, if◌then◌else◌, List, [], ◌∷◌, Option, Some, None, slice_get}
+use Rattle.std.specs.Prelude.{◌≡◌, ℕ, ℤ, ◌&&◌, ◌⊎◌, nat_le, true, is_some, if◌then◌else◌, List, [], ◌∷◌, Option, Some, None, slice_get}
 use Rattle.std.specs.Option.{option_and_then}
 use Rattle.go_board.specs.declared.size.TheConstants.{MAX_LINES}
 use Rattle.goref.specs.declared.command.Command.{Command}
@@ -19,6 +19,7 @@ use Rattle.go_game.specs.Standings.{Standing, with_move, without_last}
 use Rattle.goref.specs.Starts.{begun}
 use Rattle.goref.specs.Legal.{is_legal, is_open}
 use Rattle.goref.specs.Words.{int_of, colour_of}
+use Rattle.goref.specs.Komis.{komi_of}
 use Rattle.goref.specs.Requests.{Asked}
 use Rattle.goref.specs.Contents.{Content}
 use Rattle.goref.specs.Commands.{command_of}
@@ -45,6 +46,11 @@ decided_known s (Some word) = keeps s (Tells (Known (is_some (command_of word)))
 abbrev pub decided_size : Standing → Option ℕ → Decided
 decided_size s None = keeps s (Refused SyntaxError)
 decided_size s (Some n) = if nat_le 1 n && nat_le n MAX_LINES then comes_to (begun n s.komi) else keeps s (Refused UnacceptableSize)
+
+-- `komi`: the komi alone is set, which is no move
+abbrev pub decided_komi : Standing → Option ℤ → Decided
+decided_komi s None = keeps s (Refused SyntaxError)
+decided_komi s (Some komi) = comes_to (record s { komi = komi })
 
 -- what the answer tells of a refused move
 abbrev pub move_refusal : PlayError → Refusal
@@ -78,6 +84,7 @@ decided_on s command.ListCommands arguments content = keeps s (Tells Commands)
 decided_on s command.Quit arguments content = keeps s Ends
 decided_on s command.Boardsize arguments content = decided_size s (option_and_then int_of (slice_get arguments 0))
 decided_on s command.ClearBoard arguments content = comes_to (begun s.lines s.komi)
+decided_on s command.Komi arguments content = decided_komi s (option_and_then komi_of (slice_get arguments 0))
 decided_on s command.Play arguments content = decided_play s (option_and_then colour_of (slice_get arguments 0)) (option_and_then vertex_of (slice_get arguments 1))
 decided_on s command.Undo arguments content = decided_undo s s.moves
 

@@ -2,6 +2,7 @@ pub mod Kept
 pub mod Front
 pub mod Lines
 pub mod Words
+pub mod Komis
 pub mod Requests
 pub mod Starts
 pub mod Legal

@@ -13,13 +13,14 @@ pub enum Command {
     Quit,
     Boardsize,
     ClearBoard,
+    Komi,
     Play,
     Undo,
 }
 
 /// The names of all commands, each on a line of its own.
 const LISTING: &[u8] =
-    b"protocol_version\nname\nversion\nknown_command\nlist_commands\nquit\nboardsize\nclear_board\nplay\nundo";
+    b"protocol_version\nname\nversion\nknown_command\nlist_commands\nquit\nboardsize\nclear_board\nkomi\nplay\nundo";
 
 /// The command of this name.
 pub fn command_named(name: &[u8]) -> Option<Command>
@@ -48,6 +49,9 @@ pub fn command_named(name: &[u8]) -> Option<Command>
     }
     if name == b"clear_board".as_slice() {
         return Some(Command::ClearBoard);
+    }
+    if name == b"komi".as_slice() {
+        return Some(Command::Komi);
     }
     if name == b"play".as_slice() {
         return Some(Command::Play);

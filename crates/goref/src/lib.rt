@@ -5,6 +5,7 @@ mod answer;
 mod command;
 mod decision;
 mod flow;
+mod komi;
 mod line;
 mod request;
 mod runs;

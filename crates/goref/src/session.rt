@@ -1,9 +1,10 @@
-ghost use Rattle.std.specs.Prelude.{◌≡◌, ◌&&◌, if◌then◌else◌, nat_le, option_map, slice_get, pos, Some, None};
+ghost use Rattle.std.specs.Prelude.{◌≡◌, ◌&&◌, if◌then◌else◌, nat_le, option_map, slice_get, pos, IfSome, Some, None};
 ghost use Rattle.std.specs.Option.{option_and_then};
 ghost use Rattle.go_board.specs.Vertices.{vertex_of, vertex_on};
 ghost use Rattle.go_board.specs.Sizes.{lines_of};
 ghost use Rattle.go_board.specs.declared.size.TheConstants.{MAX_LINES};
-ghost use Rattle.go_game.specs.Standings.{Standing};
+ghost use Rattle.go_game.specs.Standings.{IsKomi, Standing};
+ghost use Rattle.goref.specs.Komis.{komi_of};
 ghost use Rattle.goref.specs.Starts.{begun};
 ghost use Rattle.goref.specs.Words.{int_of, colour_of};
 ghost use Rattle.goref.specs.Contents.{content_of};
@@ -11,12 +12,13 @@ ghost use Rattle.goref.specs.Commands.{command_of};
 ghost use Rattle.go_board.specs.Device.{failures_after};
 ghost use Rattle.goref.specs.Answers.{DecidesLine, is_end, line_id};
 ghost use Rattle.goref.specs.Replies.{Answered, flow_of};
-ghost use Rattle.goref.specs.Decisions.{Decides, DecidesPlay, decided_known, decided_size, decided_undo, move_refusal};
+ghost use Rattle.goref.specs.Decisions.{Decides, DecidesPlay, decided_komi, decided_known, decided_size, decided_undo, move_refusal};
 
 use crate::answer::write_answer;
 use crate::command::{Command, command_named};
 use crate::decision::{Decision, Fact, Refusal};
 use crate::flow::Flow;
+use crate::komi::read_komi;
 use crate::line::Line;
 use crate::request::{Request, id_of_cut};
 use crate::shelf::Fetched;
@@ -94,6 +96,7 @@ impl<A: Allocator + Copy> Session<A> {
             Some(Command::Quit) => Decision::Ends,
             Some(Command::Boardsize) => self.decide_size(request),
             Some(Command::ClearBoard) => self.decide_clear(),
+            Some(Command::Komi) => self.decide_komi(request),
             Some(Command::Play) => self.decide_play(request),
             Some(Command::Undo) => self.decide_undo(),
         }
@@ -120,6 +123,18 @@ impl<A: Allocator + Copy> Session<A> {
     {
         self.game.clear();
         Decision::Done
+    }
+
+    fn decide_komi(&mut self, request: &Request) -> Decision
+        ensures { record { decision = result; standing = self.new } ≡ decided_komi self.old (option_and_then komi_of (slice_get request.now.arguments 0)) }
+    {
+        match komi_argument(request, 0) {
+            None => Decision::Refused(Refusal::SyntaxError),
+            Some(komi) => {
+                self.game.set_komi(komi);
+                Decision::Done
+            }
+        }
     }
 
     fn decide_play(&mut self, request: &Request) -> Decision
@@ -188,6 +203,16 @@ fn decide_known(request: &Request) -> Decision
     match request.argument(0) {
         None => Decision::Refused(Refusal::SyntaxError),
         Some(word) => Decision::Tells(Fact::Known(command_named(word).is_some())),
+    }
+}
+
+fn komi_argument(request: &Request, place: u16) -> Option<i64>
+    ensures value { result ≡ option_and_then komi_of (slice_get request.now.arguments place) }
+    ensures bound { IfSome result IsKomi }
+{
+    match request.argument(place) {
+        Some(word) => read_komi(word),
+        None => None,
     }
 }
 

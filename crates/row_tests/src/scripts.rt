@@ -81,7 +81,7 @@ fn commands_are_listed(rt: HostRuntime) {
         &rt,
         rt.alloc(),
         b"list_commands\n",
-        b"= protocol_version\nname\nversion\nknown_command\nlist_commands\nquit\nboardsize\nclear_board\nplay\nundo\n\n",
+        b"= protocol_version\nname\nversion\nknown_command\nlist_commands\nquit\nboardsize\nclear_board\nkomi\nplay\nundo\n\n",
     );
 }
 
@@ -228,4 +228,26 @@ fn fault_texts(rt: HostRuntime) -> Result<(), Fail> {
     assert!(rt; format!(in alloc; "{}", RunError::Write)?.as_str() == "write fault");
     assert!(rt; format!(in alloc; "{}", RunError::Endless)?.as_str() == "input without end");
     Ok(())
+}
+
+#[test]
+fn komi(rt: HostRuntime) {
+    says(
+        &rt,
+        rt.alloc(),
+        b"komi .5\nkomi 6.\nkomi -0.05\nkomi 999999999.99\nkomi +6.500\n",
+        b"=\n\n=\n\n=\n\n=\n\n=\n\n",
+    );
+    says(
+        &rt,
+        rt.alloc(),
+        b"komi .\nkomi +\nkomi 999999999.991\nkomi\nkomi 1000000000\nkomi 6.505\n",
+        b"? syntax error\n\n? syntax error\n\n? syntax error\n\n? syntax error\n\n? syntax error\n\n? syntax error\n\n",
+    );
+    says(
+        &rt,
+        rt.alloc(),
+        b"komi 3\nplay b a1\nkomi 4\nundo\nundo\n",
+        b"=\n\n=\n\n=\n\n=\n\n? cannot undo\n\n",
+    );
 }
