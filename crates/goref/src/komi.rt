@@ -72,7 +72,11 @@ fn size_of_parts(whole: &[u8], decimals: &[u8]) -> Option<u64>
         return None;
     }
     let size = hundredths(whole, decimals);
-    if size > MOST_HUNDREDTHS { None } else { Some(size) }
+    if size > MOST_HUNDREDTHS {
+        None
+    } else {
+        Some(size)
+    }
 }
 
 /// Whether the parts are digits, at least one in all, with none but 0 behind the second decimal.
@@ -113,7 +117,11 @@ fn decimal_at(decimals: &[u8], place: usize) -> u8
     ensures value { result ≡ slice_index_or decimals.now place 48 - 48 }
     ensures digit { result < 10 }
 {
-    if place < decimals.len() { decimals[place] - b'0' } else { 0 }
+    if place < decimals.len() {
+        decimals[place] - b'0'
+    } else {
+        0
+    }
 }
 
 fn value_of_digits(digits: &[u8]) -> u64
