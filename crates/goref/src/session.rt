@@ -50,6 +50,13 @@ impl<A: Allocator + Copy> Session<A> {
         }
     }
 
+    /// The game that is played: all that it tells is a function of the session's standing.
+    pub fn game(&self) -> &Game<A>
+        ensures { result.now.standing ≡ self.now }
+    {
+        &self.game
+    }
+
     /// Answers a line. On a fault what was written is a front of the answer, and the session stands
     /// as after the command.
     pub fn answer<W: Sink>(

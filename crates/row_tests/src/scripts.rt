@@ -251,3 +251,20 @@ fn komi(rt: HostRuntime) {
         b"=\n\n=\n\n=\n\n=\n\n? cannot undo\n\n",
     );
 }
+
+/// The komi after a line, in hundredths.
+fn komi_after(alloc: Global, size: Size, line: &[u8]) -> i64 {
+    let mut session = Session::new(alloc, size);
+    let mut writer = Writer::new(alloc);
+    let _ = session.answer(&Line::of(line), Fetched::None, &mut writer);
+    session.game().komi()
+}
+
+#[test]
+fn komi_in_hundredths(rt: HostRuntime) {
+    let size = largest(&rt);
+    assert_eq!(rt; komi_after(rt.alloc(), size, b"komi .5"), 50);
+    assert_eq!(rt; komi_after(rt.alloc(), size, b"komi 6."), 600);
+    assert_eq!(rt; komi_after(rt.alloc(), size, b"komi -0.05"), -5);
+    assert_eq!(rt; komi_after(rt.alloc(), size, b"komi 999999999.99"), 99_999_999_999);
+}
