@@ -5,3 +5,5 @@
 mod lines;
 #[cfg(test)]
 mod scripts;
+#[cfg(test)]
+mod watched;
