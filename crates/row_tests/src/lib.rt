@@ -9,3 +9,5 @@ mod games;
 mod lines;
 #[cfg(test)]
 mod scripts;
+#[cfg(test)]
+mod watched;

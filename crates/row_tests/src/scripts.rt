@@ -7,7 +7,7 @@ use std::test::Fail;
 
 /// A shelf without files.
 #[derive(Drop)]
-struct NoFiles;
+pub(crate) struct NoFiles;
 
 impl<A: Allocator> Shelf<A> for NoFiles {
     ghost use Rattle.std.specs.Prelude.{None};
