@@ -266,5 +266,8 @@ fn komi_in_hundredths(rt: HostRuntime) {
     assert_eq!(rt; komi_after(rt.alloc(), size, b"komi .5"), 50);
     assert_eq!(rt; komi_after(rt.alloc(), size, b"komi 6."), 600);
     assert_eq!(rt; komi_after(rt.alloc(), size, b"komi -0.05"), -5);
-    assert_eq!(rt; komi_after(rt.alloc(), size, b"komi 999999999.99"), 99_999_999_999);
+    assert_eq!(rt;
+        komi_after(rt.alloc(), size, b"komi 999999999.99"),
+        99_999_999_999
+    );
 }
