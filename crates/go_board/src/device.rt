@@ -28,8 +28,10 @@ pub trait Source {
     /// the end of the input.
     fn pull(&mut self, buffer: &mut [u8]) -> Result<usize, Failed>
         ensures within { IfOk result (λ n. n ≤ length buffer.new) }
-        ensures bytes { IfOk result (λ n. left self.old ≡ after_bytes (take n buffer.new) (left self.new)) }
-        ensures end { IfOk result (λ n. n ≡ 0 → 0 < length buffer.new → IfSome (left self.new) (λ xs. xs ≡ [])) }
+        ensures bytes { IfOk result
+            (λ n. left self.old ≡ after_bytes (take n buffer.new) (left self.new)) }
+        ensures end { IfOk result
+            (λ n. n ≡ 0 → 0 < length buffer.new → IfSome (left self.new) (λ xs. xs ≡ [])) }
         ensures failed { OnErr result (left self.new ≡ left self.old) }
         ensures pulls { pulls self.new ≡ pulls self.old + 1 }
         ensures failures { failures self.new ≡ failures_after result (failures self.old) };
@@ -46,9 +48,11 @@ pub trait Sink {
     /// Takes bytes from the front of a slice, and gives their number.
     fn put(&mut self, bytes: &[u8]) -> Result<usize, Failed>
         ensures within { IfOk result (λ n. n ≤ length bytes.now) }
-        ensures bytes { IfOk result (λ n. taken self.new ≡ then_bytes (taken self.old) (take n bytes.now)) }
+        ensures bytes { IfOk result
+            (λ n. taken self.new ≡ then_bytes (taken self.old) (take n bytes.now)) }
         ensures failed { OnErr result (taken self.new ≡ taken self.old) }
-        ensures failures { failures self.new ≡ put_failures_after result (length bytes.now) (failures self.old) };
+        ensures failures { failures self.new ≡ put_failures_after result (length bytes.now)
+            (failures self.old) };
 
     /// Passes on what it holds back.
     fn flush(&mut self) -> Result<(), Failed>

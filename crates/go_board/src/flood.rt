@@ -25,7 +25,8 @@ pub fn no_marks() -> Marks
 pub fn mark(number: u16, marks: &mut Marks, waiting: &mut Waiting)
     requires on { number < MAX_POINTS }
     requires room { HasRoom marks.old waiting.old.items }
-    ensures grows { Grows (λ j. j ≡ number) marks.old waiting.old.items marks.new waiting.new.items }
+    ensures grows { Grows (λ j. j ≡ number) marks.old waiting.old.items marks.new
+        waiting.new.items }
     ensures marked { IsMarked marks.new number }
 {
     let place = usize::from(number);
@@ -45,8 +46,11 @@ fn mark_coloured(
 )
     requires on { IsOn grid.now.lines at }
     requires room { HasRoom marks.old waiting.old.items }
-    ensures grows { Grows (λ j. (j ≡ number_of grid.now.lines at) × (colour_at grid.now.colours (number_of grid.now.lines at) ≡ colour)) marks.old waiting.old.items marks.new waiting.new.items }
-    ensures marked { colour_at grid.now.colours (number_of grid.now.lines at) ≡ colour → IsMarked marks.new (number_of grid.now.lines at) }
+    ensures grows { Grows (λ j. (j ≡ number_of grid.now.lines at)
+        × (colour_at grid.now.colours (number_of grid.now.lines at) ≡ colour))
+        marks.old waiting.old.items marks.new waiting.new.items }
+    ensures marked { colour_at grid.now.colours (number_of grid.now.lines at) ≡ colour
+        → IsMarked marks.new (number_of grid.now.lines at) }
 {
     if grid.get(at) == colour {
         mark(at.index(grid.size()), marks, waiting);
@@ -57,8 +61,10 @@ fn mark_coloured(
 fn mark_beside(grid: &Grid, p: Point, marks: &mut Marks, waiting: &mut Waiting)
     requires on { IsOn grid.now.lines p }
     requires room { HasRoom marks.old waiting.old.items }
-    ensures grows { Grows (IsStep grid.now.lines grid.now.colours (number_of grid.now.lines p)) marks.old waiting.old.items marks.new waiting.new.items }
-    ensures done { (j : ℕ) → IsStep grid.now.lines grid.now.colours (number_of grid.now.lines p) j → IsMarked marks.new j }
+    ensures grows { Grows (IsStep grid.now.lines grid.now.colours (number_of grid.now.lines p))
+        marks.old waiting.old.items marks.new waiting.new.items }
+    ensures done { (j : ℕ) → IsStep grid.now.lines grid.now.colours (number_of grid.now.lines p) j
+        → IsMarked marks.new j }
 {
     let colour = grid.get(p);
     let beside = neighbours(p, grid.size());
@@ -73,7 +79,8 @@ pub fn spread(grid: &Grid, marks: &mut Marks, waiting: &mut Waiting)
     requires on { (j : ℕ) → IsMarked marks.old j → j < grid.now.lines * grid.now.lines }
     requires wait { (j : ℕ) → IsMarked marks.old j → Contains waiting.old.items j }
     requires marked { (j : ℕ) → Contains waiting.old.items j → IsMarked marks.old j }
-    ensures { (j : ℕ) → IsMarked marks.new j ↔ IsJoinedTo grid.now.lines grid.now.colours marks.old j }
+    ensures { (j : ℕ) → IsMarked marks.new j
+        ↔ IsJoinedTo grid.now.lines grid.now.colours marks.old j }
 {
     while let Some(number) = waiting.pop() {
         mark_beside(grid, Point::numbered(grid.size(), number), marks, waiting);

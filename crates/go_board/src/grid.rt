@@ -19,7 +19,10 @@ impl Model for Grid {
 
     ghost Value = { GridValue };
 
-    ghost view = { λ g. record { lines = lines_of g.size; colours = take (lines_of g.size * lines_of g.size) g.cells } };
+    ghost view = { λ g. record {
+      lines = lines_of g.size;
+      colours = take (lines_of g.size * lines_of g.size) g.cells;
+    } };
 
     ghost invariant = { λ g. length g.cells ≡ MAX_POINTS };
 }
@@ -71,7 +74,8 @@ impl Grid {
     pub fn set(&mut self, p: Point, colour: Option<Colour>)
         requires { IsOn self.old.lines p }
         ensures lines { self.new.lines ≡ self.old.lines }
-        ensures colours { self.new.colours ≡ slice_set self.old.colours (number_of self.old.lines p) colour }
+        ensures colours { self.new.colours ≡ slice_set self.old.colours
+            (number_of self.old.lines p) colour }
     {
         self.cells[usize::from(p.index(self.size))] = colour;
     }

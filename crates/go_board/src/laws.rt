@@ -9,12 +9,14 @@ ghost use Rattle.go_board.specs.Points.{is_adjacent};
 
 /// The test whether a point reaches a colour holds exactly where a path leads there.
 pub fn reaches_by_a_path()
-    ensures { (n : ℕ) (g : Colouring) (p : ℕ) (c : Option Colour) → p < n * n → IsTrue (reaches n g p c) ↔ Reaches n g p c }
+    ensures { (n : ℕ) (g : Colouring) (p : ℕ) (c : Option Colour) → p < n * n
+        → IsTrue (reaches n g p c) ↔ Reaches n g p c }
 {}
 
 /// The test whether two points are joined holds exactly where a path joins them.
 pub fn joined_by_a_path()
-    ensures { (n : ℕ) (g : Colouring) (p q : ℕ) → p < n * n → IsTrue (joined n g p q) ↔ Joined n g p q }
+    ensures { (n : ℕ) (g : Colouring) (p q : ℕ) → p < n * n → IsTrue (joined n g p q)
+        ↔ Joined n g p q }
 {}
 
 /// A liberty of a stone's chain is an empty point adjacent to a stone that a path joins to it.

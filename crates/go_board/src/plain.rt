@@ -16,8 +16,11 @@ use crate::{Area, Colour, Grid, Point, Taken, neighbours};
 fn empty_dead(grid: &mut Grid, at: Point, colour: Colour, lives: bool) -> bool
     requires { IsOn grid.old.lines at }
     ensures lines { grid.new.lines ≡ grid.old.lines }
-    ensures colours { grid.new.colours ≡ (if result then slice_set grid.old.colours (number_of grid.old.lines at) None else grid.old.colours) }
-    ensures taken { result ≡ (has_colour grid.old.colours (number_of grid.old.lines at) (Some colour) && not lives) }
+    ensures colours { grid.new.colours
+        ≡ (if result then slice_set grid.old.colours (number_of grid.old.lines at) None
+        else grid.old.colours) }
+    ensures taken { result
+        ≡ (has_colour grid.old.colours (number_of grid.old.lines at) (Some colour) && not lives) }
 {
     if lives {
         return false;
@@ -51,9 +54,14 @@ pub fn clear(grid: &mut Grid, colour: Colour) -> u16
 pub fn place(grid: &mut Grid, colour: Colour, p: Point) -> Taken
     requires { IsOn grid.old.lines p }
     ensures lines { grid.new.lines ≡ grid.old.lines }
-    ensures colours { grid.new.colours ≡ moved grid.old.lines grid.old.colours colour (number_of grid.old.lines p) }
-    ensures theirs { result.theirs ≡ vanished grid.old.lines (slice_set grid.old.colours (number_of grid.old.lines p) (Some colour)) grid.new.colours (other colour) }
-    ensures own { result.own ≡ vanished grid.old.lines (slice_set grid.old.colours (number_of grid.old.lines p) (Some colour)) grid.new.colours colour }
+    ensures colours { grid.new.colours ≡ moved grid.old.lines grid.old.colours colour
+        (number_of grid.old.lines p) }
+    ensures theirs { result.theirs ≡ vanished grid.old.lines
+        (slice_set grid.old.colours (number_of grid.old.lines p) (Some colour)) grid.new.colours
+        (other colour) }
+    ensures own { result.own ≡ vanished grid.old.lines
+        (slice_set grid.old.colours (number_of grid.old.lines p) (Some colour)) grid.new.colours
+        colour }
 {
     grid.set(p, Some(colour));
     let theirs = clear(grid, colour.other());
@@ -64,7 +72,8 @@ pub fn place(grid: &mut Grid, colour: Colour, p: Point) -> Taken
 /// Whether a point counts for a colour, by what it reaches.
 fn is_area_of(grid: &Grid, at: Point, colour: Colour, own: bool, theirs: bool) -> bool
     requires { IsOn grid.now.lines at }
-    ensures { result ≡ is_area_marked (colour_at grid.now.colours (number_of grid.now.lines at)) colour own theirs }
+    ensures { result ≡ is_area_marked (colour_at grid.now.colours (number_of grid.now.lines at))
+        colour own theirs }
 {
     match grid.get(at) {
         Some(stone) => stone == colour,
@@ -89,7 +98,8 @@ pub fn areas(grid: &Grid) -> Area
 /// Counts a colour's area, from the empty points that reach it and those that reach the other.
 fn area_of(grid: &Grid, colour: Colour, own: &Marks, theirs: &Marks) -> u16
     requires own { AreReaching grid.now.lines grid.now.colours None (Some colour) own.now }
-    requires theirs { AreReaching grid.now.lines grid.now.colours None (Some (other colour)) theirs.now }
+    requires theirs { AreReaching grid.now.lines grid.now.colours None (Some (other colour))
+        theirs.now }
     ensures { result ≡ area grid.now.lines grid.now.colours colour }
 {
     let size = grid.size();
@@ -113,7 +123,8 @@ fn area_of(grid: &Grid, colour: Colour, own: &Marks, theirs: &Marks) -> u16
 pub fn same_chain(grid: &Grid, p: Point, q: Point) -> bool
     requires p_on { IsOn grid.now.lines p }
     requires q_on { IsOn grid.now.lines q }
-    ensures { result ≡ joined grid.now.lines grid.now.colours (number_of grid.now.lines p) (number_of grid.now.lines q) }
+    ensures { result ≡ joined grid.now.lines grid.now.colours (number_of grid.now.lines p)
+        (number_of grid.now.lines q) }
 {
     joined_to(grid, p)[usize::from(q.index(grid.size()))]
 }
@@ -122,7 +133,8 @@ pub fn same_chain(grid: &Grid, p: Point, q: Point) -> bool
 pub fn is_liberty(grid: &Grid, p: Point, q: Point) -> bool
     requires p_on { IsOn grid.now.lines p }
     requires q_on { IsOn grid.now.lines q }
-    ensures { result ≡ is_liberty_of grid.now.lines grid.now.colours (number_of grid.now.lines p) (number_of grid.now.lines q) }
+    ensures { result ≡ is_liberty_of grid.now.lines grid.now.colours (number_of grid.now.lines p)
+        (number_of grid.now.lines q) }
 {
     is_same(grid.get(q), None) && is_beside_chain(grid, &joined_to(grid, p), p, q)
 }
@@ -131,8 +143,10 @@ pub fn is_liberty(grid: &Grid, p: Point, q: Point) -> bool
 fn is_beside_chain(grid: &Grid, chain: &Marks, p: Point, q: Point) -> bool
     requires p_on { IsOn grid.now.lines p }
     requires q_on { IsOn grid.now.lines q }
-    requires chain { AreJoined grid.now.lines grid.now.colours (number_of grid.now.lines p) chain.now }
-    ensures { result ≡ connects grid.now.lines grid.now.colours (number_of grid.now.lines p) (λ r. is_adjacent grid.now.lines r (number_of grid.now.lines q)) }
+    requires chain { AreJoined grid.now.lines grid.now.colours (number_of grid.now.lines p)
+        chain.now }
+    ensures { result ≡ connects grid.now.lines grid.now.colours (number_of grid.now.lines p)
+        (λ r. is_adjacent grid.now.lines r (number_of grid.now.lines q)) }
 {
     let size = grid.size();
     let beside = neighbours(q, size);
@@ -147,7 +161,8 @@ fn is_beside_chain(grid: &Grid, chain: &Marks, p: Point, q: Point) -> bool
 /// The first point in point order whose stone doesn't reach empty.
 pub fn first_dead(grid: &Grid) -> Option<Point>
     ensures found { IfSome result (IsFirstDead grid.now.lines grid.now.colours) }
-    ensures none { IfNone result ((k : ℕ) → k < grid.now.lines * grid.now.lines → is_dead grid.now.lines grid.now.colours k ≡ false) }
+    ensures none { IfNone result ((k : ℕ) → k < grid.now.lines * grid.now.lines
+        → is_dead grid.now.lines grid.now.colours k ≡ false) }
 {
     let black = reaching(grid, Some(Colour::Black), None);
     let white = reaching(grid, Some(Colour::White), None);
@@ -165,7 +180,8 @@ pub fn first_dead(grid: &Grid) -> Option<Point>
 /// Whether a point holds a stone that lives for neither colour.
 fn is_dead_stone(grid: &Grid, at: Point, black: bool, white: bool) -> bool
     requires { IsOn grid.now.lines at }
-    ensures { result ≡ (not (has_colour grid.now.colours (number_of grid.now.lines at) None) && not (black || white)) }
+    ensures { result ≡ (not (has_colour grid.now.colours (number_of grid.now.lines at) None)
+        && not (black || white)) }
 {
     grid.get(at).is_some() && !(black || white)
 }

@@ -28,7 +28,8 @@ impl Point {
     pub fn nth(size: Size, number: u16) -> Option<Point>
         ensures range { IsSome result ↔ (number < lines_of size * lines_of size) }
         ensures value { IfSome result (λ p. p ≡ point_at (lines_of size) number) }
-        ensures back { IfSome result (λ p. IsOn (lines_of size) p × (number_of (lines_of size) p ≡ number)) }
+        ensures back { IfSome result
+            (λ p. IsOn (lines_of size) p × (number_of (lines_of size) p ≡ number)) }
     {
         if number < size.points() {
             Some(Point::numbered(size, number))
@@ -88,7 +89,8 @@ pub fn neighbours(p: Point, size: Size) -> ArrayVec<Point, 4>
     requires { IsOn (lines_of size) p }
     ensures on { All (λ q. IsOn (lines_of size) q) result.items }
     ensures beside { All (λ q. IsTrue (are_beside p q)) result.items }
-    ensures each { (q : Point) → IsOn (lines_of size) q → IsTrue (are_beside p q) → Contains result.items q }
+    ensures each { (q : Point) → IsOn (lines_of size) q → IsTrue (are_beside p q)
+        → Contains result.items q }
     ensures order { IsStrictlyIncreasing (map (number_of (lines_of size)) result.items) }
 {
     let mut beside = ArrayVec::new();

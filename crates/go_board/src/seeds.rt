@@ -13,7 +13,8 @@ use arrayvec::ArrayVec;
 /// Whether a point has a neighbour of this colour.
 fn is_beside(grid: &Grid, p: Point, colour: Option<Colour>) -> bool
     requires { IsOn grid.now.lines p }
-    ensures { IsTrue result ↔ IsBeside grid.now.lines grid.now.colours (number_of grid.now.lines p) colour }
+    ensures { IsTrue result
+        ↔ IsBeside grid.now.lines grid.now.colours (number_of grid.now.lines p) colour }
 {
     let beside = neighbours(p, grid.size());
     for q in beside.as_slice() {
@@ -35,8 +36,11 @@ fn mark_seed(
 )
     requires on { IsOn grid.now.lines at }
     requires room { HasRoom marks.old waiting.old.items }
-    ensures grows { Grows (λ j. (j ≡ number_of grid.now.lines at) × IsSeed grid.now.lines grid.now.colours from to j) marks.old waiting.old.items marks.new waiting.new.items }
-    ensures marked { IsSeed grid.now.lines grid.now.colours from to (number_of grid.now.lines at) → IsMarked marks.new (number_of grid.now.lines at) }
+    ensures grows { Grows
+        (λ j. (j ≡ number_of grid.now.lines at) × IsSeed grid.now.lines grid.now.colours from to j)
+        marks.old waiting.old.items marks.new waiting.new.items }
+    ensures marked { IsSeed grid.now.lines grid.now.colours from to (number_of grid.now.lines at)
+        → IsMarked marks.new (number_of grid.now.lines at) }
 {
     if is_same(grid.get(at), from) {
         if is_beside(grid, at, to) {
@@ -56,7 +60,8 @@ fn mark_seeds(
     requires none { (j : ℕ) → IsMarked marks.old j → ⊥ }
     requires room { HasRoom marks.old waiting.old.items }
     requires empty { waiting.old.items ≡ [] }
-    ensures { IsSeeding grid.now.lines grid.now.colours from to (grid.now.lines * grid.now.lines) marks.new waiting.new.items }
+    ensures { IsSeeding grid.now.lines grid.now.colours from to (grid.now.lines * grid.now.lines)
+        marks.new waiting.new.items }
 {
     let size = grid.size();
     for number in 0..size.points() {

@@ -43,7 +43,8 @@ pub enum VertexError {
 pub fn read_vertex(word: &[u8], size: Size) -> Result<Vertex, VertexError>
     ensures value { result ≡ vertex_on (lines_of size) (vertex_of word.now) }
     ensures malformed { (result ≡ Err VertexError.Malformed) ↔ (vertex_of word.now ≡ None) }
-    ensures off_board { (result ≡ Err VertexError.OffBoard) ↔ SpellsOffBoard (lines_of size) (vertex_of word.now) }
+    ensures off_board { (result ≡ Err VertexError.OffBoard)
+        ↔ SpellsOffBoard (lines_of size) (vertex_of word.now) }
     ensures ok { IfOk result (λ v. (vertex_of word.now ≡ Some v) × IsOnBoard (lines_of size) v) }
 {
     read_spelled(word, size)

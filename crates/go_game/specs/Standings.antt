@@ -8,6 +8,7 @@ use Rattle.go_board.specs.declared.vertex.Move.{Move}
 use Rattle.go_board.specs.declared.vertex.Vertex.{Vertex}
 use Rattle.go_board.specs.declared.vertex.Vertex.TheVariants.{Pass, At}
 use Rattle.go_board.specs.Colours.{Colouring, colour_at, other}
+use Rattle.go_board.specs.Grids.{GridValue}
 use Rattle.go_board.specs.Points.{IsOn, number_of}
 use Rattle.go_board.specs.Reaching.{moved, reaches}
 
@@ -67,6 +68,10 @@ first_moves s k = record s { moves = take k s.moves }
 -- no move stands on an empty board, and Black is to move
 abbrev pub IsEmptyStart : Standing → ℕ → ℤ → Type 0
 IsEmptyStart s n komi = s ≡ record { lines = n; komi = komi; start = replicate (n * n) None; first = Black; moves = [] }
+
+-- no move stands over the colours of this grid
+abbrev pub started : GridValue → Colour → Standing
+started grid first = record { lines = grid.lines; komi = pos 0; start = grid.colours; first = first; moves = [] }
 
 -- the colour that is to move: the other than the last mover's
 abbrev pub mover_after : Colour → List Move → Colour

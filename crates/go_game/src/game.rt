@@ -31,7 +31,8 @@ impl<A: Allocator + Copy> Model for Game<A> {
 
     ghost view = { λ a. record { standing = standing_of a.start a.komi a.first a.steps.items } };
 
-    ghost invariant = { λ a. IsHeld a.start a.komi a.first a.steps.items a.prisoners.black a.prisoners.white };
+    ghost invariant = { λ a. IsHeld a.start a.komi a.first a.steps.items a.prisoners.black
+        a.prisoners.white };
 }
 
 impl<A: Allocator + Copy> Game<A> {
@@ -45,7 +46,7 @@ impl<A: Allocator + Copy> Game<A> {
     ghost use Rattle.go_board.specs.declared.size.TheConstants.{MAX_POINTS};
     ghost use Rattle.go_game.specs.Held.{IsPlayed};
     ghost use Rattle.go_game.specs.Prisoners.{share_of};
-    ghost use Rattle.go_game.specs.Standings.{IsEmptyStart, IsFirstAt, IsKomi, IsLegal, IsOccupied, IsOffBoard, IsSound, Repeats, board_of, mover_of, positions_of, with_move, without_last};
+    ghost use Rattle.go_game.specs.Standings.{IsEmptyStart, IsFirstAt, IsKomi, IsLegal, IsOccupied, IsOffBoard, IsSound, Repeats, board_of, mover_of, positions_of, started, with_move, without_last};
     ghost use Rattle.go_game.specs.Scores.{area_of, margin_of};
     ghost use Rattle.go_game.specs.Playing.{prisoners_of, stones_taken};
 
@@ -149,7 +150,8 @@ impl<A: Allocator + Copy> Game<A> {
     /// The colour of a point.
     pub fn colour_at(&self, p: Point) -> Option<Colour>
         requires { IsOn self.now.standing.lines p }
-        ensures { result ≡ colour_at (board_of self.now.standing) (number_of self.now.standing.lines p) }
+        ensures { result ≡ colour_at (board_of self.now.standing)
+            (number_of self.now.standing.lines p) }
     {
         self.present().get(p)
     }
@@ -158,7 +160,8 @@ impl<A: Allocator + Copy> Game<A> {
     pub fn same_chain(&self, p: Point, q: Point) -> bool
         requires p_on { IsOn self.now.standing.lines p }
         requires q_on { IsOn self.now.standing.lines q }
-        ensures { result ≡ joined self.now.standing.lines (board_of self.now.standing) (number_of self.now.standing.lines p) (number_of self.now.standing.lines q) }
+        ensures { result ≡ joined self.now.standing.lines (board_of self.now.standing)
+            (number_of self.now.standing.lines p) (number_of self.now.standing.lines q) }
     {
         same_chain(self.present(), p, q)
     }
@@ -167,7 +170,8 @@ impl<A: Allocator + Copy> Game<A> {
     pub fn is_liberty(&self, p: Point, q: Point) -> bool
         requires p_on { IsOn self.now.standing.lines p }
         requires q_on { IsOn self.now.standing.lines q }
-        ensures { result ≡ is_liberty_of self.now.standing.lines (board_of self.now.standing) (number_of self.now.standing.lines p) (number_of self.now.standing.lines q) }
+        ensures { result ≡ is_liberty_of self.now.standing.lines (board_of self.now.standing)
+            (number_of self.now.standing.lines p) (number_of self.now.standing.lines q) }
     {
         is_liberty(self.present(), p, q)
     }
@@ -210,7 +214,8 @@ impl<A: Allocator + Copy> Game<A> {
     /// Takes back the last move, and gives it. It takes no memory.
     pub fn undo(&mut self) -> Option<Move>
         ensures none { IfNone result ((self.old.standing.moves ≡ []) × (self.new ≡ self.old)) }
-        ensures some { IfSome result (λ m. self.old.standing.moves ≡ self.new.standing.moves ++ m ∷ []) }
+        ensures some { IfSome result
+            (λ m. self.old.standing.moves ≡ self.new.standing.moves ++ m ∷ []) }
         ensures after { self.new.standing ≡ without_last 1 self.old.standing }
     {
         let step = self.steps.pop()?;
@@ -222,12 +227,16 @@ impl<A: Allocator + Copy> Game<A> {
     /// before. Captured stones are taken, and then stones of the player's own that have no liberty.
     /// A refused move changes nothing.
     pub fn play(&mut self, made: Move) -> Result<Taken, PlayError>
-        ensures off_board { (result ≡ Err PlayError.OffBoard) ↔ IsOffBoard self.old.standing made.vertex }
-        ensures occupied { (result ≡ Err PlayError.Occupied) ↔ IsOccupied self.old.standing made.vertex }
-        ensures repeats { (k : ℕ) → result ≡ Err (PlayError.Repeats k) → Repeats self.old.standing made.colour made.vertex k }
+        ensures off_board { (result ≡ Err PlayError.OffBoard)
+            ↔ IsOffBoard self.old.standing made.vertex }
+        ensures occupied { (result ≡ Err PlayError.Occupied)
+            ↔ IsOccupied self.old.standing made.vertex }
+        ensures repeats { (k : ℕ) → result ≡ Err (PlayError.Repeats k)
+            → Repeats self.old.standing made.colour made.vertex k }
         ensures legal { OnOk result (IsLegal self.old.standing made.colour made.vertex) }
         ensures played { OnOk result (self.new.standing ≡ with_move self.old.standing made) }
-        ensures taken { IfOk result (λ taken. (of : Colour) → share_of made.colour taken of ≡ stones_taken self.old.standing made.colour made.vertex of) }
+        ensures taken { IfOk result (λ taken. (of : Colour) → share_of made.colour taken of
+            ≡ stones_taken self.old.standing made.colour made.vertex of) }
         ensures err { OnErr result (self.new ≡ self.old) }
     {
         match made.vertex {
@@ -239,7 +248,8 @@ impl<A: Allocator + Copy> Game<A> {
     /// Passes: always legal, refused for want of memory alone.
     fn pass(&mut self, colour: Colour) -> Result<Taken, PlayError>
         ensures ok { IfOk result (λ taken. (taken.theirs ≡ 0) × (taken.own ≡ 0)) }
-        ensures played { OnOk result (self.new.standing ≡ with_move self.old.standing (record { colour = colour; vertex = Vertex.Pass })) }
+        ensures played { OnOk result (self.new.standing
+            ≡ with_move self.old.standing (record { colour = colour; vertex = Vertex.Pass })) }
         ensures err { OnErr result (self.new ≡ self.old) }
         ensures memory { IfErr result (λ e. e ≡ PlayError.Memory) }
     {
@@ -257,12 +267,17 @@ impl<A: Allocator + Copy> Game<A> {
 
     /// Places a stone where that is legal.
     fn put(&mut self, colour: Colour, p: Point) -> Result<Taken, PlayError>
-        ensures off_board { (result ≡ Err PlayError.OffBoard) ↔ (IsOn self.old.standing.lines p → ⊥) }
-        ensures occupied { (result ≡ Err PlayError.Occupied) ↔ IsOccupied self.old.standing (Vertex.At p) }
-        ensures repeats { (k : ℕ) → result ≡ Err (PlayError.Repeats k) → Repeats self.old.standing colour (Vertex.At p) k }
+        ensures off_board { (result ≡ Err PlayError.OffBoard)
+            ↔ (IsOn self.old.standing.lines p → ⊥) }
+        ensures occupied { (result ≡ Err PlayError.Occupied)
+            ↔ IsOccupied self.old.standing (Vertex.At p) }
+        ensures repeats { (k : ℕ) → result ≡ Err (PlayError.Repeats k)
+            → Repeats self.old.standing colour (Vertex.At p) k }
         ensures legal { OnOk result (IsLegal self.old.standing colour (Vertex.At p)) }
-        ensures played { OnOk result (self.new.standing ≡ with_move self.old.standing (record { colour = colour; vertex = Vertex.At p })) }
-        ensures taken { IfOk result (λ taken. (of : Colour) → share_of colour taken of ≡ stones_taken self.old.standing colour (Vertex.At p) of) }
+        ensures played { OnOk result (self.new.standing
+            ≡ with_move self.old.standing (record { colour = colour; vertex = Vertex.At p })) }
+        ensures taken { IfOk result (λ taken. (of : Colour) → share_of colour taken of
+            ≡ stones_taken self.old.standing colour (Vertex.At p) of) }
         ensures err { OnErr result (self.new ≡ self.old) }
     {
         if !p.on(self.size()) {
@@ -289,7 +304,8 @@ impl<A: Allocator + Copy> Game<A> {
     /// After how many moves a grid of this size stood first, if it did.
     fn first_repeat(&self, grid: &Grid) -> Option<usize>
         requires { grid.now.lines ≡ self.now.standing.lines }
-        ensures none { IfNone result (Contains (positions_of self.now.standing) grid.now.colours → ⊥) }
+        ensures none { IfNone result
+            (Contains (positions_of self.now.standing) grid.now.colours → ⊥) }
         ensures some { IfSome result (IsFirstAt (positions_of self.now.standing) grid.now.colours) }
     {
         if self.start.is_same_as(grid) {
@@ -321,9 +337,11 @@ impl<A: Allocator + Copy> Game<A> {
 
     /// A game that starts from this grid, with komi 0 and this colour to move.
     pub fn start_from(alloc: A, grid: &Grid, first: Colour) -> Result<Game<A>, SetupError>
-        ensures ok { IfOk result (λ game. game.standing ≡ record { lines = grid.now.lines; komi = pos 0; start = grid.now.colours; first = first; moves = [] }) }
-        ensures no_liberty { (p : Point) → result ≡ Err (SetupError.NoLiberty p) → IsFirstDead grid.now.lines grid.now.colours p }
-        ensures alive { OnOk result ((k : ℕ) → k < grid.now.lines * grid.now.lines → is_dead grid.now.lines grid.now.colours k ≡ false) }
+        ensures ok { IfOk result (λ game. game.standing ≡ started grid.now first) }
+        ensures no_liberty { (p : Point) → result ≡ Err (SetupError.NoLiberty p)
+            → IsFirstDead grid.now.lines grid.now.colours p }
+        ensures alive { OnOk result ((k : ℕ) → k < grid.now.lines * grid.now.lines
+            → is_dead grid.now.lines grid.now.colours k ≡ false) }
     {
         match first_dead(grid) {
             Some(p) => Err(SetupError::NoLiberty(p)),

@@ -6,10 +6,12 @@ ghost use Rattle.go_game.specs.Whole.{whole_of};
 
 /// Any moves, then as many taken back, leave the standing as it was.
 pub fn moves_taken_back()
-    ensures { (s : Standing) (moves : List Move) → without_last (length moves) (with_moves s moves) ≡ s }
+    ensures { (s : Standing) (moves : List Move)
+        → without_last (length moves) (with_moves s moves) ≡ s }
 {}
 
 /// And with it all that the game holds: colouring, chains, prisoners, history and mover.
 pub fn whole_state_restored()
-    ensures { (s : Standing) (moves : List Move) → whole_of (without_last (length moves) (with_moves s moves)) ≡ whole_of s }
+    ensures { (s : Standing) (moves : List Move)
+        → whole_of (without_last (length moves) (with_moves s moves)) ≡ whole_of s }
 {}

@@ -17,7 +17,8 @@ pub fn write_answer<A: Allocator + Copy, W: Sink>(
     decision: Decision,
     writer: &mut W,
 ) -> Result<(), WriteFault>
-    ensures sent { Sent result (W.taken writer.old) (W.taken writer.new) (decision_text id decision session.now) }
+    ensures sent { Sent result (W.taken writer.old) (W.taken writer.new)
+        (decision_text id decision session.now) }
     ensures failures { W.failures writer.new ≡ failures_after result (W.failures writer.old) }
 {
     let mut pen = Pen::new();

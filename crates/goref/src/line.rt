@@ -20,7 +20,12 @@ pub struct Line {
 impl Model for Line {
     ghost Value = { Kept };
 
-    ghost view = { λ l. record { text = l.text.items; is_long = l.is_long; has_comment = l.has_comment; has_space = l.has_space } };
+    ghost view = { λ l. record {
+      text = l.text.items;
+      is_long = l.is_long;
+      has_comment = l.has_comment;
+      has_space = l.has_space;
+    } };
 }
 
 impl Line {

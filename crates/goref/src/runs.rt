@@ -37,10 +37,13 @@ pub fn run<A: Allocator + Copy, R: Source, W: Sink, S: Shelf<A>>(
         AnswersComplete (begun (lines_of size) (pos 0)) (R.left reader.old) (R.left reader.new) (S.given shelf.old) (S.given shelf.new) (W.taken writer.old) (W.taken writer.new) }
     ensures write { IsErrOf result RunError.Write →
         AnswersFront (begun (lines_of size) (pos 0)) (R.left reader.old) (R.left reader.new) (S.given shelf.old) (S.given shelf.new) (W.taken writer.old) (W.taken writer.new) }
-    ensures read_failures { R.failures reader.new ≡ read_failures_after result (R.failures reader.old) }
-    ensures write_failures { W.failures writer.new ≡ write_failures_after result (W.failures writer.old) }
+    ensures read_failures { R.failures reader.new ≡ read_failures_after result
+        (R.failures reader.old) }
+    ensures write_failures { W.failures writer.new ≡ write_failures_after result
+        (W.failures writer.old) }
     ensures pulls { R.pulls reader.new ≤ R.pulls reader.old + READS }
-    ensures all_pulls { IsErrOf result RunError.Endless → R.pulls reader.new ≡ R.pulls reader.old + READS }
+    ensures all_pulls { IsErrOf result RunError.Endless
+        → R.pulls reader.new ≡ R.pulls reader.old + READS }
 {
     run_within(READS, alloc, size, reader, writer, shelf)
 }
@@ -62,10 +65,13 @@ pub fn run_within<A: Allocator + Copy, R: Source, W: Sink, S: Shelf<A>>(
         AnswersComplete (begun (lines_of size) (pos 0)) (R.left reader.old) (R.left reader.new) (S.given shelf.old) (S.given shelf.new) (W.taken writer.old) (W.taken writer.new) }
     ensures write { IsErrOf result RunError.Write →
         AnswersFront (begun (lines_of size) (pos 0)) (R.left reader.old) (R.left reader.new) (S.given shelf.old) (S.given shelf.new) (W.taken writer.old) (W.taken writer.new) }
-    ensures read_failures { R.failures reader.new ≡ read_failures_after result (R.failures reader.old) }
-    ensures write_failures { W.failures writer.new ≡ write_failures_after result (W.failures writer.old) }
+    ensures read_failures { R.failures reader.new ≡ read_failures_after result
+        (R.failures reader.old) }
+    ensures write_failures { W.failures writer.new ≡ write_failures_after result
+        (W.failures writer.old) }
     ensures pulls { R.pulls reader.new ≤ R.pulls reader.old + limit }
-    ensures all_pulls { IsErrOf result RunError.Endless → R.pulls reader.new ≡ R.pulls reader.old + limit }
+    ensures all_pulls { IsErrOf result RunError.Endless
+        → R.pulls reader.new ≡ R.pulls reader.old + limit }
 {
     let mut session = Session::new(alloc, size);
     let mut line = Line::new();
@@ -99,7 +105,8 @@ fn feed<A: Allocator + Copy, W: Sink, S: Shelf<A>>(
     writer: &mut W,
     shelf: &mut S,
 ) -> Result<Flow, WriteFault>
-    ensures proceeds { (start : Standing) (read : List ℕ) (given : Option (List Pair)) (taken : Option (List ℕ)) →
+    ensures proceeds { (start : Standing) (read : List ℕ) (given : Option (List Pair))
+        (taken : Option (List ℕ)) →
         Progress start read line.old session.old given (S.given shelf.old) taken (W.taken writer.old) →
         Proceeds result start (read ++ chunk.now) line.new session.new given (S.given shelf.new) taken (W.taken writer.new) }
     ensures failures { W.failures writer.new ≡ failures_after result (W.failures writer.old) }
@@ -127,7 +134,8 @@ fn end_line<A: Allocator + Copy, W: Sink, S: Shelf<A>>(
     shelf: &mut S,
 ) -> Result<Flow, WriteFault>
     requires { HasNoEnd part.now }
-    ensures proceeds { (start : Standing) (read : List ℕ) (given : Option (List Pair)) (taken : Option (List ℕ)) →
+    ensures proceeds { (start : Standing) (read : List ℕ) (given : Option (List Pair))
+        (taken : Option (List ℕ)) →
         Progress start read line.old session.old given (S.given shelf.old) taken (W.taken writer.old) →
         Proceeds result start (read ++ (part.now ++ 10 ∷ [])) line.new session.new given (S.given shelf.new) taken (W.taken writer.new) }
     ensures failures { W.failures writer.new ≡ failures_after result (W.failures writer.old) }
@@ -145,7 +153,8 @@ fn end_input<A: Allocator + Copy, W: Sink, S: Shelf<A>>(
     writer: &mut W,
     shelf: &mut S,
 ) -> Result<(), WriteFault>
-    ensures finishes { (start : Standing) (read : List ℕ) (given : Option (List Pair)) (taken : Option (List ℕ)) →
+    ensures finishes { (start : Standing) (read : List ℕ) (given : Option (List Pair))
+        (taken : Option (List ℕ)) →
         Progress start read line.now session.old given (S.given shelf.old) taken (W.taken writer.old) →
         Finishes result start read given (S.given shelf.new) taken (W.taken writer.new) }
     ensures failures { W.failures writer.new ≡ failures_after result (W.failures writer.old) }
@@ -163,7 +172,8 @@ fn respond<A: Allocator + Copy, W: Sink, S: Shelf<A>>(
     writer: &mut W,
     shelf: &mut S,
 ) -> Result<Flow, WriteFault>
-    ensures responds { Responds session.old session.new line.now result (S.given shelf.old) (S.given shelf.new) (W.taken writer.old) (W.taken writer.new) }
+    ensures responds { Responds session.old session.new line.now result (S.given shelf.old)
+        (S.given shelf.new) (W.taken writer.old) (W.taken writer.new) }
     ensures failures { W.failures writer.new ≡ failures_after result (W.failures writer.old) }
 {
     let fetched = fetch_for(line, shelf);

@@ -65,7 +65,8 @@ impl<A: Allocator + Copy> Session<A> {
         fetched: Fetched<A>,
         writer: &mut W,
     ) -> Result<Flow, WriteFault>
-        ensures answered { Answered self.old self.new line.now (content_of fetched) result (W.taken writer.old) (W.taken writer.new) }
+        ensures answered { Answered self.old self.new line.now (content_of fetched) result
+            (W.taken writer.old) (W.taken writer.new) }
         ensures failures { W.failures writer.new ≡ failures_after result (W.failures writer.old) }
     {
         if line.text().is_empty() {
@@ -80,7 +81,8 @@ impl<A: Allocator + Copy> Session<A> {
 
     /// Does what a line with words asks.
     fn decide_line(&mut self, line: &Line, fetched: Fetched<A>) -> Decision
-        ensures { DecidesLine self.old line.now (content_of fetched) (record { decision = result; standing = self.new }) }
+        ensures { DecidesLine self.old line.now (content_of fetched)
+            (record { decision = result; standing = self.new }) }
     {
         if line.is_long() {
             return Decision::Refused(Refusal::LineTooLong);
@@ -91,7 +93,8 @@ impl<A: Allocator + Copy> Session<A> {
 
     /// Does what is asked.
     fn decide(&mut self, request: &Request, fetched: Fetched<A>) -> Decision
-        ensures { Decides self.old request.now (content_of fetched) (record { decision = result; standing = self.new }) }
+        ensures { Decides self.old request.now (content_of fetched)
+            (record { decision = result; standing = self.new }) }
     {
         match command_asked(request) {
             None => Decision::Refused(Refusal::UnknownCommand),
@@ -110,7 +113,8 @@ impl<A: Allocator + Copy> Session<A> {
     }
 
     fn decide_size(&mut self, request: &Request) -> Decision
-        ensures { record { decision = result; standing = self.new } ≡ decided_size self.old (option_and_then int_of (slice_get request.now.arguments 0)) }
+        ensures { record { decision = result; standing = self.new }
+            ≡ decided_size self.old (option_and_then int_of (slice_get request.now.arguments 0)) }
     {
         match int_argument(request, 0) {
             None => Decision::Refused(Refusal::SyntaxError),
@@ -133,7 +137,8 @@ impl<A: Allocator + Copy> Session<A> {
     }
 
     fn decide_komi(&mut self, request: &Request) -> Decision
-        ensures { record { decision = result; standing = self.new } ≡ decided_komi self.old (option_and_then komi_of (slice_get request.now.arguments 0)) }
+        ensures { record { decision = result; standing = self.new }
+            ≡ decided_komi self.old (option_and_then komi_of (slice_get request.now.arguments 0)) }
     {
         match komi_argument(request, 0) {
             None => Decision::Refused(Refusal::SyntaxError),
@@ -145,7 +150,10 @@ impl<A: Allocator + Copy> Session<A> {
     }
 
     fn decide_play(&mut self, request: &Request) -> Decision
-        ensures { DecidesPlay self.old (option_and_then colour_of (slice_get request.now.arguments 0)) (option_and_then vertex_of (slice_get request.now.arguments 1)) (record { decision = result; standing = self.new }) }
+        ensures { DecidesPlay self.old
+            (option_and_then colour_of (slice_get request.now.arguments 0))
+            (option_and_then vertex_of (slice_get request.now.arguments 1))
+            (record { decision = result; standing = self.new }) }
     {
         match colour_argument(request, 0) {
             None => Decision::Refused(Refusal::SyntaxError),
@@ -158,7 +166,8 @@ impl<A: Allocator + Copy> Session<A> {
     }
 
     fn decide_move(&mut self, made: Move) -> Decision
-        ensures { DecidesPlay self.old (Some made.colour) (Some made.vertex) (record { decision = result; standing = self.new }) }
+        ensures { DecidesPlay self.old (Some made.colour) (Some made.vertex)
+            (record { decision = result; standing = self.new }) }
     {
         match self.game.play(made) {
             Ok(_) => Decision::Done,
@@ -167,7 +176,8 @@ impl<A: Allocator + Copy> Session<A> {
     }
 
     fn decide_undo(&mut self) -> Decision
-        ensures { record { decision = result; standing = self.new } ≡ decided_undo self.old self.old.moves }
+        ensures { record { decision = result; standing = self.new }
+            ≡ decided_undo self.old self.old.moves }
     {
         match self.game.undo() {
             Some(_) => Decision::Done,
@@ -205,7 +215,8 @@ fn command_asked(request: &Request) -> Option<Command>
 }
 
 fn decide_known(request: &Request) -> Decision
-    ensures { (s : Standing) → record { decision = result; standing = s } ≡ decided_known s (slice_get request.now.arguments 0) }
+    ensures { (s : Standing) → record { decision = result; standing = s }
+        ≡ decided_known s (slice_get request.now.arguments 0) }
 {
     match request.argument(0) {
         None => Decision::Refused(Refusal::SyntaxError),
@@ -255,7 +266,8 @@ fn colour_argument(request: &Request, place: u16) -> Option<Colour>
 
 /// The vertex that an argument spells; where there is no argument it is malformed.
 fn vertex_argument(request: &Request, place: u16, size: Size) -> Result<Vertex, VertexError>
-    ensures { result ≡ vertex_on (lines_of size) (option_and_then vertex_of (slice_get request.now.arguments place)) }
+    ensures { result ≡ vertex_on (lines_of size)
+        (option_and_then vertex_of (slice_get request.now.arguments place)) }
 {
     match request.argument(place) {
         Some(word) => read_vertex(word, size),
@@ -265,7 +277,8 @@ fn vertex_argument(request: &Request, place: u16, size: Size) -> Result<Vertex, 
 
 /// The size of so many lines.
 fn size_of(lines: u32) -> Option<Size>
-    ensures { option_map lines_of result ≡ (if nat_le 1 lines && nat_le lines MAX_LINES then Some lines else None) }
+    ensures { option_map lines_of result
+        ≡ (if nat_le 1 lines && nat_le lines MAX_LINES then Some lines else None) }
 {
     match u8::try_from(lines) {
         Ok(lines) => Size::new(lines),

@@ -27,7 +27,8 @@ pub trait Shelf<A: Allocator> {
 
     /// Fetches the file of this name.
     fn fetch(&mut self, name: &[u8]) -> Fetched<A>
-        ensures { given self.new ≡ then_pairs (given self.old) ((name.now, content_of result) ∷ []) };
+        ensures { given self.new ≡ then_pairs (given self.old)
+            ((name.now, content_of result) ∷ []) };
 }
 
 /// The name of the file that a line wants fetched.

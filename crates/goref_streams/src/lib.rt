@@ -28,7 +28,11 @@ impl<R: Read> Model for Input<R> {
 
     ghost Value = { Reading };
 
-    ghost view = { λ input. record { left = R.remaining input.stream; pulls = input.pulls; failures = input.failures } };
+    ghost view = { λ input. record {
+      left = R.remaining input.stream;
+      pulls = input.pulls;
+      failures = input.failures;
+    } };
 }
 
 impl<R: Read> Input<R> {
@@ -83,7 +87,11 @@ impl<W: Write> Model for Output<W> {
 
     ghost Value = { Writing };
 
-    ghost view = { λ output. record { held = W.contents output.stream; kept = output.kept.items; failures = output.failures } };
+    ghost view = { λ output. record {
+      held = W.contents output.stream;
+      kept = output.kept.items;
+      failures = output.failures;
+    } };
 }
 
 impl<W: Write> Output<W> {
@@ -106,9 +114,12 @@ impl<W: Write> Sink for Output<W> {
 
     fn put(&mut self, bytes: &[u8]) -> Result<usize, Failed>
         ensures within { IfOk result (λ n. n ≤ length bytes.now) }
-        ensures count { IfOk result (λ n. n ≡ min (length bytes.now) (room KEPT (length self.old.kept))) }
-        ensures given { IfOk result (λ n. Appends (given_to self.old) (given_to self.new) (take n bytes.now)) }
-        ensures failures { self.new.failures ≡ put_failures_after result (length bytes.now) self.old.failures }
+        ensures count { IfOk result
+            (λ n. n ≡ min (length bytes.now) (room KEPT (length self.old.kept))) }
+        ensures given { IfOk result
+            (λ n. Appends (given_to self.old) (given_to self.new) (take n bytes.now)) }
+        ensures failures { self.new.failures ≡ put_failures_after result (length bytes.now)
+            self.old.failures }
     {
         if self.kept.is_full() {
             self.flush()?;

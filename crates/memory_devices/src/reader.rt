@@ -19,7 +19,8 @@ impl<'a> Model for Reader<'a> {
 
     ghost Value = { Reading };
 
-    ghost view = { λ reader. record { left = reader.rest.now; pulls = reader.pulls; failures = reader.failures } };
+    ghost view = { λ reader.
+        record { left = reader.rest.now; pulls = reader.pulls; failures = reader.failures } };
 }
 
 impl<'a> Reader<'a> {
