@@ -23,15 +23,20 @@ fn largest(rt: &impl Abort) -> Size {
     Size::new(MAX_LINES).expect(rt, "a board has so many lines")
 }
 
-/// Asserts that a script is answered by this text, however its bytes come in.
+/// Asserts that a script is answered by this text, however its bytes come in and the answers leave.
 fn says(rt: &impl Abort, alloc: Global, script: &[u8], answers: &[u8]) {
-    for most in [1, 7, 4_096] {
+    for most in [1, 2, 7, 4_096] {
         let mut reader = Reader::new(script).in_pieces_of(most);
         let mut writer = Writer::new(alloc);
         let end = run(alloc, largest(rt), &mut reader, &mut writer, &mut NoFiles);
         assert!(rt; end == Ok(()));
         assert!(rt; writer.bytes() == answers);
     }
+    let mut reader = Reader::new(script);
+    let mut writer = Writer::new(alloc).in_pieces_of(1);
+    let end = run(alloc, largest(rt), &mut reader, &mut writer, &mut NoFiles);
+    assert!(rt; end == Ok(()));
+    assert!(rt; writer.bytes() == answers);
 }
 
 #[test]
@@ -228,6 +233,27 @@ fn fault_texts(rt: HostRuntime) -> Result<(), Fail> {
     assert!(rt; format!(in alloc; "{}", RunError::Write)?.as_str() == "write fault");
     assert!(rt; format!(in alloc; "{}", RunError::Endless)?.as_str() == "input without end");
     Ok(())
+}
+
+#[test]
+fn suicide_of_several(rt: HostRuntime) {
+    says(
+        &rt,
+        rt.alloc(),
+        b"boardsize 3\nplay b A1\nplay w A2\nplay w B2\nplay w C1\nplay b B1\nundo\n",
+        b"=\n\n=\n\n=\n\n=\n\n=\n\n=\n\n=\n\n",
+    );
+}
+
+#[test]
+fn ko_after_passes(rt: HostRuntime) {
+    says(
+        &rt,
+        rt.alloc(),
+        b"boardsize 4\nplay b B3\nplay b A2\nplay b B1\nplay w C3\nplay w C1\nplay w D2\nplay w B2\n\
+        play b C2\nplay w pass\nplay b pass\nplay w b2\n",
+        b"=\n\n=\n\n=\n\n=\n\n=\n\n=\n\n=\n\n=\n\n=\n\n=\n\n=\n\n? illegal move\n\n",
+    );
 }
 
 #[test]
