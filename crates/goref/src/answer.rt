@@ -50,7 +50,7 @@ fn put_empty<W: Sink>(id: Option<u32>, pen: &mut Pen, writer: &mut W)
 {
     pen.put(b"=", writer);
     put_id(id, pen, writer);
-    pen.put(b"\n\n", writer);
+    put_end(pen, writer);
 }
 
 fn put_told<A: Allocator + Copy, W: Sink>(
@@ -67,7 +67,7 @@ fn put_told<A: Allocator + Copy, W: Sink>(
     put_id(id, pen, writer);
     pen.put(b" ", writer);
     put_fact(session, fact, pen, writer);
-    pen.put(b"\n\n", writer);
+    put_end(pen, writer);
 }
 
 fn put_refused<W: Sink>(id: Option<u32>, why: Refusal, pen: &mut Pen, writer: &mut W)
@@ -78,6 +78,14 @@ fn put_refused<W: Sink>(id: Option<u32>, why: Refusal, pen: &mut Pen, writer: &m
     put_id(id, pen, writer);
     pen.put(b" ", writer);
     pen.put(refusal_word(why), writer);
+    put_end(pen, writer);
+}
+
+/// The two line ends behind each answer.
+fn put_end<W: Sink>(pen: &mut Pen, writer: &mut W)
+    ensures { Adds (place pen.old.has_failed (W.taken writer.old) (W.failures writer.old))
+        (place pen.new.has_failed (W.taken writer.new) (W.failures writer.new)) (codes "\n\n") }
+{
     pen.put(b"\n\n", writer);
 }
 

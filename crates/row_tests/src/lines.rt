@@ -1,4 +1,8 @@
-use goref::Line;
+use go_board::{MAX_LINES, Size};
+use goref::{Fetched, Line, Session};
+use memory_devices::Writer;
+use std::alloc::Global;
+use std::process::Abort;
 
 fn same(bytes: &[u8], text: &[u8]) -> bool {
     let line = Line::of(bytes);
@@ -56,4 +60,72 @@ fn hostile_lines(rt: HostRuntime) {
     reused.clear();
     reused.extend(b"quit");
     assert!(rt; reused.text() == b"quit".as_slice() && !reused.is_long());
+}
+
+/// Asserts how a line is answered over an empty board.
+fn answers(rt: &impl Abort, alloc: Global, line: &Line, text: &[u8]) {
+    let size = Size::new(MAX_LINES).expect(rt, "a size");
+    let mut session = Session::new(alloc, size);
+    let mut writer = Writer::new(alloc);
+    assert!(rt; session.answer(line, Fetched::None, &mut writer).is_ok());
+    assert!(rt; writer.bytes() == text);
+}
+
+#[test]
+fn long_lines_are_answered(rt: HostRuntime) {
+    let alloc = rt.alloc();
+    answers(
+        &rt,
+        alloc,
+        &filled(b"play ", b'a', 4_092, b""),
+        b"? line too long\n\n",
+    );
+    answers(
+        &rt,
+        alloc,
+        &filled(b"play ", b'a', 4_091, b""),
+        b"? syntax error\n\n",
+    );
+    answers(
+        &rt,
+        alloc,
+        &filled(b"9 play ", b'a', 4_090, b""),
+        b"?9 line too long\n\n",
+    );
+    answers(
+        &rt,
+        alloc,
+        &filled(b"", b'a', 4_096, b""),
+        b"? unknown command\n\n",
+    );
+    answers(
+        &rt,
+        alloc,
+        &filled(b"", b'a', 4_097, b""),
+        b"? line too long\n\n",
+    );
+    answers(
+        &rt,
+        alloc,
+        &filled(b"", b'1', 5_000, b""),
+        b"? line too long\n\n",
+    );
+    answers(
+        &rt,
+        alloc,
+        &filled(b"2147483648 ", b'a', 5_000, b""),
+        b"? line too long\n\n",
+    );
+    let mut commented = filled(b"play ", b'a', 4_091, b"   #");
+    for _ in 0..9_000u16 {
+        commented.push(b'x');
+    }
+    answers(&rt, alloc, &commented, b"? syntax error\n\n");
+}
+
+#[test]
+fn silent_lines(rt: HostRuntime) {
+    answers(&rt, rt.alloc(), &filled(b"", 7, 10_000, b""), b"");
+    answers(&rt, rt.alloc(), &filled(b"", b' ', 1_000_000, b""), b"");
+    answers(&rt, rt.alloc(), &Line::of(b"# note"), b"");
 }

@@ -256,6 +256,22 @@ fn ko_after_passes(rt: HostRuntime) {
     );
 }
 
+/// The reader gives one line at a time.
+#[test]
+fn a_line_at_a_time(rt: HostRuntime) {
+    let mut reader = Reader::new(b"undo\nname\nquit\n").in_pieces_of(5);
+    let mut writer = Writer::new(rt.alloc());
+    let end = run(
+        rt.alloc(),
+        largest(&rt),
+        &mut reader,
+        &mut writer,
+        &mut NoFiles,
+    );
+    assert!(rt; end == Ok(()));
+    assert!(rt; writer.bytes() == b"? cannot undo\n\n= goref\n\n=\n\n".as_slice());
+}
+
 #[test]
 fn komi(rt: HostRuntime) {
     says(
