@@ -1,9 +1,10 @@
 -- The test of legality decides it.
-use Rattle.std.proofs.Common.{◌≡◌, ◌∙◌, ℕ, zero, suc, ◌<◌, ◌&&◌, ◌||◌, nat_lt, Bool, true, false, not, List, [], ◌∷◌, length, Option, Some, None, refl, ap, ap₂, arith, inl, inr, ◌⊎◌, ◌≢◌}
+use Rattle.std.proofs.Common.{◌≡◌, ◌∙◌, ℕ, zero, suc, ◌<◌, ◌&&◌, ◌||◌, nat_lt, Bool, true, false, not, List, [], ◌∷◌, length, Option, Some, None, refl, ap, ap₂, arith, sym, ◌↔◌, inl, inr, ◌⊎◌, ◌≢◌}
 use Rattle.std.proofs.lemmas.Bool.{ltb-true, lt-ltb}
 use Rattle.std.specs.Prelude.{Contains, slice_index_or}
 use Rattle.std.specs.List.{list_any}
 use lib.Pointwise.{pointwise}
+use Rattle.std.proofs.lemmas.List.{get_or_default}
 use Rattle.std.proofs.lemmas.Bool.Decides.{nat_tests}
 use Rattle.std.proofs.lemmas.Map.Views.{Contains-from_any}
 use Rattle.go_board.specs.declared.colour.Colour.{Colour}
@@ -129,3 +130,23 @@ open_otherwise s (At p) h k = open_at (on_or_off p.col p.row s.lines) (none_or_s
     open_at (inl on) (inl empty) = open_here s p (on.0, on.1) empty
     open_at (inl on) (inr held) = absurd (k ((on.0, on.1), held.0))
     open_at (inr off) held = absurd (h off.0)
+
+-- what passes is legal
+pub passes_legal : (s : Standing) (c : Colour) (v : Vertex) → is_legal s c v ≡ true → IsLegal s c v
+passes_legal s c Pass e = tt
+passes_legal s c (At p) e =
+    let parts = both (is_open s (At p)) (not (is_repeat s c (At p))) e in
+    let empty = both (nat_lt p.col s.lines && nat_lt p.row s.lines) (has_colour (board_of s) (number_of s.lines p) None) parts.0 in
+    let on = both (nat_lt p.col s.lines) (nat_lt p.row s.lines) empty.0 in
+    let g = moved s.lines (board_of s) c (number_of s.lines p) in (
+      (ltb-true p.col s.lines on.0, ltb-true p.row s.lines on.1),
+      same_is (colour_at (board_of s) (number_of s.lines p)) None empty.1,
+      λ found.
+          let stood = any_at g (positions_of s) found.0 found.1 (get_or_default (positions_of s) found.0 [] g found.1 ∙ found.2) in
+          let wrong : false ≡ true = sym (ap not stood) ∙ parts.1 in
+          cc,
+    )
+
+-- the test of legality decides it
+pub legal_is : (s : Standing) (c : Colour) (v : Vertex) → (is_legal s c v ≡ true) ↔ IsLegal s c v
+legal_is s c v = (passes_legal s c v, legal_passes s c v)

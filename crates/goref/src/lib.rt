@@ -6,6 +6,7 @@ mod command;
 mod decision;
 mod flow;
 mod komi;
+pub mod laws;
 mod line;
 mod request;
 mod runs;
