@@ -1,3 +1,7 @@
+ghost use Rattle.std.specs.Prelude.{◌≡◌};
+ghost use Rattle.go_board.specs.Points.{IsOn};
+ghost use Rattle.go_board.specs.Sizes.{lines_of};
+
 use go_board::plain::{areas, first_dead, place, same_chain};
 use go_board::{
     Colour, Grid, Point, Size, Taken, Vertex, VertexError, neighbours, read_vertex, vertex_text,
@@ -5,7 +9,9 @@ use go_board::{
 use std::process::Abort;
 
 /// The point that a word names.
-fn point(rt: &impl Abort, size: Size, word: &[u8]) -> Point {
+fn point(rt: &impl Abort, size: Size, word: &[u8]) -> Point
+    ensures { IsOn (lines_of size) result }
+{
     match read_vertex(word, size) {
         Ok(Vertex::At(point)) if point.on(size) => point,
         _ => {
@@ -15,7 +21,9 @@ fn point(rt: &impl Abort, size: Size, word: &[u8]) -> Point {
     }
 }
 
-fn size_of(rt: &impl Abort, lines: u8) -> Size {
+fn size_of(rt: &impl Abort, lines: u8) -> Size
+    ensures { lines_of result ≡ lines }
+{
     Size::new(lines).expect(rt, "a size")
 }
 

@@ -1,10 +1,15 @@
+ghost use Rattle.std.specs.Prelude.{◌≡◌};
+ghost use Rattle.go_board.specs.Sizes.{lines_of};
+
 use failing::Failing;
 use go_board::{Colour, Grid, Move, Point, Size, Taken, Vertex, read_vertex};
 use go_game::{Game, PlayError, SetupError};
 use std::alloc::Allocator;
 use std::process::Abort;
 
-fn size_of(rt: &impl Abort, lines: u8) -> Size {
+fn size_of(rt: &impl Abort, lines: u8) -> Size
+    ensures { lines_of result ≡ lines }
+{
     Size::new(lines).expect(rt, "a size")
 }
 
@@ -131,7 +136,7 @@ fn komi_is_no_move(rt: HostRuntime) {
 fn starts(rt: HostRuntime) {
     let mut full = Grid::new(size_of(&rt, 2));
     for number in 0..4u16 {
-        let at = Point::numbered(full.size(), number);
+        let at = Point::nth(full.size(), number).expect(&rt, "a point");
         full.set(at, Some(Colour::Black));
     }
     let refused = Game::start_from(rt.alloc(), &full, Colour::Black);
@@ -155,7 +160,7 @@ fn script<A: Allocator + Copy>(rt: &impl Abort, game: &mut Game<A>) -> u32 {
     let mut refused = 0u32;
     for number in 0..9u16 {
         let before = game.move_count();
-        let vertex = Vertex::At(Point::numbered(game.size(), number * 2));
+        let vertex = Vertex::At(Point::nth(game.size(), number * 2).expect(rt, "a point"));
         let made = Move {
             colour: Colour::Black,
             vertex,
