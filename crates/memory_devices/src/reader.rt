@@ -1,14 +1,38 @@
-ghost use Rattle.std.specs.Prelude.{◌≡◌, Some};
+ghost use Rattle.std.specs.Prelude.{◌≡◌, ◌≤◌, Some};
 
 use crate::calls::Calls;
 use go_board::{Failed, Meter, Source};
 use std::marker::Model;
 
+/// What a pull gives of a text, as far as there is room for it.
+#[derive(Clone, Copy)]
+enum Piece {
+    /// So many bytes, and at least one.
+    Bytes(usize),
+    /// What stands up to the end of a line.
+    Line,
+}
+
+impl Piece {
+    /// How many bytes of this text a pull gives at most.
+    fn most(self, text: &[u8]) -> usize
+        ensures { 1 ≤ result }
+    {
+        match self {
+            Piece::Bytes(most) => most.max(1),
+            Piece::Line => match text.iter().position(|byte| *byte == b'\n') {
+                Some(end) => end.saturating_add(1),
+                None => usize::MAX,
+            },
+        }
+    }
+}
+
 /// A text that is read. Unless told otherwise it comes whole, as far as there is room for it.
 #[derive(Drop)]
 pub struct Reader<'a> {
     rest: &'a [u8],
-    most: usize,
+    piece: Piece,
     calls: Calls,
     pulls: Meter,
     failures: Meter,
@@ -30,7 +54,7 @@ impl<'a> Reader<'a> {
     {
         Reader {
             rest: text,
-            most: usize::MAX,
+            piece: Piece::Bytes(usize::MAX),
             calls: Calls::with_chosen(0),
             pulls: Meter::new(),
             failures: Meter::new(),
@@ -41,7 +65,15 @@ impl<'a> Reader<'a> {
     pub fn in_pieces_of(mut self, most: usize) -> Reader<'a>
         ensures { result ≡ self.entry }
     {
-        self.most = most;
+        self.piece = Piece::Bytes(most);
+        self
+    }
+
+    /// Each pull gives at most one line, or the front of one.
+    pub fn in_lines(mut self) -> Reader<'a>
+        ensures { result ≡ self.entry }
+    {
+        self.piece = Piece::Line;
         self
     }
 
@@ -72,7 +104,7 @@ impl Source for Reader<'_> {
             self.failures.tick();
             return Err(Failed);
         }
-        let count = self.rest.len().min(buffer.len()).min(self.most.max(1));
+        let count = self.rest.len().min(buffer.len()).min(self.piece.most(self.rest));
         let (piece, rest) = self.rest.split_at(count);
         buffer[..count].copy_from_slice(piece);
         self.rest = rest;

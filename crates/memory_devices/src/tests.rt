@@ -23,6 +23,14 @@ fn a_text_is_read_in_pieces(rt: HostRuntime) {
 }
 
 #[test]
+fn a_text_is_read_in_lines(rt: HostRuntime) {
+    let mut reader = Reader::new(b"a\n\nb c d\nend").in_lines();
+    for piece in [b"a\n".as_slice(), b"\n", b"b c ", b"d\n", b"end", b""] {
+        pulls(&rt, &mut reader, piece);
+    }
+}
+
+#[test]
 fn one_pull_fails(rt: HostRuntime) {
     let mut reader = Reader::new(b"undo").in_pieces_of(1).failing_at(3);
     pulls(&rt, &mut reader, b"u");
