@@ -9,3 +9,5 @@ pub mod Progressing
 pub mod Running
 pub mod Legal
 pub mod Moves
+pub mod Listing
+pub mod Earlier

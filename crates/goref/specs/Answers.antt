@@ -4,14 +4,18 @@ use Rattle.std.specs.List.{join_with_byte}
 use Rattle.goref.specs.declared.decision.Decision.{Decision}
 use Rattle.goref.specs.declared.decision.Decision.TheVariants.{Done, Ends, Tells, Refused}
 use Rattle.goref.specs.declared.decision.Fact.{Fact}
-use Rattle.goref.specs.declared.decision.Fact.TheVariants.{Protocol, Program, Release, Commands, Known}
+use Rattle.goref.specs.declared.decision.Fact.TheVariants.{Protocol, Program, Release, Commands, Known, Score, Board, Chains}
 use Rattle.goref.specs.declared.decision.Refusal.{Refusal}
 use Rattle.goref.specs.declared.decision.Refusal.TheVariants.{LineTooLong, UnknownCommand, SyntaxError, UnacceptableSize, IllegalMove, CannotUndo, OutOfMemory}
-use Rattle.go_game.specs.Standings.{Standing}
+use Rattle.go_game.specs.Standings.{Standing, board_of}
+use Rattle.go_game.specs.Scores.{margin_of, score_word}
 use Rattle.goref.specs.Kept.{Kept, has_bytes, words}
 use Rattle.goref.specs.Requests.{asked_by, id_of_cut}
 use Rattle.goref.specs.Contents.{Content}
 use Rattle.goref.specs.Commands.{command_names}
+use Rattle.goref.specs.Results.{result_text}
+use Rattle.goref.specs.Diagrams.{diagram}
+use Rattle.goref.specs.ChainLines.{chain_lines}
 use Rattle.goref.specs.Decisions.{Decided, keeps, decided, MayLackMemory}
 
 abbrev pub refusal_text : Refusal → List ℕ
@@ -34,17 +38,20 @@ fact_text Program s = codes "goref"
 fact_text Release s = codes "1.0"
 fact_text Commands s = join_with_byte 10 command_names
 fact_text (Known b) s = truth_text b
+fact_text Score s = score_word (margin_of s)
+fact_text Board s = diagram s
+fact_text Chains s = chain_lines s.lines (board_of s)
 
 -- the id in front of an answer, without leading zeros
 abbrev pub id_text : Option ℕ → List ℕ
 id_text None = []
 id_text (Some id) = decimal id
 
--- `=`, the id, a space and the result where there is one, and two line ends
+-- `=`, the id and the result, or `?`, the id, a space and why; and two line ends
 abbrev pub decision_text : Option ℕ → Decision → Standing → List ℕ
 decision_text id Done s = codes "=" ++ (id_text id ++ codes "\n\n")
 decision_text id Ends s = codes "=" ++ (id_text id ++ codes "\n\n")
-decision_text id (Tells fact) s = codes "=" ++ (id_text id ++ (codes " " ++ (fact_text fact s ++ codes "\n\n")))
+decision_text id (Tells fact) s = codes "=" ++ (id_text id ++ (result_text (fact_text fact s) ++ codes "\n\n"))
 decision_text id (Refused why) s = codes "?" ++ (id_text id ++ (codes " " ++ (refusal_text why ++ codes "\n\n")))
 
 abbrev pub is_end : Decision → Bool

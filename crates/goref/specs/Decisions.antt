@@ -6,7 +6,7 @@ use Rattle.goref.specs.declared.command.Command.{Command}
 use Rattle.goref.specs.declared.command.Command.TheVariants as command
 use Rattle.goref.specs.declared.decision.Decision.{Decision}
 use Rattle.goref.specs.declared.decision.Decision.TheVariants.{Done, Ends, Tells, Refused}
-use Rattle.goref.specs.declared.decision.Fact.TheVariants.{Protocol, Program, Release, Commands, Known}
+use Rattle.goref.specs.declared.decision.Fact.TheVariants.{Protocol, Program, Release, Commands, Known, Score, Board, Chains}
 use Rattle.go_game.specs.declared.errors.PlayError.{PlayError}
 use Rattle.go_game.specs.declared.errors.PlayError.TheVariants.{OffBoard, Occupied, Repeats, Memory}
 use Rattle.goref.specs.declared.decision.Refusal.{Refusal}
@@ -87,6 +87,9 @@ decided_on s command.ClearBoard arguments content = comes_to (begun s.lines s.ko
 decided_on s command.Komi arguments content = decided_komi s (option_and_then komi_of (slice_get arguments 0))
 decided_on s command.Play arguments content = decided_play s (option_and_then colour_of (slice_get arguments 0)) (option_and_then vertex_of (slice_get arguments 1))
 decided_on s command.Undo arguments content = decided_undo s s.moves
+decided_on s command.FinalScore arguments content = keeps s (Tells Score)
+decided_on s command.Showboard arguments content = keeps s (Tells Board)
+decided_on s command.Chains arguments content = keeps s (Tells Chains)
 
 -- what is decided on a name, which may be that of no command
 abbrev pub decided_if : Standing → Option Command → List (List ℕ) → Content → Decided

@@ -7,6 +7,9 @@ pub mod Requests
 pub mod Starts
 pub mod Legal
 pub mod Contents
+pub mod Results
+pub mod Diagrams
+pub mod ChainLines
 pub mod Commands
 pub mod Decisions
 pub mod Answers

@@ -1,11 +1,19 @@
 ghost use Rattle.std.specs.Prelude.{◌≡◌, ◌++◌, codes};
 ghost use Rattle.go_board.specs.Device.{Adds, Sent, failures_after, place};
+ghost use Rattle.std.specs.List.{join_with_byte};
+ghost use Rattle.go_game.specs.Scores.{margin_of, score_word};
 ghost use Rattle.goref.specs.Answers.{id_text, refusal_text, fact_text, decision_text};
+ghost use Rattle.goref.specs.Commands.{command_names};
+ghost use Rattle.goref.specs.Diagrams.{diagram};
+ghost use Rattle.goref.specs.Results.{result_text};
 
+use crate::chain_lines::put_chains;
 use crate::command::listing;
 use crate::decision::{Decision, Fact, Refusal};
+use crate::diagram::put_diagram;
 use crate::session::Session;
 use go_board::{Pen, Sink, WriteFault};
+use go_game::{Game, score_text};
 use itoa::Buffer;
 use std::alloc::Allocator;
 
@@ -61,11 +69,10 @@ fn put_told<A: Allocator + Copy, W: Sink>(
     writer: &mut W,
 )
     ensures { Adds (place pen.old.has_failed (W.taken writer.old) (W.failures writer.old))
-        (place pen.new.has_failed (W.taken writer.new) (W.failures writer.new)) (codes "=" ++ (id_text id ++ (codes " " ++ (fact_text fact session.now ++ codes "\n\n")))) }
+        (place pen.new.has_failed (W.taken writer.new) (W.failures writer.new)) (codes "=" ++ (id_text id ++ (result_text (fact_text fact session.now) ++ codes "\n\n"))) }
 {
     pen.put(b"=", writer);
     put_id(id, pen, writer);
-    pen.put(b" ", writer);
     put_fact(session, fact, pen, writer);
     put_end(pen, writer);
 }
@@ -99,6 +106,7 @@ fn put_id<W: Sink>(id: Option<u32>, pen: &mut Pen, writer: &mut W)
     }
 }
 
+/// Writes what a fact says, behind a space.
 fn put_fact<A: Allocator + Copy, W: Sink>(
     session: &Session<A>,
     fact: Fact,
@@ -106,16 +114,47 @@ fn put_fact<A: Allocator + Copy, W: Sink>(
     writer: &mut W,
 )
     ensures { Adds (place pen.old.has_failed (W.taken writer.old) (W.failures writer.old))
-        (place pen.new.has_failed (W.taken writer.new) (W.failures writer.new)) (fact_text fact session.now) }
+        (place pen.new.has_failed (W.taken writer.new) (W.failures writer.new))
+        (result_text (fact_text fact session.now)) }
 {
     match fact {
-        Fact::Protocol => pen.put(b"2", writer),
-        Fact::Program => pen.put(b"goref", writer),
-        Fact::Release => pen.put(b"1.0", writer),
-        Fact::Commands => pen.put(listing(), writer),
-        Fact::Known(true) => pen.put(b"true", writer),
-        Fact::Known(false) => pen.put(b"false", writer),
+        Fact::Protocol => pen.put(b" 2", writer),
+        Fact::Program => pen.put(b" goref", writer),
+        Fact::Release => pen.put(b" 1.0", writer),
+        Fact::Commands => put_commands(pen, writer),
+        Fact::Known(true) => pen.put(b" true", writer),
+        Fact::Known(false) => pen.put(b" false", writer),
+        Fact::Score => put_score(session.game(), pen, writer),
+        Fact::Board => put_board(session.game(), pen, writer),
+        Fact::Chains => put_chains(session.game(), pen, writer),
     }
+}
+
+fn put_commands<W: Sink>(pen: &mut Pen, writer: &mut W)
+    ensures { Adds (place pen.old.has_failed (W.taken writer.old) (W.failures writer.old))
+        (place pen.new.has_failed (W.taken writer.new) (W.failures writer.new))
+        (result_text (join_with_byte 10 command_names)) }
+{
+    pen.put(b" ", writer);
+    pen.put(listing(), writer);
+}
+
+fn put_score<A: Allocator + Copy, W: Sink>(game: &Game<A>, pen: &mut Pen, writer: &mut W)
+    ensures { Adds (place pen.old.has_failed (W.taken writer.old) (W.failures writer.old))
+        (place pen.new.has_failed (W.taken writer.new) (W.failures writer.new))
+        (result_text (score_word (margin_of game.now.standing))) }
+{
+    pen.put(b" ", writer);
+    pen.put(score_text(game.margin()).as_bytes(), writer);
+}
+
+fn put_board<A: Allocator + Copy, W: Sink>(game: &Game<A>, pen: &mut Pen, writer: &mut W)
+    ensures { Adds (place pen.old.has_failed (W.taken writer.old) (W.failures writer.old))
+        (place pen.new.has_failed (W.taken writer.new) (W.failures writer.new))
+        (result_text (diagram game.now.standing)) }
+{
+    pen.put(b" ", writer);
+    put_diagram(game, pen, writer);
 }
 
 /// What the answer says to a refused command.

@@ -16,11 +16,14 @@ pub enum Command {
     Komi,
     Play,
     Undo,
+    FinalScore,
+    Showboard,
+    Chains,
 }
 
 /// The names of all commands, each on a line of its own.
 const LISTING: &[u8] =
-    b"protocol_version\nname\nversion\nknown_command\nlist_commands\nquit\nboardsize\nclear_board\nkomi\nplay\nundo";
+    b"protocol_version\nname\nversion\nknown_command\nlist_commands\nquit\nboardsize\nclear_board\nkomi\nplay\nundo\nfinal_score\nshowboard\ngoref-chains";
 
 /// The command of this name.
 pub fn command_named(name: &[u8]) -> Option<Command>
@@ -58,6 +61,15 @@ pub fn command_named(name: &[u8]) -> Option<Command>
     }
     if name == b"undo".as_slice() {
         return Some(Command::Undo);
+    }
+    if name == b"final_score".as_slice() {
+        return Some(Command::FinalScore);
+    }
+    if name == b"showboard".as_slice() {
+        return Some(Command::Showboard);
+    }
+    if name == b"goref-chains".as_slice() {
+        return Some(Command::Chains);
     }
     None
 }

@@ -24,6 +24,12 @@ pub enum Fact {
     Commands,
     /// Whether a name is that of a command.
     Known(bool),
+    /// Who is ahead, and by how much.
+    Score,
+    /// The diagram of the board.
+    Board,
+    /// The chains with their liberties.
+    Chains,
 }
 
 /// Why a command is refused.

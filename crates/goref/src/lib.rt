@@ -2,8 +2,10 @@
 #![tactic(auto)]
 
 mod answer;
+mod chain_lines;
 mod command;
 mod decision;
+mod diagram;
 mod flow;
 mod komi;
 pub mod laws;

@@ -109,6 +109,9 @@ impl<A: Allocator + Copy> Session<A> {
             Some(Command::Komi) => self.decide_komi(request),
             Some(Command::Play) => self.decide_play(request),
             Some(Command::Undo) => self.decide_undo(),
+            Some(Command::FinalScore) => Decision::Tells(Fact::Score),
+            Some(Command::Showboard) => Decision::Tells(Fact::Board),
+            Some(Command::Chains) => Decision::Tells(Fact::Chains),
         }
     }
 

@@ -12,8 +12,9 @@ use go_board::{Failed, Meter, Sink, Source};
 use std::io::{self, Read, Write};
 use std::marker::Model;
 
-/// The most bytes that an output keeps back.
-const KEPT: usize = 4096;
+/// The most bytes that an output keeps back: no diagram of a board and no list of its chains has
+/// more.
+const KEPT: usize = 16_384;
 
 /// A stream that is read, as a device that doesn't tell its bytes.
 #[derive(Drop)]

@@ -64,23 +64,36 @@ fn an_answer_leaves_in_one_write(rt: HostRuntime) -> Result<(), Fail> {
 }
 
 #[test]
+fn an_answer_in_many_pieces_leaves_in_one_write(rt: HostRuntime) -> Result<(), Fail> {
+    let mut writes = Writes::new(rt.alloc(), 0);
+    let mut output = Output::new(&mut writes);
+    for _ in 0..400u32 {
+        assert!(rt; send(b" T19", &mut output).is_ok());
+    }
+    assert!(rt; output.flush().is_ok());
+    drop(output);
+    assert!(rt; writes.lengths.as_slice() == [1_600].as_slice());
+    Ok(())
+}
+
+#[test]
 fn a_long_answer_leaves_in_several(rt: HostRuntime) -> Result<(), Fail> {
-    let text = letters(rt.alloc(), 10_000)?;
+    let text = letters(rt.alloc(), 40_000)?;
     let mut writes = Writes::new(rt.alloc(), 0);
     let mut output = Output::new(&mut writes);
     assert!(rt; send(b"= ", &mut output).is_ok());
     assert!(rt; send(text.as_slice(), &mut output).is_ok());
     assert!(rt; output.flush().is_ok());
     drop(output);
-    assert!(rt; writes.lengths.as_slice() == [4096, 4096, 1810].as_slice());
-    assert!(rt; writes.bytes.len() == 10_002);
+    assert!(rt; writes.lengths.as_slice() == [16_384, 16_384, 7_234].as_slice());
+    assert!(rt; writes.bytes.len() == 40_002);
     assert!(rt; writes.bytes.as_slice().ends_with(text.as_slice()));
     Ok(())
 }
 
 #[test]
 fn a_refused_write_is_told(rt: HostRuntime) -> Result<(), Fail> {
-    let text = letters(rt.alloc(), 5_000)?;
+    let text = letters(rt.alloc(), 17_000)?;
     let mut writes = Writes::new(rt.alloc(), 1);
     let mut output = Output::new(&mut writes);
     assert!(rt; send(text.as_slice(), &mut output).is_err());

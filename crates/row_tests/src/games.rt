@@ -3,7 +3,7 @@ ghost use Rattle.go_board.specs.Sizes.{lines_of};
 
 use failing::Failing;
 use go_board::{Colour, Grid, Move, Point, Size, Taken, Vertex, read_vertex};
-use go_game::{Game, PlayError, SetupError};
+use go_game::{Game, PlayError, SetupError, hundredths_text, score_text};
 use std::alloc::Allocator;
 use std::process::Abort;
 
@@ -130,6 +130,25 @@ fn komi_is_no_move(rt: HostRuntime) {
     assert!(rt; game.komi() == 400);
     game.clear();
     assert!(rt; game.komi() == 400);
+}
+
+#[test]
+fn texts_of_hundredths(rt: HostRuntime) {
+    assert!(rt; hundredths_text(5).as_str() == "0.05");
+    assert!(rt; hundredths_text(50).as_str() == "0.5");
+    assert!(rt; hundredths_text(600).as_str() == "6");
+    assert!(rt; hundredths_text(-5).as_str() == "-0.05");
+    assert!(rt; hundredths_text(i64::MIN).as_str() == "-92233720368547758.08");
+}
+
+#[test]
+fn texts_of_scores(rt: HostRuntime) {
+    assert!(rt; score_text(5).as_str() == "B+0.05");
+    assert!(rt; score_text(50).as_str() == "B+0.5");
+    assert!(rt; score_text(600).as_str() == "B+6");
+    assert!(rt; score_text(-5).as_str() == "W+0.05");
+    assert!(rt; score_text(i64::MIN).as_str() == "W+92233720368547758.08");
+    assert!(rt; score_text(0).as_str() == "0");
 }
 
 #[test]

@@ -4,6 +4,8 @@
 #[cfg(test)]
 mod board;
 #[cfg(test)]
+mod boards;
+#[cfg(test)]
 mod games;
 #[cfg(test)]
 mod lines;

@@ -24,16 +24,34 @@ fn largest(rt: &impl Abort) -> Size {
 }
 
 /// Asserts that a script is answered by this text, however its bytes come in and the answers leave.
-fn says(rt: &impl Abort, alloc: Global, script: &[u8], answers: &[u8]) {
-    for most in [1, 2, 7, 4_096] {
-        let mut reader = Reader::new(script).in_pieces_of(most);
-        let mut writer = Writer::new(alloc);
-        let end = run(alloc, largest(rt), &mut reader, &mut writer, &mut NoFiles);
-        assert!(rt; end == Ok(()));
-        assert!(rt; writer.bytes() == answers);
+pub(crate) fn says(rt: &impl Abort, alloc: Global, script: &[u8], answers: &[u8]) {
+    let whole = || Reader::new(script);
+    for reader in [
+        whole(),
+        whole().in_lines(),
+        whole().in_pieces_of(1),
+        whole().in_pieces_of(2),
+        whole().in_pieces_of(7),
+    ] {
+        answers_to(rt, alloc, reader, Writer::new(alloc), answers);
     }
-    let mut reader = Reader::new(script);
-    let mut writer = Writer::new(alloc).in_pieces_of(1);
+    answers_to(
+        rt,
+        alloc,
+        whole(),
+        Writer::new(alloc).in_pieces_of(1),
+        answers,
+    );
+}
+
+/// Asserts that what is read is answered by this text.
+fn answers_to(
+    rt: &impl Abort,
+    alloc: Global,
+    mut reader: Reader<'_>,
+    mut writer: Writer<Global>,
+    answers: &[u8],
+) {
     let end = run(alloc, largest(rt), &mut reader, &mut writer, &mut NoFiles);
     assert!(rt; end == Ok(()));
     assert!(rt; writer.bytes() == answers);
@@ -52,16 +70,6 @@ fn first_run(rt: HostRuntime) {
 #[test]
 fn nothing_to_undo(rt: HostRuntime) {
     says(&rt, rt.alloc(), b"undo\n", b"? cannot undo\n\n");
-}
-
-#[test]
-fn two_by_two_capture(rt: HostRuntime) {
-    says(
-        &rt,
-        rt.alloc(),
-        b"boardsize 2\nplay b A1\nplay w B1\nplay w A2\nplay b a1\n",
-        b"=\n\n=\n\n=\n\n=\n\n? illegal move\n\n",
-    );
 }
 
 #[test]
@@ -86,7 +94,7 @@ fn commands_are_listed(rt: HostRuntime) {
         &rt,
         rt.alloc(),
         b"list_commands\n",
-        b"= protocol_version\nname\nversion\nknown_command\nlist_commands\nquit\nboardsize\nclear_board\nkomi\nplay\nundo\n\n",
+        b"= protocol_version\nname\nversion\nknown_command\nlist_commands\nquit\nboardsize\nclear_board\nkomi\nplay\nundo\nfinal_score\nshowboard\ngoref-chains\n\n",
     );
 }
 
@@ -236,16 +244,6 @@ fn fault_texts(rt: HostRuntime) -> Result<(), Fail> {
 }
 
 #[test]
-fn suicide_of_several(rt: HostRuntime) {
-    says(
-        &rt,
-        rt.alloc(),
-        b"boardsize 3\nplay b A1\nplay w A2\nplay w B2\nplay w C1\nplay b B1\nundo\n",
-        b"=\n\n=\n\n=\n\n=\n\n=\n\n=\n\n=\n\n",
-    );
-}
-
-#[test]
 fn ko_after_passes(rt: HostRuntime) {
     says(
         &rt,
@@ -254,22 +252,6 @@ fn ko_after_passes(rt: HostRuntime) {
         play b C2\nplay w pass\nplay b pass\nplay w b2\n",
         b"=\n\n=\n\n=\n\n=\n\n=\n\n=\n\n=\n\n=\n\n=\n\n=\n\n=\n\n? illegal move\n\n",
     );
-}
-
-/// The reader gives one line at a time.
-#[test]
-fn a_line_at_a_time(rt: HostRuntime) {
-    let mut reader = Reader::new(b"undo\nname\nquit\n").in_pieces_of(5);
-    let mut writer = Writer::new(rt.alloc());
-    let end = run(
-        rt.alloc(),
-        largest(&rt),
-        &mut reader,
-        &mut writer,
-        &mut NoFiles,
-    );
-    assert!(rt; end == Ok(()));
-    assert!(rt; writer.bytes() == b"? cannot undo\n\n= goref\n\n=\n\n".as_slice());
 }
 
 #[test]

@@ -1,0 +1,67 @@
+use crate::scripts::says;
+
+#[test]
+fn two_by_two_capture(rt: HostRuntime) {
+    says(
+        &rt,
+        rt.alloc(),
+        b"boardsize 2\nplay b A1\nplay w B1\nplay w A2\ngoref-chains\nshowboard\nplay b a1\n",
+        b"=\n\n=\n\n=\n\n=\n\n\
+        = W B1 : A1 B2\nW A2 : A1 B2\n\n\
+        = size 2 komi 0 prisoners B 1 W 0 moves 3 next B\n 2 O .\n 1 . O\n   A B\n\n\
+        ? illegal move\n\n",
+    );
+}
+
+#[test]
+fn suicide_of_several(rt: HostRuntime) {
+    says(
+        &rt,
+        rt.alloc(),
+        b"boardsize 3\nplay b A1\nplay w A2\nplay w B2\nplay w C1\nplay b B1\n\
+        showboard\nundo\ngoref-chains\n",
+        b"=\n\n=\n\n=\n\n=\n\n=\n\n=\n\n\
+        = size 3 komi 0 prisoners B 2 W 0 moves 5 next W\n \
+        3 . . .\n 2 O O .\n 1 . . O\n   A B C\n\n\
+        =\n\n\
+        = B A1 : B1\nW C1 : B1 C2\nW A2 B2 : B1 C2 A3 B3\n\n",
+    );
+}
+
+#[test]
+fn score_and_komi(rt: HostRuntime) {
+    says(
+        &rt,
+        rt.alloc(),
+        b"boardsize 9\nfinal_score\nkomi 6.5\nfinal_score\nplay b e5\nfinal_score\n\
+        clear_board\nkomi -0.5\nfinal_score\nkomi 6.505\nkomi 1000000000\nfinal_score\n",
+        b"=\n\n= 0\n\n=\n\n= W+6.5\n\n=\n\n= B+74.5\n\n\
+        =\n\n=\n\n= B+0.5\n\n? syntax error\n\n? syntax error\n\n= B+0.5\n\n",
+    );
+}
+
+#[test]
+fn a_board_without_stones(rt: HostRuntime) {
+    says(
+        &rt,
+        rt.alloc(),
+        b"boardsize 1\ngoref-chains\n7 goref-chains\nshowboard\n",
+        b"=\n\n=\n\n=7\n\n\
+        = size 1 komi 0 prisoners B 0 W 0 moves 0 next B\n 1 .\n   A\n\n",
+    );
+}
+
+#[test]
+fn rows_with_two_digits(rt: HostRuntime) {
+    says(
+        &rt,
+        rt.alloc(),
+        b"boardsize 10\nkomi -7.5\nplay b k10\nshowboard\n",
+        b"=\n\n=\n\n=\n\n\
+        = size 10 komi -7.5 prisoners B 0 W 0 moves 1 next W\n\
+        10 . . . . . . . . . X\n 9 . . . . . . . . . .\n 8 . . . . . . . . . .\n \
+        7 . . . . . . . . . .\n 6 . . . . . . . . . .\n 5 . . . . . . . . . .\n \
+        4 . . . . . . . . . .\n 3 . . . . . . . . . .\n 2 . . . . . . . . . .\n \
+        1 . . . . . . . . . .\n   A B C D E F G H J K\n\n",
+    );
+}
