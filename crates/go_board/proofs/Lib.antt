@@ -8,6 +8,7 @@ pub mod Marks
 pub mod Beside
 pub mod Flooding
 pub mod Deciding
+pub mod Alone
 pub mod Seeding
 pub mod Clearing
 pub mod Counted

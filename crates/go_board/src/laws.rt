@@ -1,10 +1,10 @@
 //! What the words of this crate's contracts mean: laws about definitions, each the contract of a
 //! function that does nothing.
-ghost use Rattle.std.specs.Prelude.{◌≡◌, ◌<◌, ◌≤◌, ◌*◌, ◌↔◌, ℕ, Option, None, IsTrue};
+ghost use Rattle.std.specs.Prelude.{◌≡◌, ◌<◌, ◌≤◌, ◌*◌, ◌↔◌, ◌⊎◌, ℕ, false, Option, None, Some, IsTrue};
 ghost use Rattle.go_board.specs.declared.colour.Colour.{Colour};
 ghost use Rattle.go_board.specs.Colours.{Colouring, colour_at};
 ghost use Rattle.go_board.specs.Paths.{Joined, Reaches};
-ghost use Rattle.go_board.specs.Reaching.{is_liberty_of, joined, reaches, vanished};
+ghost use Rattle.go_board.specs.Reaching.{is_dead, is_liberty_of, joined, reaches, vanished};
 ghost use Rattle.go_board.specs.Points.{is_adjacent};
 
 /// The test whether a point reaches a colour holds exactly where a path leads there.
@@ -28,4 +28,11 @@ pub fn liberty_by_a_path()
 /// No more stones of a colour vanish than the board has points.
 pub fn vanished_at_most_all()
     ensures { (n : ℕ) (before after : Colouring) (c : Colour) → vanished n before after c ≤ n * n }
+{}
+
+/// On a board with an empty point, stones of one colour alone all reach empty.
+pub fn one_colour_lives()
+    ensures { (n : ℕ) (g : Colouring) (c : Colour) (e : ℕ) → e < n * n → colour_at g e ≡ None
+        → ((k : ℕ) → k < n * n → (colour_at g k ≡ None) ⊎ (colour_at g k ≡ Some c)) → (k : ℕ)
+        → k < n * n → is_dead n g k ≡ false }
 {}
