@@ -1,5 +1,5 @@
 -- On a board with an empty point, stones of one colour alone all reach empty.
-use Rattle.std.proofs.Common.{arith, ◌≡◌, ◌<◌, ◌+◌, ◌*◌, ◌/◌, ◌%◌, ◌∙◌, ◌&&◌, ◌||◌, ◌==◌, ◌⊎◌, Bool, true, false, not, inl, inr, ℕ, zero, suc, [], ◌∷◌, Option, Some, None, refl, sym, ap, ap₂, subst}
+use Rattle.std.proofs.Common.{arith, ◌≡◌, ◌<◌, ◌+◌, ◌*◌, ◌∙◌, ◌&&◌, ◌==◌, ◌⊎◌, Bool, true, false, not, inl, inr, ℕ, zero, suc, [], ◌∷◌, Some, None, refl, sym, ap, ap₂, subst}
 use Rattle.std.proofs.lemmas.Bool.{eq-eqb}
 use Rattle.go_board.specs.declared.colour.Colour.{Colour}
 use Rattle.go_board.specs.declared.point.Point.{Point}

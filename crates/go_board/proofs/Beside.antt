@@ -49,9 +49,6 @@ beside_more n g p colour items i p_on same low them before now =
 abbrev pub HoldsOfFirst : ℕ → Colouring → Option Colour → List Point → ℕ → (ℕ → Type 0) → Type 0
 HoldsOfFirst n g colour items i M = (k : ℕ) (q : Point) → k < i → get_or items k q ≡ q → colour_at g (number_of n q) ≡ colour → M (number_of n q)
 
-pub done_none : (n : ℕ) (g : Colouring) (colour : Option Colour) (items : List Point) (M : ℕ → Type 0) → HoldsOfFirst n g colour items 0 M
-done_none n g colour items M k q below at same = absurd (omega arith)
-
 pub done_more : (n : ℕ) (g : Colouring) (colour : Option Colour) (items : List Point) (i : ℕ) (M M' : ℕ → Type 0)
     → i < length items → HoldsOfFirst n g colour items i M → ((j : ℕ) → M j → M' j)
     → (colour_at g (number_of n (get_or items i origin)) ≡ colour → M' (number_of n (get_or items i origin)))
@@ -81,9 +78,6 @@ all_done n g p colour items i M p_on all them done j adjacent same =
 -- M holds of each of the first i neighbours
 abbrev pub HoldsOfEach : ℕ → List Point → ℕ → (ℕ → Type 0) → Type 0
 HoldsOfEach n items i M = (k : ℕ) (q : Point) → k < i → get_or items k q ≡ q → M (number_of n q)
-
-pub each_none : (n : ℕ) (items : List Point) (M : ℕ → Type 0) → HoldsOfEach n items 0 M
-each_none n items M k q below at = absurd (omega arith)
 
 pub each_more : (n : ℕ) (items : List Point) (i : ℕ) (M : ℕ → Type 0) → i < length items → HoldsOfEach n items i M → M (number_of n (get_or items i origin)) → HoldsOfEach n items (i + 1) M
 each_more n items i M low done here k q below at = elim (cases_lt k i) [

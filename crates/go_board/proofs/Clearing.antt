@@ -39,23 +39,12 @@ count_more p i =
     ∙ sum_by_push (λ x. let n : ℕ = cond (p x) 1 0 in n) (range_with_len 0 i) (0 + i)
     ∙ ap (λ k. count_by p (range_with_len 0 i) + cond (p k) 1 0) (let e : 0 + i ≡ i = omega arith in e)
 
-pub counted_none : (p : ℕ → Bool) → 0 ≡ count_by p (range_with_len 0 0)
-counted_none p = refl
-
 -- the first i points were looked at
 pub record IsClearing (n : ℕ) (g : Colouring) (c : Colour) (i : ℕ) (now : Colouring) (taken : ℕ) : Type 0 where
   pub whole : length now ≡ n * n
   pub done : (k : ℕ) → k < i → colour_at now k ≡ after_clearing n g c k
   pub rest : (k : ℕ) → i ≤ k → colour_at now k ≡ colour_at g k
   pub counted : taken ≡ count_by (is_taken n g c) (range_with_len 0 i)
-
-pub clearing_begins : (n : ℕ) (g : Colouring) (c : Colour) → length g ≡ n * n → IsClearing n g c 0 g 0
-clearing_begins n g c whole = record {
-  whole = whole;
-  done = λ k low. absurd (omega arith);
-  rest = λ k high. refl;
-  counted = refl;
-}
 
 -- a point is taken where it has the colour and isn't marked as reaching empty
 pub taken_is : (n : ℕ) (g : Colouring) (c : Colour) (i : ℕ) (alive : List Bool) → i < n * n → AreReaching n g (Some c) None alive

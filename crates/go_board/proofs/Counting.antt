@@ -6,10 +6,6 @@ use Rattle.std.proofs.lemmas.List.FromFn.{get_or-range_with_len, length-range_wi
 use Rattle.std.proofs.lemmas.List.Elements.{All-cons, All-head, All-tail, All-nil}
 use Rattle.go_board.specs.Reaching.{points}
 
--- a test counts for one or for nothing
-one : Bool → ℕ
-one b = cond b 1 0
-
 pub count_cons : {X : Type 0} (p : X → Bool) (x : X) (xs : List X) → count_by p (x ∷ xs) ≡ cond (p x) 1 0 + count_by p xs
 count_cons p x xs = sum_by-cons (λ y. let n : ℕ = cond (p y) 1 0 in n) x xs
 

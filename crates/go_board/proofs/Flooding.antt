@@ -1,7 +1,6 @@
 -- The flood as a whole: what holds at each turn of it, and when nothing waits.
-use Rattle.std.proofs.Common.{arith, ◌≡◌, ◌<◌, ◌≤◌, ◌+◌, ◌*◌, ◌↔◌, Bool, not, inl, inr, ◌⊎◌, ℕ, List, [], ◌∷◌, ◌++◌, Contains, count_by, length, length-append, refl, sym, subst}
+use Rattle.std.proofs.Common.{arith, ◌≡◌, ◌<◌, ◌≤◌, ◌*◌, ◌↔◌, Bool, inl, inr, ◌⊎◌, ℕ, List, [], ◌∷◌, ◌++◌, Contains, length, length-append, refl, sym, subst}
 use Rattle.std.proofs.lemmas.List.Elements.{Contains-append_left, Contains-push, Contains-push_cases}
-use Rattle.go_board.specs.declared.size.TheConstants.{MAX_POINTS}
 use Rattle.go_board.specs.Colours.{Colouring}
 use Rattle.go_board.specs.Paths.{Leads}
 use Rattle.go_board.specs.Flood.{Grows, HasRoom, IsJoinedTo, IsMarked, IsStep, work}
@@ -24,27 +23,9 @@ leads_more n g p (s ∷ path) q r h step = (h.0, h.1, leads_more n g s path q r 
 joined_more : (n : ℕ) (g : Colouring) (seeds : List Bool) (p q : ℕ) → IsJoinedTo n g seeds p → IsStep n g p q → IsJoinedTo n g seeds q
 joined_more n g seeds p q h step = (h.0, h.1, (h.2.0 ++ q ∷ [], leads_more n g h.0 h.2.0 p q h.2.1 step))
 
-pub flood_begins : (n : ℕ) (g : Colouring) (marks : List Bool) (waiting : List ℕ) → HasRoom marks waiting
-    → ((j : ℕ) → IsMarked marks j → j < n * n) → ((j : ℕ) → IsMarked marks j → Contains waiting j) → ((j : ℕ) → Contains waiting j → IsMarked marks j)
-    → IsFlood n g marks marks waiting
-flood_begins n g marks waiting room on wait marked = record {
-  sound = λ j m. (j, m, ([], refl));
-  seeded = λ j m. m;
-  on = on;
-  marked = marked;
-  closed = λ j m. inl (wait j m);
-  room = room;
-}
-
 -- the last that waits is on the board, and without it there is still room
 pub last_on : (n : ℕ) (g : Colouring) (seeds marks : List Bool) (waiting front : List ℕ) (p : ℕ) → waiting ≡ front ++ p ∷ [] → IsFlood n g seeds marks waiting → p < n * n
 last_on n g seeds marks waiting front p is flood = flood.on p (flood.marked p (rw is (Contains-push front p)))
-
-pub room_before : (marks : List Bool) (waiting front : List ℕ) (p : ℕ) → waiting ≡ front ++ p ∷ [] → HasRoom marks waiting → HasRoom marks front
-room_before marks waiting front p is room =
-    let within = room.room in
-    let fewer : length front + count_by not marks ≤ MAX_POINTS = let l = length-append front (p ∷ []) in let w = rw is at within in omega arith in
-    record { all = room.all; room = fewer }
 
 -- one turn: the last that waits is taken, and its steps lead to marked points
 pub flood_more : (n : ℕ) (g : Colouring) (seeds marks : List Bool) (waiting front : List ℕ) (p : ℕ) (marks' : List Bool) (waiting' : List ℕ)

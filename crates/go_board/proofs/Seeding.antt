@@ -1,12 +1,12 @@
 -- Where a flood begins, and what it comes to.
-use Rattle.std.proofs.Common.{arith, ◌≡◌, ◌<◌, ◌+◌, ◌*◌, ◌∙◌, ◌↔◌, ◌&&◌, ◌==◌, Bool, true, inl, inr, ℕ, List, [], ◌∷◌, ◌++◌, Option, length, sym, ap, subst}
+use Rattle.std.proofs.Common.{arith, ◌≡◌, ◌+◌, ◌*◌, ◌∙◌, ◌↔◌, ◌&&◌, ◌==◌, Bool, true, inl, inr, ℕ, List, [], ◌∷◌, ◌++◌, Option, sym, ap, subst}
 use Rattle.std.proofs.lemmas.Bool.{cases_lt, eqb-true, eq-eqb, or_cases}
 use Rattle.go_board.specs.declared.colour.Colour.{Colour}
 use Rattle.go_board.specs.declared.point.Point.{Point}
 use Rattle.go_board.specs.Colours.{Colouring, colour_at}
 use Rattle.go_board.specs.Points.{are_beside, is_next, point_at}
 use Rattle.go_board.specs.Paths.{IsAdjacent, Joined, Leads}
-use Rattle.go_board.specs.Flood.{AreReaching, Grows, HasRoom, IsJoinedTo, IsMarked, IsSeed, IsSeeding}
+use Rattle.go_board.specs.Flood.{AreReaching, Grows, IsJoinedTo, IsMarked, IsSeed, IsSeeding}
 use Rattle.go_board.proofs.Deciding.{path_on, reaches_is}
 use Rattle.go_board.proofs.Flooding.{leads_more}
 use Rattle.go_board.proofs.Tests.{both, both_hold, left_holds, right_holds}
@@ -40,15 +40,6 @@ leads_back n g p (r ∷ path) q h =
 pub leads_colour : (n : ℕ) (g : Colouring) (p : ℕ) (path : List ℕ) (q : ℕ) → Leads n g p path q → colour_at g q ≡ colour_at g p
 leads_colour n g p [] q here = ap (colour_at g) (sym here)
 leads_colour n g p (r ∷ path) q h = leads_colour n g r path q h.2 ∙ h.1
-
-pub seeding_begins : (n : ℕ) (g : Colouring) (from to : Option Colour) (marks : List Bool) (waiting : List ℕ) → ((j : ℕ) → IsMarked marks j → ⊥) → HasRoom marks waiting → waiting ≡ [] → IsSeeding n g from to 0 marks waiting
-seeding_begins n g from to marks waiting none room empty = record {
-  sound = λ j m. absurd (none j m);
-  complete = λ j low seed. absurd (omega arith);
-  wait = λ j m. absurd (none j m);
-  marked = λ j w. absurd (let at : w.0 < length waiting = w.1 in let long = ap (λ (xs : List ℕ). length xs) empty in omega arith);
-  room = room;
-}
 
 pub seeding_more : (n : ℕ) (g : Colouring) (from to : Option Colour) (i : ℕ) (m m' : List Bool) (w w' : List ℕ)
     → IsSeeding n g from to i m w → Grows (λ j. (j ≡ i) × IsSeed n g from to j) m w m' w' → (IsSeed n g from to i → IsMarked m' i)
