@@ -1,20 +1,16 @@
 -- A line that was answered, from what was decided and what was written.
-use Rattle.std.proofs.Common.{◌≡◌, ◌∙◌, inl, inr, ℕ, Bool, true, false, if◌then◌else◌, List, Option, Ok, Err, refl, sym, ap, not, nat_eq, length}
+use Rattle.std.proofs.Common.{◌≡◌, ◌∙◌, inl, inr, ℕ, true, false, if◌then◌else◌, List, Option, Ok, Err, refl, sym, ap}
 use Rattle.go_board.specs.Device.{then_bytes, TakesFront}
 use Rattle.go_board.specs.Writing.{then_bytes-nil}
 use Rattle.go_board.specs.declared.device.WriteFault.{WriteFault}
 use Rattle.goref.specs.declared.flow.Flow.{Flow}
 use Rattle.goref.specs.declared.flow.Flow.TheVariants.{More}
 use Rattle.go_game.specs.Standings.{Standing}
-use Rattle.goref.specs.Kept.{Kept, has_bytes}
+use Rattle.goref_lines.specs.Kept.{Kept, has_bytes}
 use Rattle.goref.specs.Contents.{Content}
 use Rattle.goref.specs.Decisions.{Decided}
 use Rattle.goref.specs.Answers.{silent, spoken, line_id, decided_line, Reply, DecidesLine, is_end, decision_text}
 use Rattle.goref.specs.Replies.{Answered, flow_of}
-use Rattle.goref.proofs.Pushes.{has_bytes_is}
-
-pub has_words : (text : List ℕ) (b : Bool) → nat_eq (length text) 0 ≡ b → has_bytes text ≡ not b
-has_words text b e = has_bytes_is text ∙ ap not e
 
 -- a line without words
 pub answered_silent : (s : Standing) (k : Kept) (content : Content) (taken : Option (List ℕ)) → has_bytes k.text ≡ false → Answered s s k content (Ok More) taken taken

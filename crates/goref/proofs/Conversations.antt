@@ -2,7 +2,7 @@
 use Rattle.std.proofs.Common.{◌≡◌, inl, ℕ, Bool, true, false, List, [], ◌∷◌, ◌++◌, Option, Some, None, refl, sym, subst, append_assoc}
 use Rattle.std.proofs.lemmas.List.{append-nil}
 use Rattle.go_game.specs.Standings.{Standing}
-use Rattle.goref.specs.Kept.{kept}
+use Rattle.goref_lines.specs.Kept.{kept}
 use Rattle.goref.specs.Contents.{Content, nothing, missing, Pair}
 use Rattle.goref.specs.Answers.{Said, said, Reply, wants}
 use Rattle.goref.specs.Conversation.{Asks, Conversation, ends, quits, goes_on}

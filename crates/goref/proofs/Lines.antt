@@ -1,59 +1,54 @@
 -- How the lines of a text change as more bytes come to its end.
-use Rattle.std.proofs.Common.{◌≡◌, ◌∙◌, ℕ, Bool, true, false, List, [], ◌∷◌, ◌++◌, refl, sym, ap, append_assoc, Some, None, zero, suc, ◌<◌, length, take, drop, arith}
+use Rattle.std.proofs.Common.{◌≡◌, ◌∙◌, ℕ, Bool, true, false, List, [], ◌∷◌, ◌++◌, refl, sym, ap, append_assoc, Some, None, zero, suc, ◌<◌, length, take, drop, arith, cond}
 use Rattle.std.specs.Prelude.{slice_index}
 use Rattle.std.proofs.lemmas.Bool.{eqb-true}
-use Rattle.std.specs.List.{slice_split}
+use Rattle.std.specs.List.{All, slice_split, onto_first}
 use Rattle.std.proofs.lemmas.List.{append-nil}
+use Rattle.std.proofs.lemmas.List.Elements.{All-nil, All-cons}
+use Rattle.std.proofs.lemmas.List.Splits.{slice_split_at, slice_split_none, length-slice_split}
 use Rattle.memchr.specs.Find.{IsFirstByte, is_byte}
 use Rattle.goref.specs.Lines.{is_line_end, all_but_last, last_part, complete_lines, unfinished_line, if_any, lines, HasNoEnd}
-use Rattle.goref.proofs.Splits.{onto_last, HasParts, slice_split_some, slice_split_push_yes, slice_split_push_no}
 
-all_but_last-push : (parts : List (List ℕ)) (part : List ℕ) → all_but_last (parts ++ part ∷ []) ≡ parts
-all_but_last-push [] part = refl
-all_but_last-push (p ∷ []) part = refl
-all_but_last-push (p ∷ q ∷ parts) part = ap (λ ps. p ∷ ps) (all_but_last-push (q ∷ parts) part)
+-- the parts with others behind them, the last of them going on in the first of the others
+abbrev going_on : List (List ℕ) → List ℕ → List (List ℕ) → List (List ℕ)
+going_on parts first rest = all_but_last parts ++ (last_part parts ++ first) ∷ rest
 
-last_part-push : (parts : List (List ℕ)) (part : List ℕ) → last_part (parts ++ part ∷ []) ≡ part
-last_part-push [] part = refl
-last_part-push (p ∷ []) part = refl
-last_part-push (p ∷ q ∷ parts) part = last_part-push (q ∷ parts) part
+cond_going_on : (c : Bool) (b : ℕ) (parts all : List (List ℕ)) (first : List ℕ) (rest : List (List ℕ)) → 0 < length parts → all ≡ going_on parts first rest →
+    cond c ([] ∷ all) (onto_first b all) ≡ going_on (cond c ([] ∷ parts) (onto_first b parts)) first rest
+cond_going_on c b [] all first rest l e = absurd (omega arith)
+cond_going_on true b (part ∷ parts) all first rest l e = ap (λ ps. [] ∷ ps) e
+cond_going_on false b (part ∷ []) all first rest l e = ap (onto_first b) e
+cond_going_on false b (part ∷ next ∷ parts) all first rest l e = ap (onto_first b) e
 
-all_and_last : (parts : List (List ℕ)) → HasParts parts → parts ≡ all_but_last parts ++ last_part parts ∷ []
-all_and_last [] h = cc h.2
-all_and_last (p ∷ []) h = refl
-all_and_last (p ∷ q ∷ parts) h = ap (λ ps. p ∷ ps) (all_and_last (q ∷ parts) (q, parts, refl))
+-- the parts of two texts in a row
+slice_split-append : (text more first : List ℕ) (rest : List (List ℕ)) → slice_split is_line_end more ≡ first ∷ rest →
+    slice_split is_line_end (text ++ more) ≡ going_on (slice_split is_line_end text) first rest
+slice_split-append [] more first rest e = e
+slice_split-append (b ∷ text) more first rest e =
+    cond_going_on (is_line_end b) b (slice_split is_line_end text) _ first rest (omega (arith, length-slice_split is_line_end text)) (slice_split-append text more first rest e)
 
-all_but_last-onto_last : (b : ℕ) (parts : List (List ℕ)) → all_but_last (onto_last b parts) ≡ all_but_last parts
-all_but_last-onto_last b [] = refl
-all_but_last-onto_last b (p ∷ []) = refl
-all_but_last-onto_last b (p ∷ q ∷ []) = refl
-all_but_last-onto_last b (p ∷ q ∷ r ∷ parts) = ap (λ ps. p ∷ ps) (all_but_last-onto_last b (q ∷ r ∷ parts))
+all_but_last-append : (parts : List (List ℕ)) (part : List ℕ) (more : List (List ℕ)) → all_but_last (parts ++ part ∷ more) ≡ parts ++ all_but_last (part ∷ more)
+all_but_last-append [] part more = refl
+all_but_last-append (p ∷ []) part more = refl
+all_but_last-append (p ∷ q ∷ parts) part more = ap (λ ps. p ∷ ps) (all_but_last-append (q ∷ parts) part more)
 
-last_part-onto_last : (b : ℕ) (parts : List (List ℕ)) → last_part (onto_last b parts) ≡ last_part parts ++ b ∷ []
-last_part-onto_last b [] = refl
-last_part-onto_last b (p ∷ []) = refl
-last_part-onto_last b (p ∷ q ∷ []) = refl
-last_part-onto_last b (p ∷ q ∷ r ∷ parts) = last_part-onto_last b (q ∷ r ∷ parts)
+last_part-append : (parts : List (List ℕ)) (part : List ℕ) (more : List (List ℕ)) → last_part (parts ++ part ∷ more) ≡ last_part (part ∷ more)
+last_part-append [] part more = refl
+last_part-append (p ∷ []) part more = refl
+last_part-append (p ∷ q ∷ parts) part more = last_part-append (q ∷ parts) part more
 
--- LF ends the unfinished line
-complete_lines_push_end : (text : List ℕ) (b : ℕ) → is_line_end b ≡ true → complete_lines (text ++ b ∷ []) ≡ complete_lines text ++ unfinished_line text ∷ []
+-- the unfinished line goes on in the first part of what is read next
+complete_lines-append : (text more first : List ℕ) (rest : List (List ℕ)) → slice_split is_line_end more ≡ first ∷ rest →
+    complete_lines (text ++ more) ≡ complete_lines text ++ all_but_last ((unfinished_line text ++ first) ∷ rest)
 unfolding complete_lines unfinished_line
-complete_lines_push_end text b e =
-    ap all_but_last (slice_split_push_yes is_line_end text b e) ∙ all_but_last-push (slice_split is_line_end text) []
-    ∙ all_and_last (slice_split is_line_end text) (slice_split_some is_line_end text)
+complete_lines-append text more first rest e =
+    ap all_but_last (slice_split-append text more first rest e) ∙ all_but_last-append (all_but_last (slice_split is_line_end text)) (last_part (slice_split is_line_end text) ++ first) rest
 
-unfinished_line_push_end : (text : List ℕ) (b : ℕ) → is_line_end b ≡ true → unfinished_line (text ++ b ∷ []) ≡ []
+unfinished_line-append : (text more first : List ℕ) (rest : List (List ℕ)) → slice_split is_line_end more ≡ first ∷ rest →
+    unfinished_line (text ++ more) ≡ last_part ((unfinished_line text ++ first) ∷ rest)
 unfolding unfinished_line
-unfinished_line_push_end text b e = ap last_part (slice_split_push_yes is_line_end text b e) ∙ last_part-push (slice_split is_line_end text) []
-
--- any other byte goes to the unfinished line
-complete_lines_push : (text : List ℕ) (b : ℕ) → is_line_end b ≡ false → complete_lines (text ++ b ∷ []) ≡ complete_lines text
-unfolding complete_lines
-complete_lines_push text b e = ap all_but_last (slice_split_push_no is_line_end text b e) ∙ all_but_last-onto_last b (slice_split is_line_end text)
-
-unfinished_line_push : (text : List ℕ) (b : ℕ) → is_line_end b ≡ false → unfinished_line (text ++ b ∷ []) ≡ unfinished_line text ++ b ∷ []
-unfolding unfinished_line
-unfinished_line_push text b e = ap last_part (slice_split_push_no is_line_end text b e) ∙ last_part-onto_last b (slice_split is_line_end text)
+unfinished_line-append text more first rest e =
+    ap last_part (slice_split-append text more first rest e) ∙ last_part-append (all_but_last (slice_split is_line_end text)) (last_part (slice_split is_line_end text) ++ first) rest
 
 -- nothing was read yet
 pub complete_lines-nil : complete_lines [] ≡ []
@@ -64,45 +59,40 @@ pub unfinished_line-nil : unfinished_line [] ≡ []
 unfolding unfinished_line
 unfinished_line-nil = refl
 
-shift : (text : List ℕ) (b : ℕ) (more : List ℕ) → text ++ b ∷ more ≡ (text ++ b ∷ []) ++ more
-shift text b more = sym (append_assoc text (b ∷ []) more)
+no_end_all : (part : List ℕ) → HasNoEnd part → All (λ b. is_line_end b ≡ false) part
+no_end_all [] h = All-nil (λ b. is_line_end b ≡ false)
+no_end_all (b ∷ part) h = All-cons (λ b. is_line_end b ≡ false) b part h.0 (no_end_all part h.1)
 
 -- more bytes of one line
+one_part : (part : List ℕ) → HasNoEnd part → slice_split is_line_end part ≡ part ∷ []
+one_part part h = slice_split_none is_line_end part (no_end_all part h)
+
 pub complete_lines_more : (text part : List ℕ) → HasNoEnd part → complete_lines (text ++ part) ≡ complete_lines text
-complete_lines_more text [] h = ap complete_lines (append-nil text)
-complete_lines_more text (b ∷ part) h = ap complete_lines (shift text b part) ∙ complete_lines_more (text ++ b ∷ []) part h.1 ∙ complete_lines_push text b h.0
+complete_lines_more text part h = complete_lines-append text part part [] (one_part part h) ∙ append-nil (complete_lines text)
 
 pub unfinished_line_more : (text part : List ℕ) → HasNoEnd part → unfinished_line (text ++ part) ≡ unfinished_line text ++ part
-unfinished_line_more text [] h = ap unfinished_line (append-nil text) ∙ sym (append-nil (unfinished_line text))
-unfinished_line_more text (b ∷ part) h =
-    ap unfinished_line (shift text b part) ∙ unfinished_line_more (text ++ b ∷ []) part h.1
-    ∙ ap (λ line. line ++ part) (unfinished_line_push text b h.0) ∙ append_assoc (unfinished_line text) (b ∷ []) part
+unfinished_line_more text part h = unfinished_line-append text part part [] (one_part part h)
 
 -- the end of a line
 pub complete_lines_end : (text part : List ℕ) → HasNoEnd part → complete_lines (text ++ (part ++ 10 ∷ [])) ≡ complete_lines text ++ (unfinished_line text ++ part) ∷ []
-complete_lines_end text part h =
-    ap complete_lines (sym (append_assoc text part (10 ∷ []))) ∙ complete_lines_push_end (text ++ part) 10 refl
-    ∙ ap (λ ls. ls ++ unfinished_line (text ++ part) ∷ []) (complete_lines_more text part h)
-    ∙ ap (λ line. complete_lines text ++ line ∷ []) (unfinished_line_more text part h)
+complete_lines_end text part h = complete_lines-append text (part ++ 10 ∷ []) part ([] ∷ []) (slice_split_at is_line_end part 10 [] (no_end_all part h) refl)
 
 pub unfinished_line_end : (text part : List ℕ) → unfinished_line (text ++ (part ++ 10 ∷ [])) ≡ []
-unfinished_line_end text part = ap unfinished_line (sym (append_assoc text part (10 ∷ []))) ∙ unfinished_line_push_end (text ++ part) 10 refl
+unfinished_line_end text part = ap unfinished_line (sym (append_assoc text part (10 ∷ []))) ∙ unfinished_line-append (text ++ part) (10 ∷ []) [] ([] ∷ []) refl
 
 -- what is read later adds lines alone
 abbrev pub Later : List ℕ → List ℕ → Type 0
 Later text more = (later : List (List ℕ)) × (lines (text ++ more) ≡ complete_lines text ++ later)
 
-later_step : (text : List ℕ) (b : ℕ) (more : List ℕ) (e : Bool) → is_line_end b ≡ e → Later (text ++ b ∷ []) more → Later text (b ∷ more)
-later_step text b more true e h = (
-  unfinished_line text ∷ h.0,
-  ap lines (shift text b more) ∙ h.1 ∙ ap (λ ls. ls ++ h.0) (complete_lines_push_end text b e)
-      ∙ append_assoc (complete_lines text) (unfinished_line text ∷ []) h.0,
-)
-later_step text b more false e h = (h.0, ap lines (shift text b more) ∙ h.1 ∙ ap (λ ls. ls ++ h.0) (complete_lines_push text b e))
+later_by : (text more : List ℕ) (parts : List (List ℕ)) → slice_split is_line_end more ≡ parts → Later text more
+later_by text more [] e = absurd (omega (arith, length-slice_split is_line_end more, ap length e))
+later_by text more (first ∷ rest) e =
+    let later = all_but_last ((unfinished_line text ++ first) ∷ rest) in
+    let last = if_any (unfinished_line (text ++ more)) in
+    (later ++ last, ap (λ ls. ls ++ last) (complete_lines-append text more first rest e) ∙ append_assoc (complete_lines text) later last)
 
 pub lines_later : (text more : List ℕ) → Later text more
-lines_later text [] = (if_any (unfinished_line text), ap lines (append-nil text))
-lines_later text (b ∷ more) = later_step text b more (is_line_end b) refl (lines_later (text ++ b ∷ []) more)
+lines_later text more = later_by text more (slice_split is_line_end more) refl
 
 not_true : (b : Bool) → ¬ (b ≡ true) → b ≡ false
 not_true true h = absurd (h refl)

@@ -4,7 +4,7 @@ use Rattle.std.specs.Prelude.{IfSome}
 use Rattle.std.proofs.lemmas.List.{append-nil}
 use Rattle.go_board.specs.Device.{after_bytes}
 use Rattle.go_game.specs.Standings.{Standing}
-use Rattle.goref.specs.Kept.{Kept}
+use Rattle.goref_lines.specs.Kept.{Kept}
 use Rattle.goref.specs.Lines.{lines}
 use Rattle.goref.specs.Contents.{Pair}
 use Rattle.goref.specs.Conversation.{ends, BreaksOff}

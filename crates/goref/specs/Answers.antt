@@ -9,8 +9,8 @@ use Rattle.goref.specs.declared.decision.Refusal.{Refusal}
 use Rattle.goref.specs.declared.decision.Refusal.TheVariants.{LineTooLong, UnknownCommand, SyntaxError, UnacceptableSize, IllegalMove, CannotUndo, OutOfMemory}
 use Rattle.go_game.specs.Standings.{Standing, board_of}
 use Rattle.go_game.specs.Scores.{margin_of, score_word}
-use Rattle.goref.specs.Kept.{Kept, has_bytes, words}
-use Rattle.goref.specs.Requests.{asked_by, id_of_cut}
+use Rattle.goref_lines.specs.Kept.{Kept, has_bytes, words}
+use Rattle.goref_lines.specs.Requests.{asked_by, id_of_cut}
 use Rattle.goref.specs.Contents.{Content}
 use Rattle.goref.specs.Commands.{command_names}
 use Rattle.goref.specs.Results.{result_text}

@@ -2,7 +2,7 @@
 use Rattle.std.specs.Prelude.{◌≡◌, ℕ, true, false, List, [], ◌∷◌, ◌++◌, Option, Some, None}
 use Rattle.go_board.specs.Device.{then_bytes}
 use Rattle.go_game.specs.Standings.{Standing}
-use Rattle.goref.specs.Kept.{kept}
+use Rattle.goref_lines.specs.Kept.{kept}
 use Rattle.goref.specs.Contents.{Content, nothing, Pair, then_pairs}
 use Rattle.goref.specs.Answers.{Said, Reply, wants}
 

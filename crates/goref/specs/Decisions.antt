@@ -18,9 +18,9 @@ use Rattle.go_board.specs.Vertices.{vertex_of}
 use Rattle.go_game.specs.Standings.{Standing, with_move, without_last}
 use Rattle.goref.specs.Starts.{begun}
 use Rattle.goref.specs.Legal.{is_legal, is_open}
-use Rattle.goref.specs.Words.{int_of, colour_of}
-use Rattle.goref.specs.Komis.{komi_of}
-use Rattle.goref.specs.Requests.{Asked}
+use Rattle.goref_lines.specs.Words.{int_of, colour_of}
+use Rattle.goref_lines.specs.Komis.{komi_of}
+use Rattle.goref_lines.specs.Requests.{Asked}
 use Rattle.goref.specs.Contents.{Content}
 use Rattle.goref.specs.Commands.{command_of}
 

@@ -1,9 +1,4 @@
-pub mod Kept
-pub mod Front
 pub mod Lines
-pub mod Words
-pub mod Komis
-pub mod Requests
 pub mod Starts
 pub mod Legal
 pub mod Contents

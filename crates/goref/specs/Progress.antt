@@ -5,7 +5,7 @@ use Rattle.go_board.specs.declared.device.WriteFault.{WriteFault}
 use Rattle.goref.specs.declared.flow.Flow.{Flow}
 use Rattle.goref.specs.declared.flow.Flow.TheVariants.{More, Quit}
 use Rattle.go_game.specs.Standings.{Standing}
-use Rattle.goref.specs.Kept.{Kept, kept}
+use Rattle.goref_lines.specs.Kept.{Kept, kept}
 use Rattle.goref.specs.Lines.{lines, complete_lines, unfinished_line}
 use Rattle.goref.specs.Contents.{Content, Pair, then_pairs}
 use Rattle.goref.specs.Answers.{wants}

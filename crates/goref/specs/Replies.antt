@@ -5,7 +5,7 @@ use Rattle.go_board.specs.declared.device.WriteFault.{WriteFault}
 use Rattle.goref.specs.declared.flow.Flow.{Flow}
 use Rattle.goref.specs.declared.flow.Flow.TheVariants.{More, Quit}
 use Rattle.go_game.specs.Standings.{Standing}
-use Rattle.goref.specs.Kept.{Kept}
+use Rattle.goref_lines.specs.Kept.{Kept}
 use Rattle.goref.specs.Contents.{Content}
 use Rattle.goref.specs.Answers.{Said, Reply}
 

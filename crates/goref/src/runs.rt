@@ -10,10 +10,10 @@ ghost use Rattle.goref.specs.Progress.{Fetches, Responds, Progress, Proceeds, Fi
 ghost use Rattle.goref.specs.Runs.{AnswersComplete, AnswersFront, read_failures_after, write_failures_after};
 
 use crate::flow::{Flow, RunError};
-use crate::line::Line;
 use crate::session::Session;
 use crate::shelf::{Fetched, Shelf, wants};
 use go_board::{Failed, Sink, Size, Source, WriteFault};
+use goref_lines::Line;
 use memchr::memchr;
 use std::alloc::Allocator;
 
@@ -198,7 +198,7 @@ fn pass_on<W: Sink>(line: &Line, flow: Flow, writer: &mut W) -> Result<Flow, Wri
     ensures bytes { W.taken writer.new ≡ W.taken writer.old }
     ensures failures { W.failures writer.new ≡ failures_after result (W.failures writer.old) }
 {
-    if line.text().is_empty() {
+    if !line.has_words() {
         return Ok(flow);
     }
     match writer.flush() {

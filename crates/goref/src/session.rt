@@ -4,9 +4,9 @@ ghost use Rattle.go_board.specs.Vertices.{vertex_of, vertex_on};
 ghost use Rattle.go_board.specs.Sizes.{lines_of};
 ghost use Rattle.go_board.specs.declared.size.TheConstants.{MAX_LINES};
 ghost use Rattle.go_game.specs.Standings.{IsKomi, Standing};
-ghost use Rattle.goref.specs.Komis.{komi_of};
+ghost use Rattle.goref_lines.specs.Komis.{komi_of};
 ghost use Rattle.goref.specs.Starts.{begun};
-ghost use Rattle.goref.specs.Words.{int_of, colour_of};
+ghost use Rattle.goref_lines.specs.Words.{int_of, colour_of};
 ghost use Rattle.goref.specs.Contents.{content_of};
 ghost use Rattle.goref.specs.Commands.{command_of};
 ghost use Rattle.go_board.specs.Device.{failures_after};
@@ -18,13 +18,10 @@ use crate::answer::write_answer;
 use crate::command::{Command, command_named};
 use crate::decision::{Decision, Fact, Refusal};
 use crate::flow::Flow;
-use crate::komi::read_komi;
-use crate::line::Line;
-use crate::request::{Request, id_of_cut};
 use crate::shelf::Fetched;
-use crate::words::{read_colour, read_int};
 use go_board::{Colour, Move, Sink, Size, Vertex, VertexError, WriteFault, read_vertex};
 use go_game::{Game, PlayError};
+use goref_lines::{Line, Request, id_of_cut, read_colour, read_int, read_komi};
 use std::alloc::Allocator;
 use std::marker::Model;
 
@@ -69,7 +66,7 @@ impl<A: Allocator + Copy> Session<A> {
             (W.taken writer.old) (W.taken writer.new) }
         ensures failures { W.failures writer.new ≡ failures_after result (W.failures writer.old) }
     {
-        if line.text().is_empty() {
+        if !line.has_words() {
             return Ok(Flow::More);
         }
         let decision = self.decide_line(line, fetched);

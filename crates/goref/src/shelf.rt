@@ -2,7 +2,7 @@ ghost use Rattle.std.specs.Prelude.{◌≡◌, ◌∷◌, [], List, Option, opti
 ghost use Rattle.goref.specs.Contents.{Pair, content_of, then_pairs};
 ghost use Rattle.goref.specs.Answers.{wants as wants_of};
 
-use crate::line::Line;
+use goref_lines::Line;
 use std::alloc::Allocator;
 
 /// What was fetched for a line.

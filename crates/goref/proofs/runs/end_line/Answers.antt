@@ -1,5 +1,5 @@
 use Rattle.std.proofs.Common.{◌≡◌, ◌++◌}
-use Rattle.goref.specs.Kept.{kept}
+use Rattle.goref_lines.specs.Kept.{kept}
 use Rattle.goref.specs.Lines.{unfinished_line}
 use Rattle.goref.proofs.Progressing.{proceeds}
 use Rattle.goref.proofs.runs.end_line.Goals as goal

@@ -1,0 +1,4 @@
+pub mod Splits
+pub mod Joins
+pub mod Pushes
+pub mod Requests

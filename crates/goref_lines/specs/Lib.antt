@@ -1,0 +1,5 @@
+pub mod Kept
+pub mod Front
+pub mod Words
+pub mod Komis
+pub mod Requests

@@ -1,0 +1,33 @@
+-- What the words of a line ask for: a command with an id and arguments.
+use Rattle.std.specs.Prelude.{ℕ, if◌then◌else◌, List, [], ◌∷◌, Option, Some, None, option_and_then, position, take, drop}
+use Rattle.goref_lines.specs.Kept.{is_space}
+use Rattle.goref_lines.specs.Words.{is_int, value_of, int_of}
+
+pub record Asked : Type 0 where
+  pub id : Option ℕ
+  pub name : Option (List ℕ)
+  pub arguments : List (List ℕ)
+
+-- a command with this id: its name is the first word, its arguments are the others
+abbrev pub asked : Option ℕ → List (List ℕ) → Asked
+asked id [] = record { id = id; name = None; arguments = [] }
+asked id (word ∷ words) = record { id = id; name = Some word; arguments = words }
+
+-- what the words ask for: a number that stands first is the id
+abbrev pub asked_by : List (List ℕ) → Asked
+asked_by [] = asked None []
+asked_by (word ∷ words) = if is_int word then asked (Some (value_of word)) words else asked None (word ∷ words)
+
+-- what the words ask for, where it is known whether the first is an id
+abbrev pub asked_with : Option ℕ → List (List ℕ) → Asked
+asked_with (Some id) words = asked (Some id) (drop 1 words)
+asked_with None words = asked None words
+
+-- how many words stand before the command's name
+abbrev pub words_before_name : Option ℕ → ℕ
+words_before_name (Some id) = 1
+words_before_name None = 0
+
+-- the id of a text that was cut: what stands before its first space, where that is a number
+abbrev pub id_of_cut : List ℕ → Option ℕ
+id_of_cut text = option_and_then (λ end. int_of (take end text)) (position is_space text)

@@ -1,0 +1,84 @@
+ghost use Rattle.std.specs.Prelude.{◌≡◌, ◌<◌, IfSome, length, option_copied, position, slice_get};
+ghost use Rattle.goref_lines.specs.Kept.{is_space, words};
+ghost use Rattle.goref_lines.specs.Requests.{Asked, asked_by, asked_with, words_before_name as words_before, id_of_cut as id_before_space};
+
+use crate::words::{read_int, word};
+use std::marker::Model;
+
+/// What the words of a line ask for: a command with an id and arguments.
+#[derive(Drop)]
+pub struct Request<'a> {
+    id: Option<u32>,
+    text: &'a [u8],
+}
+
+impl<'a> Model for Request<'a> {
+    ghost Value = { Asked };
+
+    ghost view = { λ r. asked_with r.id (words r.text.now) };
+}
+
+impl<'a> Request<'a> {
+    /// What the words of a text ask for.
+    pub fn of(text: &'a [u8]) -> Request<'a>
+        ensures { result ≡ asked_by (words text.entry.now) }
+    {
+        match word(text, 0) {
+            Some(first) => Request {
+                id: read_int(first),
+                text,
+            },
+            None => Request { id: None, text },
+        }
+    }
+
+    /// The number that the answer repeats.
+    pub fn id(&self) -> Option<u32>
+        ensures { result ≡ self.now.id }
+    {
+        self.id
+    }
+
+    /// The name of the command.
+    pub fn name(&self) -> Option<&'a [u8]>
+        ensures { option_copied result ≡ self.now.name }
+    {
+        word(self.text, words_before_name(self.id))
+    }
+
+    /// The argument at this place, the first at 0.
+    pub fn argument(&self, place: u16) -> Option<&'a [u8]>
+        ensures { option_copied result ≡ slice_get self.now.arguments place }
+    {
+        word(
+            self.text,
+            words_before_name(self.id) + 1 + usize::from(place),
+        )
+    }
+}
+
+fn words_before_name(id: Option<u32>) -> usize
+    ensures { result ≡ words_before id }
+{
+    match id {
+        Some(_) => 1,
+        None => 0,
+    }
+}
+
+/// The id of a text that was cut.
+pub fn id_of_cut(text: &[u8]) -> Option<u32>
+    ensures { result ≡ id_before_space text.now }
+{
+    match first_space(text) {
+        Some(end) => read_int(text.split_at(end).0),
+        None => None,
+    }
+}
+
+fn first_space(text: &[u8]) -> Option<usize>
+    ensures place { result ≡ position is_space text.now }
+    ensures within { IfSome result (λ end. end < length text.now) }
+{
+    text.iter().position(|byte| *byte == b' ')
+}
