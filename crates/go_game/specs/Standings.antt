@@ -1,6 +1,7 @@
 -- What a game stands for: its start and its moves.
-use Rattle.std.specs.Prelude.{◌≡◌, ◌≢◌, ◌<◌, ◌≤◌, ◌-◌, ◌*◌, ◌++◌, ℕ, ℤ, pos, negsuc, List, [], ◌∷◌, None, IsTrue, Contains, length, replicate, slice_index_or, take}
+use Rattle.std.specs.Prelude.{◌≡◌, ◌≢◌, ◌<◌, ◌≤◌, ◌-◌, ◌*◌, ◌++◌, ◌&&◌, ◌==◌, ℕ, ℤ, Bool, not, is_some, pos, negsuc, List, [], ◌∷◌, None, IsTrue, Contains, length, replicate, slice_index_or, take}
 use Rattle.std.specs.Prelude.{◌≤ℤ◌}
+use Rattle.std.specs.List.{list_any}
 use Rattle.go_board.specs.declared.colour.Colour.{Colour}
 use Rattle.go_board.specs.declared.colour.Colour.TheVariants.{Black}
 use Rattle.go_board.specs.declared.size.TheConstants.{MAX_LINES}
@@ -68,6 +69,10 @@ first_moves s k = record s { moves = take k s.moves }
 -- no move stands on an empty board, and Black is to move
 abbrev pub IsEmptyStart : Standing → ℕ → ℤ → Type 0
 IsEmptyStart s n komi = s ≡ record { lines = n; komi = komi; start = replicate (n * n) None; first = Black; moves = [] }
+
+-- neither a stone nor a move stands
+abbrev pub is_vacant : Standing → Bool
+is_vacant s = not (list_any is_some s.start) && length s.moves == 0
 
 -- no move stands over the colours of this grid
 abbrev pub started : GridValue → Colour → Standing

@@ -46,7 +46,7 @@ impl<A: Allocator + Copy> Game<A> {
     ghost use Rattle.go_board.specs.declared.size.TheConstants.{MAX_POINTS};
     ghost use Rattle.go_game.specs.Held.{IsPlayed};
     ghost use Rattle.go_game.specs.Prisoners.{share_of};
-    ghost use Rattle.go_game.specs.Standings.{IsEmptyStart, IsFirstAt, IsKomi, IsLegal, IsOccupied, IsOffBoard, IsSound, Repeats, board_of, mover_of, positions_of, started, with_move, without_last};
+    ghost use Rattle.go_game.specs.Standings.{IsEmptyStart, IsFirstAt, IsKomi, IsLegal, IsOccupied, IsOffBoard, IsSound, Repeats, board_of, is_vacant as is_vacant_in, mover_of, positions_of, started, with_move, without_last};
     ghost use Rattle.go_game.specs.Scores.{area_of, margin_of};
     ghost use Rattle.go_game.specs.Playing.{prisoners_of, stones_taken};
 
@@ -116,6 +116,13 @@ impl<A: Allocator + Copy> Game<A> {
         ensures { result ≡ colour_at self.now.standing.start (number_of self.now.standing.lines p) }
     {
         self.start.get(p)
+    }
+
+    /// Whether neither a stone nor a move stands.
+    pub fn is_vacant(&self) -> bool
+        ensures { result ≡ is_vacant_in self.now.standing }
+    {
+        self.move_count() == 0 && self.start.is_same_as(&Grid::new(self.size()))
     }
 
     /// Back to the empty board, Black to move. The komi stays.

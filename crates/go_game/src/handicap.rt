@@ -1,10 +1,13 @@
-ghost use Rattle.std.specs.Prelude.{◌≡◌, ◌≤◌, ◌<◌, ◌+◌, ◌++◌, ◌%◌, ◌==◌, ◌&&◌, length, min, nat_lt, option_map};
+ghost use Rattle.std.specs.Prelude.{◌≡◌, ◌≤◌, ◌<◌, ◌+◌, ◌*◌, ◌++◌, ◌%◌, ◌==◌, ◌&&◌, ℕ, All, IfSome, false, length, min, nat_lt, option_map};
 ghost use Rattle.go_board.specs.declared.size.TheConstants.{MAX_LINES};
+ghost use Rattle.go_board.specs.Points.{IsOn};
+ghost use Rattle.go_board.specs.Reaching.{is_dead};
 ghost use Rattle.go_board.specs.Sizes.{lines_of};
-ghost use Rattle.go_game.specs.Handicaps.{fixed, greatest, handicap_points, near, point_in, where_wanted};
+ghost use Rattle.go_game.specs.Handicaps.{fixed, greatest, handicap_points, near, point_in, stones_on as stones_on_board, where_wanted};
 
 use arrayvec::ArrayVec;
-use go_board::{Point, Size};
+use go_board::laws::one_colour_lives;
+use go_board::{Colour, Grid, Point, Size};
 
 /// The most handicap stones that a board of this size has places for: none below 7 lines, 4 at 7 and
 /// at even sizes, else 9.
@@ -20,7 +23,8 @@ pub fn greatest_handicap(size: Size) -> u32
 
 /// Where so many handicap stones stand, or none where the number isn't from 2 to the greatest.
 pub fn fixed_points(size: Size, number: u32) -> Option<ArrayVec<Point, 9>>
-    ensures { option_map (λ points. points.items) result ≡ fixed (lines_of size) number }
+    ensures points { option_map (λ points. points.items) result ≡ fixed (lines_of size) number }
+    ensures on { IfSome result (λ points. All (IsOn (lines_of size)) points.items) }
 {
     if number < 2 || greatest_handicap(size) < number {
         return None;
@@ -100,4 +104,21 @@ fn push_all(points: &mut ArrayVec<Point, 9>, more: &[Point])
     for point in more {
         points.push(*point);
     }
+}
+
+/// An empty board with black stones on these points, each of which reaches empty where a point of
+/// the board is left.
+pub fn stones_on(size: Size, points: &[Point]) -> Grid
+    requires { All (IsOn (lines_of size)) points.now }
+    ensures lines { result.lines ≡ lines_of size }
+    ensures colours { result.colours ≡ stones_on_board (lines_of size) points.now }
+    ensures alive { length points.now < lines_of size * lines_of size → (k : ℕ)
+        → k < lines_of size * lines_of size → is_dead (lines_of size) result.colours k ≡ false }
+{
+    one_colour_lives();
+    let mut grid = Grid::new(size);
+    for point in points {
+        grid.set(*point, Some(Colour::Black));
+    }
+    grid
 }

@@ -11,5 +11,5 @@ mod step;
 
 pub use errors::{PlayError, SetupError};
 pub use game::{Game, MAX_KOMI};
-pub use handicap::{fixed_points, greatest_handicap};
+pub use handicap::{fixed_points, greatest_handicap, stones_on};
 pub use score::{hundredths_text, score_text};

@@ -1,0 +1,49 @@
+use Rattle.std.proofs.Common.{◌≡◌, ◌∙◌, ℕ, Some, false, sym, ap, ap₂, get_or, take, subst}
+use Rattle.std.specs.Prelude.{slice_set}
+use Rattle.std.proofs.lemmas.List.{take_all, take_more}
+use Rattle.go_board.specs.declared.colour.Colour.TheVariants.{Black}
+use Rattle.go_board.specs.declared.point.Point.{Point}
+use Rattle.go_board.specs.Colours.{Colouring}
+use Rattle.go_board.specs.Points.{IsOn, number_of}
+use Rattle.go_board.specs.Reaching.{is_dead}
+use Rattle.go_board.specs.Sizes.{lines_of}
+use Rattle.go_game.specs.Handicaps.{with_black, stones_on}
+use Rattle.go_game.proofs.Stones.{with_black-more, stones_plain, stones_leave}
+use Rattle.go_game.proofs.handicap.stones_on.Goals as goal
+
+origin : Point
+origin = record { col = 0; row = 0 }
+
+pub set-requires : goal.set-requires
+unfolding origin
+set-requires c =
+    let p = get_or c.args.points.now c.loop-point.point-index origin in
+    subst (λ (m : ℕ). IsOn m p) (sym (c.loop-point.invariant.lines ∙ c.new-grid.ensures.lines)) (c.requires c.loop-point.point-index origin c.loop-point-test.true)
+
+pub loop-point-preserved : goal.loop-point-preserved
+unfolding origin
+loop-point-preserved c =
+    let n = c.new-grid.result.lines in
+    let start = c.new-grid.result.colours in
+    let points = c.args.points.now in
+    let i = c.loop-point.point-index in
+    let p = get_or points i origin in
+    let now = c.loop-point.invariant in
+    record {
+      lines = c.set.ensures.lines ∙ now.lines;
+      colours = c.set.ensures.colours
+          ∙ ap₂ (λ (g : Colouring) (m : ℕ). slice_set g (number_of m p) (Some Black)) now.colours now.lines
+          ∙ sym (ap (with_black n start) (take_more points i origin c.loop-point-test.true) ∙ with_black-more n start (take i points) p);
+    }
+
+pub returns-clause-alive : goal.returns-clause-alive
+returns-clause-alive c = λ few k low.
+    let n = lines_of c.args.size in
+    let points = c.args.points.now in
+    let colours : c.loop-point.grid.colours ≡ stones_on n points =
+    c.loop-point.invariant.colours
+    ∙ ap (with_black c.new-grid.result.lines c.new-grid.result.colours) (take_all c.loop-point.point-index points c.loop-point-test.false)
+    ∙ ap₂ (λ (m : ℕ) (g : Colouring). with_black m g points) c.new-grid.ensures.lines c.new-grid.ensures.colours in
+    let left = stones_leave n points few in
+    subst (λ (g : Colouring). is_dead n g k ≡ false) (sym colours)
+    (c.one_colour_lives.ensures n (stones_on n points) Black left.0 left.1 left.2 (λ j on. stones_plain n points j) k low)
