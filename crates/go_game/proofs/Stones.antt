@@ -1,14 +1,15 @@
 -- A board on which black stones alone were placed.
-use Rattle.std.proofs.Common.{arith, ◌≡◌, ◌<◌, ◌≤◌, ◌+◌, ◌*◌, ◌∙◌, ◌⊎◌, Bool, true, false, cond, inl, inr, ℕ, zero, suc, List, [], ◌∷◌, ◌++◌, Option, Some, None, All, count_by, get_or, length, refl, sym, ap, replicate, take}
+use Rattle.std.proofs.Common.{arith, ◌≡◌, ◌<◌, ◌≤◌, ◌+◌, ◌*◌, ◌∙◌, ◌⊎◌, ◌&&◌, Bool, not, true, false, cond, inl, inr, ℕ, zero, suc, List, [], ◌∷◌, ◌++◌, Option, Some, None, All, count_by, get_or, length, refl, sym, ap, replicate, take}
 use Rattle.std.specs.Prelude.{is_some, slice_set}
 use Rattle.std.proofs.lemmas.Bool.{cases_Bool, cases_lt}
-use Rattle.std.proofs.lemmas.List.{length-set, get_or-set_same, get_or-set_other}
+use Rattle.std.proofs.lemmas.List.{get_or_past, length-set}
 use Rattle.std.proofs.lemmas.List.Sums.{sum_by-cons}
 use Rattle.go_board.specs.declared.colour.Colour.{Colour}
 use Rattle.go_board.specs.declared.colour.Colour.TheVariants.{Black}
 use Rattle.go_board.specs.declared.point.Point.{Point}
 use Rattle.go_board.specs.Colours.{Colouring, colour_at}
 use Rattle.go_board.specs.Points.{number_of}
+use Rattle.go_board.specs.Reaching.{is_dead, is_same, reaches}
 use Rattle.go_game.specs.Handicaps.{with_black, stones_on}
 
 -- the stones are placed one after the other
@@ -87,3 +88,10 @@ stones_leave n points few =
     let none = empty_count (n * n) in
     let found = some_empty (stones_on n points) (omega (arith, long, count, none, few)) in
     (found.0, let low = found.1 in omega (arith, low, long), found.2)
+
+-- no point past the board is dead
+pub past_alive : (n : ℕ) (points : List Point) (k : ℕ) → n * n ≤ k → is_dead n (stones_on n points) k ≡ false
+past_alive n points k past =
+    let long : length (stones_on n points) ≡ n * n = with_black-length n (replicate (n * n) None) points ∙ empty_length (n * n) in
+    let none : colour_at (stones_on n points) k ≡ None = get_or_past (stones_on n points) k None (omega (arith, long, past)) in
+    ap (λ (c : Option Colour). not (is_same c None) && not (reaches n (stones_on n points) k None)) none

@@ -112,8 +112,8 @@ pub fn stones_on(size: Size, points: &[Point]) -> Grid
     requires { All (IsOn (lines_of size)) points.now }
     ensures lines { result.lines ≡ lines_of size }
     ensures colours { result.colours ≡ stones_on_board (lines_of size) points.now }
-    ensures alive { length points.now < lines_of size * lines_of size → (k : ℕ)
-        → k < lines_of size * lines_of size → is_dead (lines_of size) result.colours k ≡ false }
+    ensures alive { length points.now < lines_of size * lines_of size
+        → (k : ℕ) → is_dead (lines_of size) result.colours k ≡ false }
 {
     one_colour_lives();
     let mut grid = Grid::new(size);

@@ -7,3 +7,4 @@ pub mod Legal
 pub mod Moves
 pub mod Listing
 pub mod Earlier
+pub mod Starting

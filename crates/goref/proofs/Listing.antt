@@ -124,10 +124,10 @@ pub if_true : {b : Bool} → b ≡ true → (first rest : List ℕ) → (if b th
 if_true e first rest = ap (λ b. if b then first else rest) e
 
 -- a text of each of the first elements of a list
-pub taken_more : (f : ℕ → List ℕ) (xs : List ℕ) (i : ℕ) → i < length xs → flat_map f (take i xs) ++ f (get_or xs i 0) ≡ flat_map f (take (i + 1) xs)
-taken_more f xs i low =
-    ap (λ ys. flat_map f (take i xs) ++ ys) (sym (append-nil (f (get_or xs i 0))))
-    ∙ sym (flat_map-append f (take i xs) (get_or xs i 0 ∷ [])) ∙ ap (flat_map f) (sym (take_more xs i 0 low))
+pub taken_more : {X : Type 0} (f : X → List ℕ) (xs : List X) (i : ℕ) (d : X) → i < length xs → flat_map f (take i xs) ++ f (get_or xs i d) ≡ flat_map f (take (i + 1) xs)
+taken_more f xs i d low =
+    ap (λ ys. flat_map f (take i xs) ++ ys) (sym (append-nil (f (get_or xs i d))))
+    ∙ sym (flat_map-append f (take i xs) (get_or xs i d ∷ [])) ∙ ap (flat_map f) (sym (take_more xs i d low))
 
 text_behind : (first : List ℕ) (b : ℕ) (rest : List ℕ) → IsText (first ++ b ∷ rest)
 text_behind [] b rest = (b, rest, refl)
@@ -140,3 +140,15 @@ text_append_left (b ∷ first) rest h = (b, first ++ rest, refl)
 pub chain_some : (n : ℕ) (g : Colouring) (p : ℕ) → IsText (chain_line n g p)
 chain_some n g p =
     text_append_left (stone_text (colour_at g p)) _ (text_behind (flat_map (spaced_vertex n) (members n g p)) 32 (codes ":" ++ flat_map (spaced_vertex n) (liberties n g p)))
+
+joined_some : {X : Type 0} (f : X → List ℕ) → ((x : X) → IsText (f x)) → (x : X) (xs : List X) → IsText (join_with_byte 32 (map f (x ∷ xs)))
+joined_some f h x [] = h x
+joined_some f h x (y ∷ xs) = text_append (f x) (32 ∷ join_with_byte 32 (map f (y ∷ xs))) (h x)
+
+-- texts joined by spaces, and behind one
+pub result_spaced : {X : Type 0} (f : X → List ℕ) → ((x : X) → IsText (f x)) → (xs : List X) → flat_map (λ x. 32 ∷ f x) xs ≡ result_text (join_with_byte 32 (map f xs))
+result_spaced f h [] = refl
+result_spaced f h (x ∷ []) = append-nil (32 ∷ f x) ∙ sym (result_text-some (f x) (h x))
+result_spaced f h (x ∷ y ∷ xs) =
+    ap (λ t. (32 ∷ f x) ++ t) (result_spaced f h (y ∷ xs) ∙ result_text-some (join_with_byte 32 (map f (y ∷ xs))) (joined_some f h y xs))
+    ∙ sym (result_text-some (f x ++ 32 ∷ join_with_byte 32 (map f (y ∷ xs))) (text_append (f x) (32 ∷ join_with_byte 32 (map f (y ∷ xs))) (h x)))

@@ -4,10 +4,11 @@ use Rattle.std.specs.List.{join_with_byte}
 use Rattle.goref.specs.declared.decision.Decision.{Decision}
 use Rattle.goref.specs.declared.decision.Decision.TheVariants.{Done, Ends, Tells, Refused}
 use Rattle.goref.specs.declared.decision.Fact.{Fact}
-use Rattle.goref.specs.declared.decision.Fact.TheVariants.{Protocol, Program, Release, Commands, Known, Score, Board, Chains}
+use Rattle.goref.specs.declared.decision.Fact.TheVariants.{Protocol, Program, Release, Commands, Known, Score, Board, Chains, Places}
 use Rattle.goref.specs.declared.decision.Refusal.{Refusal}
-use Rattle.goref.specs.declared.decision.Refusal.TheVariants.{LineTooLong, UnknownCommand, SyntaxError, UnacceptableSize, IllegalMove, CannotUndo, OutOfMemory}
+use Rattle.goref.specs.declared.decision.Refusal.TheVariants.{LineTooLong, UnknownCommand, SyntaxError, UnacceptableSize, IllegalMove, CannotUndo, BoardNotEmpty, InvalidNumber, OutOfMemory}
 use Rattle.go_game.specs.Standings.{Standing, board_of}
+use Rattle.go_game.specs.Handicaps.{fixed}
 use Rattle.go_game.specs.Scores.{margin_of, score_word}
 use Rattle.goref_lines.specs.Kept.{Kept, has_bytes, words}
 use Rattle.goref_lines.specs.Requests.{asked_by, id_of_cut}
@@ -16,6 +17,7 @@ use Rattle.goref.specs.Commands.{command_names}
 use Rattle.goref.specs.Results.{result_text}
 use Rattle.goref.specs.Diagrams.{diagram}
 use Rattle.goref.specs.ChainLines.{chain_lines}
+use Rattle.goref.specs.Handicaps.{places_text}
 use Rattle.goref.specs.Decisions.{Decided, keeps, decided, MayLackMemory}
 
 abbrev pub refusal_text : Refusal → List ℕ
@@ -25,6 +27,8 @@ refusal_text SyntaxError = codes "syntax error"
 refusal_text UnacceptableSize = codes "unacceptable size"
 refusal_text IllegalMove = codes "illegal move"
 refusal_text CannotUndo = codes "cannot undo"
+refusal_text BoardNotEmpty = codes "board not empty"
+refusal_text InvalidNumber = codes "invalid number of stones"
 refusal_text OutOfMemory = codes "out of memory"
 
 abbrev pub truth_text : Bool → List ℕ
@@ -41,6 +45,7 @@ fact_text (Known b) s = truth_text b
 fact_text Score s = score_word (margin_of s)
 fact_text Board s = diagram s
 fact_text Chains s = chain_lines s.lines (board_of s)
+fact_text (Places number) s = places_text (fixed s.lines number)
 
 -- the id in front of an answer, without leading zeros
 abbrev pub id_text : Option ℕ → List ℕ

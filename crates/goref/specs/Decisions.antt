@@ -1,22 +1,25 @@
 -- What is decided on a line: what the answer tells, and what stands then.
-use Rattle.std.specs.Prelude.{◌≡◌, ℕ, ℤ, ◌&&◌, ◌⊎◌, nat_le, true, is_some, if◌then◌else◌, List, [], ◌∷◌, Option, Some, None, slice_get}
+use Rattle.std.specs.Prelude.{◌≡◌, ℕ, ℤ, ◌&&◌, ◌⊎◌, nat_le, Bool, true, false, is_some, min, if◌then◌else◌, List, [], ◌∷◌, Option, Some, None, slice_get}
 use Rattle.std.specs.Option.{option_and_then}
 use Rattle.go_board.specs.declared.size.TheConstants.{MAX_LINES}
 use Rattle.goref.specs.declared.command.Command.{Command}
 use Rattle.goref.specs.declared.command.Command.TheVariants as command
 use Rattle.goref.specs.declared.decision.Decision.{Decision}
 use Rattle.goref.specs.declared.decision.Decision.TheVariants.{Done, Ends, Tells, Refused}
-use Rattle.goref.specs.declared.decision.Fact.TheVariants.{Protocol, Program, Release, Commands, Known, Score, Board, Chains}
+use Rattle.goref.specs.declared.decision.Fact.TheVariants.{Protocol, Program, Release, Commands, Known, Score, Board, Chains, Places}
 use Rattle.go_game.specs.declared.errors.PlayError.{PlayError}
 use Rattle.go_game.specs.declared.errors.PlayError.TheVariants.{OffBoard, Occupied, Repeats, Memory}
 use Rattle.goref.specs.declared.decision.Refusal.{Refusal}
-use Rattle.goref.specs.declared.decision.Refusal.TheVariants.{UnknownCommand, SyntaxError, UnacceptableSize, IllegalMove, CannotUndo, OutOfMemory}
+use Rattle.goref.specs.declared.decision.Refusal.TheVariants.{UnknownCommand, SyntaxError, UnacceptableSize, IllegalMove, CannotUndo, BoardNotEmpty, InvalidNumber, OutOfMemory}
 use Rattle.go_board.specs.declared.colour.Colour.{Colour}
 use Rattle.go_board.specs.declared.vertex.Move.{Move}
 use Rattle.go_board.specs.declared.vertex.Vertex.{Vertex}
 use Rattle.go_board.specs.Vertices.{vertex_of}
-use Rattle.go_game.specs.Standings.{Standing, with_move, without_last}
+use Rattle.go_board.specs.declared.point.Point.{Point}
+use Rattle.go_game.specs.Handicaps.{fixed, greatest}
+use Rattle.go_game.specs.Standings.{Standing, is_vacant, with_move, without_last}
 use Rattle.goref.specs.Starts.{begun}
+use Rattle.goref.specs.Handicaps.{with_stones}
 use Rattle.goref.specs.Legal.{is_legal, is_open}
 use Rattle.goref_lines.specs.Words.{int_of, colour_of}
 use Rattle.goref_lines.specs.Komis.{komi_of}
@@ -74,6 +77,34 @@ abbrev pub decided_undo : Standing → List Move → Decided
 decided_undo s [] = keeps s (Refused CannotUndo)
 decided_undo s (m ∷ moves) = comes_to (without_last 1 s)
 
+-- a new start with so many handicap stones on these places, where there are such
+abbrev pub decided_places : Standing → ℕ → Option (List Point) → Decided
+decided_places s number None = keeps s (Refused InvalidNumber)
+decided_places s number (Some points) = record { decision = Tells (Places number); standing = with_stones s points }
+
+-- so many handicap stones on their places, on a board where nothing stands
+abbrev pub decided_handicap : Standing → ℕ → Decided
+decided_handicap s number = if is_vacant s then decided_places s number (fixed s.lines number) else keeps s (Refused BoardNotEmpty)
+
+-- `fixed_handicap`: so many stones
+abbrev pub decided_fixed : Standing → Option ℕ → Decided
+decided_fixed s None = keeps s (Refused SyntaxError)
+decided_fixed s (Some number) = decided_handicap s number
+
+-- `place_free_handicap`: so many stones, or as many as there are places for
+abbrev pub decided_free : Standing → Option ℕ → Decided
+decided_free s None = keeps s (Refused SyntaxError)
+decided_free s (Some number) = decided_handicap s (min number (greatest s.lines))
+
+-- `time_settings` and `time_left`: nothing is done with the times
+abbrev pub decided_settings : Standing → Option ℕ → Option ℕ → Option ℕ → Decided
+decided_settings s (Some main) (Some byo_yomi) (Some stones) = comes_to s
+decided_settings s _ _ _ = keeps s (Refused SyntaxError)
+
+abbrev pub decided_left : Standing → Option Colour → Option ℕ → Option ℕ → Decided
+decided_left s (Some colour) (Some time) (Some stones) = comes_to s
+decided_left s _ _ _ = keeps s (Refused SyntaxError)
+
 -- what is decided on a command with these arguments, the content being what was fetched for it
 abbrev pub decided_on : Standing → Command → List (List ℕ) → Content → Decided
 decided_on s command.ProtocolVersion arguments content = keeps s (Tells Protocol)
@@ -87,6 +118,12 @@ decided_on s command.ClearBoard arguments content = comes_to (begun s.lines s.ko
 decided_on s command.Komi arguments content = decided_komi s (option_and_then komi_of (slice_get arguments 0))
 decided_on s command.Play arguments content = decided_play s (option_and_then colour_of (slice_get arguments 0)) (option_and_then vertex_of (slice_get arguments 1))
 decided_on s command.Undo arguments content = decided_undo s s.moves
+decided_on s command.FixedHandicap arguments content = decided_fixed s (option_and_then int_of (slice_get arguments 0))
+decided_on s command.PlaceFreeHandicap arguments content = decided_free s (option_and_then int_of (slice_get arguments 0))
+decided_on s command.TimeSettings arguments content =
+    decided_settings s (option_and_then int_of (slice_get arguments 0)) (option_and_then int_of (slice_get arguments 1)) (option_and_then int_of (slice_get arguments 2))
+decided_on s command.TimeLeft arguments content =
+    decided_left s (option_and_then colour_of (slice_get arguments 0)) (option_and_then int_of (slice_get arguments 1)) (option_and_then int_of (slice_get arguments 2))
 decided_on s command.FinalScore arguments content = keeps s (Tells Score)
 decided_on s command.Showboard arguments content = keeps s (Tells Board)
 decided_on s command.Chains arguments content = keeps s (Tells Chains)
@@ -106,9 +143,19 @@ LacksMemoryAt s None vertex = ⊥
 LacksMemoryAt s (Some c) None = ⊥
 LacksMemoryAt s (Some c) (Some v) = is_open s v ≡ true
 
+abbrev pub is_refusal : Decision → Bool
+is_refusal (Refused why) = true
+is_refusal _ = false
+
+-- a command that is not refused by the table may lack memory
+abbrev pub LacksMemoryFor : Decided → Type 0
+LacksMemoryFor d = is_refusal d.decision ≡ false
+
 -- a command that may be refused for want of memory
 abbrev pub LacksMemoryOn : Standing → Command → List (List ℕ) → Content → Type 0
 LacksMemoryOn s command.Play arguments content = LacksMemoryAt s (option_and_then colour_of (slice_get arguments 0)) (option_and_then vertex_of (slice_get arguments 1))
+LacksMemoryOn s command.FixedHandicap arguments content = LacksMemoryFor (decided_fixed s (option_and_then int_of (slice_get arguments 0)))
+LacksMemoryOn s command.PlaceFreeHandicap arguments content = LacksMemoryFor (decided_free s (option_and_then int_of (slice_get arguments 0)))
 LacksMemoryOn s _ arguments content = ⊥
 
 abbrev pub LacksMemoryIf : Standing → Option Command → List (List ℕ) → Content → Type 0
@@ -121,6 +168,10 @@ MayLackMemory s asked content = LacksMemoryIf s (option_and_then command_of aske
 -- what may be decided on a move: what the rules say, or a refusal for want of memory where that is allowed
 abbrev pub DecidesPlay : Standing → Option Colour → Option Vertex → Decided → Type 0
 DecidesPlay s c v d = (d ≡ decided_play s c v) ⊎ (LacksMemoryAt s c v × (d ≡ keeps s (Refused OutOfMemory)))
+
+-- what may be decided where the table says this, on a command that may lack memory
+abbrev pub MayDecide : Standing → Decided → Decided → Type 0
+MayDecide s stated d = (d ≡ stated) ⊎ (LacksMemoryFor stated × (d ≡ keeps s (Refused OutOfMemory)))
 
 -- what may be decided: what the table says, or a refusal for want of memory where that is allowed
 abbrev pub Decides : Standing → Asked → Content → Decided → Type 0

@@ -5,6 +5,7 @@ pub mod Contents
 pub mod Results
 pub mod Diagrams
 pub mod ChainLines
+pub mod Handicaps
 pub mod Commands
 pub mod Decisions
 pub mod Answers

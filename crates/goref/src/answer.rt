@@ -1,10 +1,12 @@
 ghost use Rattle.std.specs.Prelude.{◌≡◌, ◌++◌, codes};
 ghost use Rattle.go_board.specs.Device.{Adds, Sent, failures_after, place};
-ghost use Rattle.std.specs.List.{join_with_byte};
+ghost use Rattle.std.specs.List.{flat_map, join_with_byte};
+ghost use Rattle.go_game.specs.Handicaps.{fixed};
 ghost use Rattle.go_game.specs.Scores.{margin_of, score_word};
 ghost use Rattle.goref.specs.Answers.{id_text, refusal_text, fact_text, decision_text};
 ghost use Rattle.goref.specs.Commands.{command_names};
 ghost use Rattle.goref.specs.Diagrams.{diagram};
+ghost use Rattle.goref.specs.Handicaps.{places_text, spaced_point};
 ghost use Rattle.goref.specs.Results.{result_text};
 
 use crate::chain_lines::put_chains;
@@ -12,8 +14,8 @@ use crate::command::listing;
 use crate::decision::{Decision, Fact, Refusal};
 use crate::diagram::put_diagram;
 use crate::session::Session;
-use go_board::{Pen, Sink, WriteFault};
-use go_game::{Game, score_text};
+use go_board::{Pen, Point, Sink, Vertex, WriteFault, vertex_text};
+use go_game::{Game, fixed_points, score_text};
 use itoa::Buffer;
 use std::alloc::Allocator;
 
@@ -127,6 +129,7 @@ fn put_fact<A: Allocator + Copy, W: Sink>(
         Fact::Score => put_score(session.game(), pen, writer),
         Fact::Board => put_board(session.game(), pen, writer),
         Fact::Chains => put_chains(session.game(), pen, writer),
+        Fact::Places(number) => put_places(session.game(), number, pen, writer),
     }
 }
 
@@ -157,6 +160,35 @@ fn put_board<A: Allocator + Copy, W: Sink>(game: &Game<A>, pen: &mut Pen, writer
     put_diagram(game, pen, writer);
 }
 
+/// Writes the places of so many handicap stones.
+fn put_places<A: Allocator + Copy, W: Sink>(
+    game: &Game<A>,
+    number: u32,
+    pen: &mut Pen,
+    writer: &mut W,
+)
+    ensures { Adds (place pen.old.has_failed (W.taken writer.old) (W.failures writer.old))
+        (place pen.new.has_failed (W.taken writer.new) (W.failures writer.new))
+        (result_text (places_text (fixed game.now.standing.lines number))) }
+{
+    match fixed_points(game.size(), number) {
+        Some(points) => put_points(points.as_slice(), pen, writer),
+        None => {}
+    }
+}
+
+/// Writes points, each behind a space.
+fn put_points<W: Sink>(points: &[Point], pen: &mut Pen, writer: &mut W)
+    ensures { Adds (place pen.old.has_failed (W.taken writer.old) (W.failures writer.old))
+        (place pen.new.has_failed (W.taken writer.new) (W.failures writer.new))
+        (flat_map spaced_point points.now) }
+{
+    for point in points {
+        pen.put(b" ", writer);
+        pen.put(vertex_text(Vertex::At(*point)).as_bytes(), writer);
+    }
+}
+
 /// What the answer says to a refused command.
 fn refusal_word(why: Refusal) -> &'static [u8]
     ensures { result.now ≡ refusal_text why }
@@ -168,6 +200,8 @@ fn refusal_word(why: Refusal) -> &'static [u8]
         Refusal::UnacceptableSize => b"unacceptable size",
         Refusal::IllegalMove => b"illegal move",
         Refusal::CannotUndo => b"cannot undo",
+        Refusal::BoardNotEmpty => b"board not empty",
+        Refusal::InvalidNumber => b"invalid number of stones",
         Refusal::OutOfMemory => b"out of memory",
     }
 }

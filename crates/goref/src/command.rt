@@ -16,14 +16,18 @@ pub enum Command {
     Komi,
     Play,
     Undo,
+    FixedHandicap,
+    PlaceFreeHandicap,
     FinalScore,
     Showboard,
+    TimeSettings,
+    TimeLeft,
     Chains,
 }
 
 /// The names of all commands, each on a line of its own.
 const LISTING: &[u8] =
-    b"protocol_version\nname\nversion\nknown_command\nlist_commands\nquit\nboardsize\nclear_board\nkomi\nplay\nundo\nfinal_score\nshowboard\ngoref-chains";
+    b"protocol_version\nname\nversion\nknown_command\nlist_commands\nquit\nboardsize\nclear_board\nkomi\nplay\nundo\nfixed_handicap\nplace_free_handicap\nfinal_score\nshowboard\ntime_settings\ntime_left\ngoref-chains";
 
 /// The command of this name.
 pub fn command_named(name: &[u8]) -> Option<Command>
@@ -62,11 +66,23 @@ pub fn command_named(name: &[u8]) -> Option<Command>
     if name == b"undo".as_slice() {
         return Some(Command::Undo);
     }
+    if name == b"fixed_handicap".as_slice() {
+        return Some(Command::FixedHandicap);
+    }
+    if name == b"place_free_handicap".as_slice() {
+        return Some(Command::PlaceFreeHandicap);
+    }
     if name == b"final_score".as_slice() {
         return Some(Command::FinalScore);
     }
     if name == b"showboard".as_slice() {
         return Some(Command::Showboard);
+    }
+    if name == b"time_settings".as_slice() {
+        return Some(Command::TimeSettings);
+    }
+    if name == b"time_left".as_slice() {
+        return Some(Command::TimeLeft);
     }
     if name == b"goref-chains".as_slice() {
         return Some(Command::Chains);

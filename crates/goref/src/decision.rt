@@ -30,6 +30,8 @@ pub enum Fact {
     Board,
     /// The chains with their liberties.
     Chains,
+    /// The places of so many handicap stones.
+    Places(u32),
 }
 
 /// Why a command is refused.
@@ -41,5 +43,7 @@ pub enum Refusal {
     UnacceptableSize,
     IllegalMove,
     CannotUndo,
+    BoardNotEmpty,
+    InvalidNumber,
     OutOfMemory,
 }

@@ -110,11 +110,7 @@ fn put_right_in_two<W: Sink>(number: u64, pen: &mut Pen, writer: &mut W)
 fn padding(number: u64) -> &'static [u8]
     ensures { result.now ≡ padding_of number }
 {
-    if number < 10 {
-        b" "
-    } else {
-        b""
-    }
+    if number < 10 { b" " } else { b"" }
 }
 
 fn put_marks<A: Allocator + Copy, W: Sink>(game: &Game<A>, row: u8, pen: &mut Pen, writer: &mut W)

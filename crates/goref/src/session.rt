@@ -1,4 +1,4 @@
-ghost use Rattle.std.specs.Prelude.{◌≡◌, ◌&&◌, if◌then◌else◌, nat_le, option_map, slice_get, pos, IfSome, Some, None};
+ghost use Rattle.std.specs.Prelude.{◌≡◌, ◌<◌, ◌*◌, ◌&&◌, All, IfErr, OnErr, OnOk, if◌then◌else◌, length, nat_le, option_map, slice_get, pos, IfSome, Some, None};
 ghost use Rattle.std.specs.Option.{option_and_then};
 ghost use Rattle.go_board.specs.Vertices.{vertex_of, vertex_on};
 ghost use Rattle.go_board.specs.Sizes.{lines_of};
@@ -12,15 +12,17 @@ ghost use Rattle.goref.specs.Commands.{command_of};
 ghost use Rattle.go_board.specs.Device.{failures_after};
 ghost use Rattle.goref.specs.Answers.{DecidesLine, is_end, line_id};
 ghost use Rattle.goref.specs.Replies.{Answered, flow_of};
-ghost use Rattle.goref.specs.Decisions.{Decides, DecidesPlay, decided_komi, decided_known, decided_size, decided_undo, move_refusal};
+ghost use Rattle.goref.specs.Decisions.{Decides, DecidesPlay, MayDecide, decided_fixed, decided_free, decided_handicap, decided_komi, decided_known, decided_left, decided_settings, decided_size, decided_undo, move_refusal};
+ghost use Rattle.goref.specs.Handicaps.{with_stones};
+ghost use Rattle.go_board.specs.Points.{IsOn};
 
 use crate::answer::write_answer;
 use crate::command::{Command, command_named};
 use crate::decision::{Decision, Fact, Refusal};
 use crate::flow::Flow;
 use crate::shelf::Fetched;
-use go_board::{Colour, Move, Sink, Size, Vertex, VertexError, WriteFault, read_vertex};
-use go_game::{Game, PlayError};
+use go_board::{Colour, Move, Point, Sink, Size, Vertex, VertexError, WriteFault, read_vertex};
+use go_game::{Game, PlayError, SetupError, fixed_points, greatest_handicap, stones_on};
 use goref_lines::{Line, Request, id_of_cut, read_colour, read_int, read_komi};
 use std::alloc::Allocator;
 use std::marker::Model;
@@ -29,6 +31,7 @@ use std::marker::Model;
 #[derive(Drop)]
 pub struct Session<A: Allocator + Copy> {
     game: Game<A>,
+    alloc: A,
 }
 
 impl<A: Allocator + Copy> Model for Session<A> {
@@ -44,6 +47,7 @@ impl<A: Allocator + Copy> Session<A> {
     {
         Session {
             game: Game::new(alloc, size),
+            alloc,
         }
     }
 
@@ -106,6 +110,10 @@ impl<A: Allocator + Copy> Session<A> {
             Some(Command::Komi) => self.decide_komi(request),
             Some(Command::Play) => self.decide_play(request),
             Some(Command::Undo) => self.decide_undo(),
+            Some(Command::FixedHandicap) => self.decide_fixed(request),
+            Some(Command::PlaceFreeHandicap) => self.decide_free(request),
+            Some(Command::TimeSettings) => decide_settings(request),
+            Some(Command::TimeLeft) => decide_left(request),
             Some(Command::FinalScore) => Decision::Tells(Fact::Score),
             Some(Command::Showboard) => Decision::Tells(Fact::Board),
             Some(Command::Chains) => Decision::Tells(Fact::Chains),
@@ -184,6 +192,67 @@ impl<A: Allocator + Copy> Session<A> {
             None => Decision::Refused(Refusal::CannotUndo),
         }
     }
+
+    fn decide_fixed(&mut self, request: &Request) -> Decision
+        ensures { MayDecide self.old
+            (decided_fixed self.old (option_and_then int_of (slice_get request.now.arguments 0)))
+            (record { decision = result; standing = self.new }) }
+    {
+        match int_argument(request, 0) {
+            None => Decision::Refused(Refusal::SyntaxError),
+            Some(number) => self.decide_handicap(number),
+        }
+    }
+
+    fn decide_free(&mut self, request: &Request) -> Decision
+        ensures { MayDecide self.old
+            (decided_free self.old (option_and_then int_of (slice_get request.now.arguments 0)))
+            (record { decision = result; standing = self.new }) }
+    {
+        let greatest = greatest_handicap(self.game.size());
+        match int_argument(request, 0) {
+            None => Decision::Refused(Refusal::SyntaxError),
+            Some(number) => self.decide_handicap(number.min(greatest)),
+        }
+    }
+
+    /// Begins anew with so many handicap stones on their places.
+    fn decide_handicap(&mut self, number: u32) -> Decision
+        ensures { MayDecide self.old (decided_handicap self.old number)
+            (record { decision = result; standing = self.new }) }
+    {
+        if !self.game.is_vacant() {
+            return Decision::Refused(Refusal::BoardNotEmpty);
+        }
+        match fixed_points(self.game.size(), number) {
+            None => Decision::Refused(Refusal::InvalidNumber),
+            Some(points) => match self.begin_with(points.as_slice()) {
+                Ok(()) => Decision::Tells(Fact::Places(number)),
+                Err(_) => Decision::Refused(Refusal::OutOfMemory),
+            },
+        }
+    }
+
+    /// Begins anew with these black stones: White is to move, and the komi stays. It is refused for
+    /// want of memory alone, since each of the stones reaches the point that is left.
+    fn begin_with(&mut self, points: &[Point]) -> Result<(), SetupError>
+        requires on { All (IsOn self.old.lines) points.now }
+        requires few { length points.now < self.old.lines * self.old.lines }
+        ensures ok { OnOk result (self.new ≡ with_stones self.old points.now) }
+        ensures err { OnErr result (self.new ≡ self.old) }
+        ensures memory { IfErr result (λ e. e ≡ SetupError.Memory) }
+    {
+        let komi = self.game.komi();
+        let stones = stones_on(self.game.size(), points);
+        match Game::start_from(self.alloc, &stones, Colour::White) {
+            Ok(mut game) => {
+                game.set_komi(komi);
+                self.game = game;
+                Ok(())
+            }
+            Err(error) => Err(error),
+        }
+    }
 }
 
 /// The id of a line, also of one that is too long.
@@ -221,6 +290,38 @@ fn decide_known(request: &Request) -> Decision
     match request.argument(0) {
         None => Decision::Refused(Refusal::SyntaxError),
         Some(word) => Decision::Tells(Fact::Known(command_named(word).is_some())),
+    }
+}
+
+fn decide_settings(request: &Request) -> Decision
+    ensures { (s : Standing) → record { decision = result; standing = s } ≡ decided_settings s
+        (option_and_then int_of (slice_get request.now.arguments 0))
+        (option_and_then int_of (slice_get request.now.arguments 1))
+        (option_and_then int_of (slice_get request.now.arguments 2)) }
+{
+    match (
+        int_argument(request, 0),
+        int_argument(request, 1),
+        int_argument(request, 2),
+    ) {
+        (Some(_), Some(_), Some(_)) => Decision::Done,
+        _ => Decision::Refused(Refusal::SyntaxError),
+    }
+}
+
+fn decide_left(request: &Request) -> Decision
+    ensures { (s : Standing) → record { decision = result; standing = s } ≡ decided_left s
+        (option_and_then colour_of (slice_get request.now.arguments 0))
+        (option_and_then int_of (slice_get request.now.arguments 1))
+        (option_and_then int_of (slice_get request.now.arguments 2)) }
+{
+    match (
+        colour_argument(request, 0),
+        int_argument(request, 1),
+        int_argument(request, 2),
+    ) {
+        (Some(_), Some(_), Some(_)) => Decision::Done,
+        _ => Decision::Refused(Refusal::SyntaxError),
     }
 }
 

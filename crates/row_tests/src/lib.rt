@@ -8,6 +8,8 @@ mod boards;
 #[cfg(test)]
 mod games;
 #[cfg(test)]
+mod handicaps;
+#[cfg(test)]
 mod lines;
 #[cfg(test)]
 mod scripts;

@@ -1,5 +1,6 @@
-use Rattle.std.proofs.Common.{◌≡◌, ◌∙◌, ℕ, Some, false, sym, ap, ap₂, get_or, take, subst}
+use Rattle.std.proofs.Common.{◌≡◌, ◌∙◌, ◌*◌, ℕ, Some, false, inl, inr, sym, ap, ap₂, get_or, take, subst}
 use Rattle.std.specs.Prelude.{slice_set}
+use Rattle.std.proofs.lemmas.Bool.{cases_lt}
 use Rattle.std.proofs.lemmas.List.{take_all, take_more}
 use Rattle.go_board.specs.declared.colour.Colour.TheVariants.{Black}
 use Rattle.go_board.specs.declared.point.Point.{Point}
@@ -8,7 +9,7 @@ use Rattle.go_board.specs.Points.{IsOn, number_of}
 use Rattle.go_board.specs.Reaching.{is_dead}
 use Rattle.go_board.specs.Sizes.{lines_of}
 use Rattle.go_game.specs.Handicaps.{with_black, stones_on}
-use Rattle.go_game.proofs.Stones.{with_black-more, stones_plain, stones_leave}
+use Rattle.go_game.proofs.Stones.{with_black-more, stones_plain, stones_leave, past_alive}
 use Rattle.go_game.proofs.handicap.stones_on.Goals as goal
 
 origin : Point
@@ -37,7 +38,7 @@ loop-point-preserved c =
     }
 
 pub returns-clause-alive : goal.returns-clause-alive
-returns-clause-alive c = λ few k low.
+returns-clause-alive c = λ few k.
     let n = lines_of c.args.size in
     let points = c.args.points.now in
     let colours : c.loop-point.grid.colours ≡ stones_on n points =
@@ -45,5 +46,7 @@ returns-clause-alive c = λ few k low.
     ∙ ap (with_black c.new-grid.result.lines c.new-grid.result.colours) (take_all c.loop-point.point-index points c.loop-point-test.false)
     ∙ ap₂ (λ (m : ℕ) (g : Colouring). with_black m g points) c.new-grid.ensures.lines c.new-grid.ensures.colours in
     let left = stones_leave n points few in
-    subst (λ (g : Colouring). is_dead n g k ≡ false) (sym colours)
-    (c.one_colour_lives.ensures n (stones_on n points) Black left.0 left.1 left.2 (λ j on. stones_plain n points j) k low)
+    subst (λ (g : Colouring). is_dead n g k ≡ false) (sym colours) (elim (cases_lt k (n * n)) [
+      | inl on ↦ c.one_colour_lives.ensures n (stones_on n points) Black left.0 left.1 left.2 (λ j low. stones_plain n points j) k on
+      | inr past ↦ past_alive n points k past
+    ])

@@ -4,4 +4,4 @@ use Rattle.goref.proofs.diagram.put_diagram.Goals as goal
 pub returns : goal.returns
 returns g c =
     adds_adds c.put_setting.ensures (adds_adds c.put_prisoners.ensures (adds_adds c.put_turn.ensures
-        (adds_adds c.put_rows.ensures (rw c.size.ensures.lines at c.put_letters.ensures))))
+    (adds_adds c.put_rows.ensures (rw c.size.ensures.lines at c.put_letters.ensures))))

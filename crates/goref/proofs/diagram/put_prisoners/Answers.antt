@@ -4,4 +4,4 @@ use Rattle.goref.proofs.diagram.put_prisoners.Goals as goal
 pub returns : goal.returns
 returns g c =
     adds_adds c.put.ensures (adds_adds (rw c.prisoners.ensures at c.put_number.ensures)
-        (adds_adds c.put-2.ensures (rw c.prisoners-2.ensures at c.put_number-2.ensures)))
+    (adds_adds c.put-2.ensures (rw c.prisoners-2.ensures at c.put_number-2.ensures)))

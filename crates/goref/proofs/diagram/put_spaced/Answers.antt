@@ -5,4 +5,4 @@ use Rattle.goref.proofs.diagram.put_spaced.Goals as goal
 
 pub loop-letter-preserved : goal.loop-letter-preserved
 loop-letter-preserved g c =
-    adds_then _ c.loop-letter.invariant c.put.ensures (taken_more spaced_letter c.args.letters.now c.loop-letter.letter-index c.loop-letter-test.true)
+    adds_then _ c.loop-letter.invariant c.put.ensures (taken_more spaced_letter c.args.letters.now c.loop-letter.letter-index 0 c.loop-letter-test.true)

@@ -1,0 +1,79 @@
+use crate::scripts::says;
+
+#[test]
+fn handicap_is_no_move(rt: HostRuntime) {
+    says(
+        &rt,
+        rt.alloc(),
+        b"boardsize 9\nfixed_handicap 2\nundo\nfixed_handicap 2\n",
+        b"=\n\n= C3 G7\n\n? cannot undo\n\n? board not empty\n\n",
+    );
+    says(
+        &rt,
+        rt.alloc(),
+        b"clear_board\nplay b pass\nfixed_handicap 2\n",
+        b"=\n\n=\n\n? board not empty\n\n",
+    );
+}
+
+#[test]
+fn handicap_counts(rt: HostRuntime) {
+    says(
+        &rt,
+        rt.alloc(),
+        b"boardsize 8\nfixed_handicap 5\nboardsize 6\nfixed_handicap 2\n",
+        b"=\n\n? invalid number of stones\n\n=\n\n? invalid number of stones\n\n",
+    );
+    says(
+        &rt,
+        rt.alloc(),
+        b"boardsize 19\nfixed_handicap 9\nboardsize 9\nplace_free_handicap 20\n",
+        b"=\n\n= D4 Q16 D16 Q4 D10 Q10 K4 K16 K10\n\n\
+        =\n\n= C3 G7 C7 G3 C5 G5 E3 E7 E5\n\n",
+    );
+    says(
+        &rt,
+        rt.alloc(),
+        b"boardsize 8\nplace_free_handicap 9\nclear_board\nplace_free_handicap 1\n",
+        b"=\n\n= C3 F6 C6 F3\n\n=\n\n? invalid number of stones\n\n",
+    );
+    says(
+        &rt,
+        rt.alloc(),
+        b"boardsize 13\nfixed_handicap 5\nboardsize 7\nfixed_handicap 4\n",
+        b"=\n\n= D4 K10 D10 K4 G7\n\n=\n\n= C3 E5 C5 E3\n\n",
+    );
+}
+
+#[test]
+fn the_start_of_a_handicap(rt: HostRuntime) {
+    says(
+        &rt,
+        rt.alloc(),
+        b"boardsize 7\nkomi 0.5\nfixed_handicap 2\nshowboard\n",
+        b"=\n\n=\n\n= C3 E5\n\n\
+        = size 7 komi 0.5 prisoners B 0 W 0 moves 0 next W\n \
+        7 . . . . . . .\n 6 . . . . . . .\n 5 . . . . X . .\n 4 . . . . . . .\n \
+        3 . . X . . . .\n 2 . . . . . . .\n 1 . . . . . . .\n   A B C D E F G\n\n",
+    );
+}
+
+#[test]
+fn refusals_in_order(rt: HostRuntime) {
+    says(
+        &rt,
+        rt.alloc(),
+        b"play b a1\nfixed_handicap 99\nfixed_handicap x\nplace_free_handicap 1\nplace_free_handicap\n",
+        b"=\n\n? board not empty\n\n? syntax error\n\n? board not empty\n\n? syntax error\n\n",
+    );
+}
+
+#[test]
+fn times(rt: HostRuntime) {
+    says(
+        &rt,
+        rt.alloc(),
+        b"time_settings 1 2\ntime_settings 0 5 1\ntime_left b 1 2\ntime_left x 1 2\ntime_left w 1\n",
+        b"? syntax error\n\n=\n\n=\n\n? syntax error\n\n? syntax error\n\n",
+    );
+}
