@@ -1,5 +1,5 @@
 -- The places of handicap stones are on the board.
-use Rattle.std.proofs.Common.{arith, ◌≡◌, ◌<◌, ◌≤◌, ◌&&◌, ◌||◌, ◌==◌, ◌%◌, ◌/◌, if◌then◌else◌, ap, Bool, true, false, inl, inr, ℕ, List, [], ◌∷◌, ◌++◌, All, nat_lt, take}
+use Rattle.std.proofs.Common.{arith, ◌≡◌, ◌<◌, ◌≤◌, ◌&&◌, ◌||◌, ◌==◌, ◌%◌, if◌then◌else◌, ap, Bool, true, false, inl, inr, ℕ, List, [], ◌∷◌, ◌++◌, All, nat_lt, take}
 use Rattle.std.specs.Prelude.{nat_le}
 use Rattle.std.proofs.lemmas.Bool.{cases_lt, lt-ltb}
 use Rattle.std.proofs.lemmas.Bool.Decides.{nat_tests}
@@ -46,9 +46,9 @@ module _ (n : ℕ) (big : 6 < n) where
       let third = where_wanted (nat_le 8 number) (ends n) in
       All-append (IsOn n) ((first ++ second) ++ third) (where_wanted (nat_lt 4 number && number % 2 == 1) (centre n))
       (All-append (IsOn n) (first ++ second) third
-          (All-append (IsOn n) first second (All-take (IsOn n) number (corners n) corners_on)
-              (wanted_on (nat_le 6 number) (sides n) (two_on (point_in (near n) (middle n)) (point_in (far n) (middle n)) (a, m) (b, m))))
-          (wanted_on (nat_le 8 number) (ends n) (two_on (point_in (middle n) (near n)) (point_in (middle n) (far n)) (m, a) (m, b))))
+      (All-append (IsOn n) first second (All-take (IsOn n) number (corners n) corners_on)
+      (wanted_on (nat_le 6 number) (sides n) (two_on (point_in (near n) (middle n)) (point_in (far n) (middle n)) (a, m) (b, m))))
+      (wanted_on (nat_le 8 number) (ends n) (two_on (point_in (middle n) (near n)) (point_in (middle n) (far n)) (m, a) (m, b))))
       (wanted_on (nat_lt 4 number && number % 2 == 1) (centre n) (one_more (point_in (middle n) (middle n)) [] (m, m) (All-nil (IsOn n))))
 
 -- a board with places for two stones has more than six lines

@@ -1,10 +1,10 @@
 -- The chains of a board, each on a line of its own.
-use Rattle.std.specs.Prelude.{ℕ, Bool, true, false, if◌then◌else◌, List, [], ◌∷◌, ◌++◌, Option, Some, None, codes, filter, map}
+use Rattle.std.specs.Prelude.{ℕ, Bool, List, [], ◌∷◌, ◌++◌, Option, Some, None, codes, filter, map}
 use Rattle.std.specs.List.{flat_map, join_with_byte, range_with_len}
 use Rattle.go_board.specs.declared.colour.Colour.{Colour}
 use Rattle.go_board.specs.declared.vertex.Vertex.TheVariants.{At}
 use Rattle.go_board.specs.Colours.{Colouring, colour_at}
-use Rattle.go_board.specs.Chains.{first_stones, members, liberties, is_first_of_chain}
+use Rattle.go_board.specs.Chains.{first_stones, members, liberties}
 use Rattle.go_board.specs.Points.{point_at}
 use Rattle.go_board.specs.Reaching.{is_liberty_of, joined}
 use Rattle.go_board.specs.Vertices.{vertex_word}

@@ -1,5 +1,4 @@
-use Rattle.std.proofs.Common.{arith, ◌≡◌, ◌<◌, ◌∙◌, ℕ, List, All, inl, inr, sym, ap, subst}
-use Rattle.std.proofs.lemmas.Bool.{cases_lt}
+use Rattle.std.proofs.Common.{arith, ◌≡◌, ◌∙◌, ℕ, List, All, sym, ap, subst}
 use Rattle.go_board.specs.declared.point.Point.{Point}
 use Rattle.go_board.specs.Points.{IsOn}
 use Rattle.go_board.specs.Sizes.{lines_of}

@@ -1,4 +1,4 @@
-use Rattle.std.proofs.Common.{arith, ◌≡◌, ◌<◌, ◌*◌, ◌∙◌, ℕ, true, sym, ap}
+use Rattle.std.proofs.Common.{arith, ◌≡◌, ◌<◌, ◌*◌, ◌∙◌, ℕ, sym, ap}
 use Rattle.go_board.specs.Points.{number_of}
 use Rattle.go_board.specs.Reaching.{joined}
 use Rattle.go_game.specs.Standings.{board_of}

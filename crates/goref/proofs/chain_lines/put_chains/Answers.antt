@@ -1,4 +1,4 @@
-use Rattle.std.proofs.Common.{arith, ◌≡◌, ◌*◌, ◌∙◌, ◌∷◌, ◌++◌, [], ℕ, List, codes, refl, sym, ap}
+use Rattle.std.proofs.Common.{arith, ◌≡◌, ◌*◌, ◌∙◌, ℕ, sym, ap}
 use Rattle.go_board.specs.Chains.{is_first_of_chain}
 use Rattle.go_board.specs.Points.{number_of}
 use Rattle.go_board.specs.Writing.{adds_then}

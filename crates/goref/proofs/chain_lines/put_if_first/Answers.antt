@@ -1,6 +1,6 @@
 use Rattle.std.proofs.Common.{◌∙◌, ◌∷◌, [], sym}
 use Rattle.go_board.specs.Points.{number_of}
-use Rattle.go_board.specs.Writing.{adds_adds, adds_then}
+use Rattle.go_board.specs.Writing.{adds_then}
 use Rattle.go_game.specs.Standings.{board_of}
 use Rattle.goref.specs.ChainLines.{chain_line}
 use Rattle.goref.proofs.Listing.{if_true}

@@ -1,8 +1,6 @@
-use Rattle.std.proofs.Common.{◌∙◌, sym, true, ap, if◌then◌else◌, [], ◌≡◌, ℕ, List, Bool}
+use Rattle.std.proofs.Common.{◌∙◌, sym, true, ap, [], ◌≡◌, ℕ}
 use Rattle.go_board.specs.Points.{number_of}
 use Rattle.go_board.specs.Writing.{adds_then}
-use Rattle.go_board.specs.declared.vertex.Vertex.TheVariants.{At}
-use Rattle.go_board.specs.Vertices.{vertex_word}
 use Rattle.go_game.specs.Standings.{board_of}
 use Rattle.goref.specs.ChainLines.{is_part, spaced_vertex}
 use Rattle.goref.proofs.Listing.{if_true}

@@ -1,6 +1,4 @@
 use Rattle.std.proofs.Common.{◌≡◌, ◌∙◌, ◌*◌, ℕ, length, sym, ap}
-use Rattle.std.specs.Prelude.{replicate, None}
-use Rattle.go_board.specs.Colours.{Colouring}
 use Rattle.go_board.specs.Grids.{GridValue}
 use Rattle.go_board.specs.Sizes.{lines_of}
 use Rattle.go_game.specs.Standings.{GameValue}
