@@ -104,7 +104,11 @@ impl Source for Reader<'_> {
             self.failures.tick();
             return Err(Failed);
         }
-        let count = self.rest.len().min(buffer.len()).min(self.piece.most(self.rest));
+        let count = self
+            .rest
+            .len()
+            .min(buffer.len())
+            .min(self.piece.most(self.rest));
         let (piece, rest) = self.rest.split_at(count);
         buffer[..count].copy_from_slice(piece);
         self.rest = rest;
