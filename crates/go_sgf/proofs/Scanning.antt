@@ -1,0 +1,32 @@
+-- How the scanners go on, byte by byte.
+use Rattle.std.proofs.Common.{◌≡◌, ℕ, zero, suc, ◌<◌, List, [], ◌∷◌, Bool, true, false, not, refl, take, get_or, arith}
+use Rattle.std.specs.List.{list_all}
+use Rattle.memchr.specs.Find.{is_byte2}
+use Rattle.go_sgf.specs.Reads.{is_ordinary}
+use Rattle.go_sgf.specs.Spelling.{after_space, begins_tree, from_tree, is_space}
+
+pub after_space_more : (c : ℕ) (cs : List ℕ) → is_space c ≡ true → after_space (c ∷ cs) ≡ after_space cs
+after_space_more c cs e = rw e refl
+
+pub after_space_stop : (c : ℕ) (cs : List ℕ) → is_space c ≡ false → after_space (c ∷ cs) ≡ c ∷ cs
+after_space_stop c cs e = rw e refl
+
+pub from_tree_more : (c : ℕ) (cs : List ℕ) → begins_tree (c ∷ cs) ≡ false → from_tree (c ∷ cs) ≡ from_tree cs
+from_tree_more c cs e = rw e refl
+
+pub from_tree_here : (c : ℕ) (cs : List ℕ) → begins_tree (c ∷ cs) ≡ true → from_tree (c ∷ cs) ≡ c ∷ cs
+from_tree_here c cs e = rw e refl
+
+not_true : (b : Bool) → (b ≡ true → ⊥) → not b ≡ true
+not_true true h = absurd (h refl)
+not_true false h = refl
+
+-- the bytes before a place are ordinary where none of them is `]` or `\`
+pub ordinary_before : (xs : List ℕ) (n : ℕ) → ((k : ℕ) → k < n → is_byte2 93 92 (get_or xs k 0) ≡ true → ⊥) →
+    list_all is_ordinary (take n xs) ≡ true
+ordinary_before xs zero h = refl
+ordinary_before [] (suc n) h = refl
+ordinary_before (x ∷ xs) (suc n) h =
+    let first : is_ordinary x ≡ true = not_true _ (h 0 (omega arith)) in
+    let later : list_all is_ordinary (take n xs) ≡ true = ordinary_before xs n (λ k less. h (suc k) (omega arith)) in
+    rw (first, later) refl

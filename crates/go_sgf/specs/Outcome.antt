@@ -1,0 +1,45 @@
+-- What comes of reading a tree: what is left after it, or its first fault. It serves the contracts of private functions alone.
+use Rattle.std.specs.Prelude.{◌≡◌, ℕ, suc, ◌-◌, ◌≤◌, ◌==◌, Bool, true, false, if◌then◌else◌, List, [], ◌∷◌, length, Option, Some, None, Result, Ok, Err}
+use Rattle.go_sgf.specs.Spelling.{after_space}
+use Rattle.go_sgf.specs.Stands.{State, Place, step, opened, closed}
+use Rattle.go_sgf.specs.declared.fault.Fault.{Fault}
+use Rattle.go_sgf.specs.declared.fault.Fault.TheVariants.{Memory, End, Unexpected, TooDeep}
+
+-- what comes of a step: what is left where the tree is whole, a fault, or what goes on
+abbrev pub outcome_on : ℕ → Option Place → ℕ → List ℕ → (Place → Result (List ℕ) Fault) → Result (List ℕ) Fault
+outcome_on limit None left cs later = Err (Unexpected left)
+outcome_on limit (Some p) left cs later =
+    if p.1 == suc limit then Err (TooDeep left) else (if p.1 == 0 then Ok (after_space cs) else later p)
+
+-- From a state on: what is left after the whole tree and white space, or the first fault, by how many bytes are left there.
+unfoldable pub outcome : ℕ → State → ℕ → List ℕ → Result (List ℕ) Fault
+outcome limit s d [] = Err End
+outcome limit s d (c ∷ cs) = outcome_on limit (step s d c) (suc (length cs)) cs (λ p. outcome limit p.0 p.1 cs)
+
+-- the outcome of what goes on after a `)` at this depth
+abbrev pub outcome_after : ℕ → ℕ → List ℕ → Result (List ℕ) Fault
+outcome_after limit d rest = if d == 1 then Ok rest else outcome limit closed (d - 1) rest
+
+-- An answer is this outcome's fault, or the outcome is that of what goes on after what was read. Memory may always run out.
+abbrev pub Meets : {X : Type 0} → Result X Fault → Result (List ℕ) Fault → (X → Result (List ℕ) Fault) → Type 0
+Meets (Ok x) expected later = expected ≡ later x
+Meets (Err Memory) expected later = Unit {0}
+Meets (Err End) expected later = expected ≡ Err End
+Meets (Err (Unexpected n)) expected later = expected ≡ Err (Unexpected n)
+Meets (Err (TooDeep n)) expected later = expected ≡ Err (TooDeep n)
+
+-- a depth within the limit
+abbrev pub IsWithin : ℕ → ℕ → Type 0
+IsWithin limit d = (1 ≤ d) × (d ≤ limit)
+
+-- the fault at a byte that nothing allows, or at the end
+abbrev pub here : List ℕ → Fault
+here [] = End
+here (c ∷ cs) = Unexpected (suc (length cs))
+
+-- how many bytes are left at a fault
+abbrev pub left_of : Fault → ℕ
+left_of Memory = 0
+left_of End = 0
+left_of (Unexpected n) = n
+left_of (TooDeep n) = n

@@ -1,0 +1,40 @@
+-- What the parts of the reader have read, up to the rest. It serves the contracts of private functions alone.
+use Rattle.std.specs.Prelude.{◌≡◌, ◌≢◌, ◌≤◌, ◌+◌, ◌==◌, ◌||◌, not, Bool, false, ℕ, List, [], ◌∷◌, ◌++◌, map}
+use Rattle.std.specs.List.{flat_map, AllByRecursion}
+use Rattle.go_sgf.specs.Record.{Property, Trees, is_letter, IsValue, IsProperty, AreTrees, depth}
+use Rattle.go_sgf.specs.Spelling.{Part, closing, value, SpellsParts, property_parts, node_parts, parts}
+use Rattle.go_sgf.specs.declared.limits.TheConstants.{MAX_DEPTH}
+
+pub record ReadsValues (b : List ℕ) (vs : List (List ℕ)) (rest : List ℕ) : Type 0 where
+  pub some : vs ≢ []
+  pub inside : AllByRecursion IsValue vs
+  pub spelling : SpellsParts b (map value vs) rest
+
+pub record ReadsProperty (b : List ℕ) (p : Property) (rest : List ℕ) : Type 0 where
+  pub fit : IsProperty p
+  pub spelling : SpellsParts b (property_parts p) rest
+
+pub record ReadsNode (b : List ℕ) (ps : List Property) (rest : List ℕ) : Type 0 where
+  pub fit : AllByRecursion IsProperty ps
+  pub spelling : SpellsParts b (flat_map property_parts ps) rest
+
+pub record ReadsNodes (b : List ℕ) (ns : List (List Property)) (rest : List ℕ) : Type 0 where
+  pub some : ns ≢ []
+  pub fit : AllByRecursion (AllByRecursion IsProperty) ns
+  pub spelling : SpellsParts b (flat_map node_parts ns) rest
+
+-- a tree at this depth, from behind its `(` to behind its `)`
+pub record ReadsTree (d : ℕ) (b : List ℕ) (t : List (List Property) × Trees) (rest : List ℕ) : Type 0 where
+  pub some : t.0 ≢ []
+  pub nodes : AllByRecursion (AllByRecursion IsProperty) t.0
+  pub children : AreTrees t.1
+  pub nesting : depth t.1 + d ≤ MAX_DEPTH
+  pub spelling : SpellsParts b (flat_map node_parts t.0 ++ (parts t.1 ++ (closing ∷ []))) rest
+
+abbrev pub begins_letter : List ℕ → Bool
+begins_letter [] = false
+begins_letter (c ∷ cs) = is_letter c
+
+-- neither `]` nor `\`
+abbrev pub is_ordinary : ℕ → Bool
+is_ordinary c = not (c == 93 || c == 92)

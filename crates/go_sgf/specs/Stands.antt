@@ -1,0 +1,124 @@
+-- Where a tree stops to be one: how its text stands, byte by byte.
+use Rattle.std.specs.Prelude.{◌≡◌, ℕ, zero, suc, ◌+◌, ◌≤◌, ◌==◌, Bool, true, false, if◌then◌else◌, List, [], ◌∷◌, take, length, Option, Some, None, option_and_then}
+use Rattle.go_sgf.specs.Record.{Trees, AreTrees, depth, is_upper, is_lower}
+use Rattle.go_sgf.specs.Spelling.{Spells, SpellsParts, parts, from_tree, begins_tree, is_space}
+use Rattle.go_sgf.specs.declared.limits.TheConstants.{MAX_DEPTH}
+
+-- What was read last: a tree's `(`, its `;`, lower-case letters, a name with an upper-case letter, a name and white
+-- space, a byte of a value, a `\` in a value, a value's `]`, a child's `)`, and the `)` of the first tree.
+pub data State : Type 0 where
+  opened : State
+  in_node : State
+  low : State
+  named : State
+  gap : State
+  in_value : State
+  escape : State
+  after : State
+  closed : State
+  whole : State
+
+-- a state and a depth
+abbrev pub Place : Type 0
+Place = State × ℕ
+
+abbrev pub on_space : State → ℕ → Option Place
+on_space opened d = Some (opened, d)
+on_space in_node d = Some (in_node, d)
+on_space named d = Some (gap, d)
+on_space gap d = Some (gap, d)
+on_space after d = Some (after, d)
+on_space closed d = Some (closed, d)
+on_space _ d = None
+
+abbrev pub on_open : State → ℕ → Option Place
+on_open in_node d = Some (opened, suc d)
+on_open after d = Some (opened, suc d)
+on_open closed d = Some (opened, suc d)
+on_open _ d = None
+
+-- one less deep
+abbrev pub up : ℕ → Place
+up zero = (whole, 0)
+up (suc zero) = (whole, 0)
+up (suc (suc d)) = (closed, suc d)
+
+abbrev pub on_close : State → ℕ → Option Place
+on_close in_node d = Some (up d)
+on_close after d = Some (up d)
+on_close closed d = Some (up d)
+on_close _ d = None
+
+abbrev pub on_semicolon : State → ℕ → Option Place
+on_semicolon opened d = Some (in_node, d)
+on_semicolon in_node d = Some (in_node, d)
+on_semicolon after d = Some (in_node, d)
+on_semicolon _ d = None
+
+abbrev pub on_upper : State → ℕ → Option Place
+on_upper in_node d = Some (named, d)
+on_upper after d = Some (named, d)
+on_upper low d = Some (named, d)
+on_upper named d = Some (named, d)
+on_upper _ d = None
+
+abbrev pub on_lower : State → ℕ → Option Place
+on_lower in_node d = Some (low, d)
+on_lower after d = Some (low, d)
+on_lower low d = Some (low, d)
+on_lower named d = Some (named, d)
+on_lower _ d = None
+
+abbrev pub on_bracket : State → ℕ → Option Place
+on_bracket named d = Some (in_value, d)
+on_bracket gap d = Some (in_value, d)
+on_bracket after d = Some (in_value, d)
+on_bracket _ d = None
+
+-- one byte on, outside of a value
+abbrev pub outside : State → ℕ → ℕ → Option Place
+outside s d c =
+    if is_space c then on_space s d else
+    (if c == 40 then on_open s d else
+    (if c == 41 then on_close s d else
+    (if c == 59 then on_semicolon s d else
+    (if c == 91 then on_bracket s d else
+    (if is_upper c then on_upper s d else
+    (if is_lower c then on_lower s d else None))))))
+
+-- in a value
+abbrev pub inside : ℕ → State
+inside c = if c == 93 then after else (if c == 92 then escape else in_value)
+
+-- one byte on
+abbrev pub step : State → ℕ → ℕ → Option Place
+step in_value d c = Some (inside c, d)
+step escape d c = Some (in_value, d)
+step whole d c = None
+step opened d c = outside opened d c
+step in_node d c = outside in_node d c
+step low d c = outside low d c
+step named d c = outside named d c
+step gap d c = outside gap d c
+step after d c = outside after d c
+step closed d c = outside closed d c
+
+-- the state and the depth after the bytes, where they stand
+abbrev pub run : State → ℕ → List ℕ → Option Place
+run s d [] = Some (s, d)
+run s d (c ∷ cs) = option_and_then (λ p. run p.0 p.1 cs) (step s d c)
+
+-- how a text stands, from a tree's `(` on
+abbrev pub stands : List ℕ → Option Place
+stands [] = None
+stands (c ∷ cs) = if c == 40 then run opened 1 cs else None
+
+-- it stands, and its tree isn't whole
+abbrev pub IsOpen : Option Place → Type 0
+IsOpen None = ⊥
+IsOpen (Some p) = 1 ≤ p.1
+
+-- it stands at this depth
+abbrev pub IsAtDepth : ℕ → Option Place → Type 0
+IsAtDepth d None = ⊥
+IsAtDepth d (Some p) = p.1 ≡ d

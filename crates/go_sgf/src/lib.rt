@@ -1,0 +1,10 @@
+//! Records of games in the Smart Game Format: read, written, and the values in them.
+#![tactic(auto)]
+
+mod fault;
+mod limits;
+mod record;
+mod scan;
+
+pub use limits::{MAX_DEPTH, MAX_RECORD};
+pub use record::{Collection, Node, Property, Tree};

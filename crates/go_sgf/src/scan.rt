@@ -1,0 +1,134 @@
+ghost use Rattle.std.specs.Prelude.{◌≡◌, ◌∷◌, ◌++◌, ◌||◌, ◌==◌, IfNone, IfSome, IsTrue, false, true};
+ghost use Rattle.std.specs.List.{list_all, list_any};
+ghost use Rattle.go_sgf.specs.Reads.{begins_letter as is_letter_first, is_ordinary};
+ghost use Rattle.go_sgf.specs.Record.{is_letter as is_letter_byte, is_upper as is_upper_byte};
+ghost use Rattle.go_sgf.specs.Spelling.{after_space as without_space, begins_tree as is_tree_first, begins_with as is_first, from_tree as tree_in, is_space};
+
+use memchr::memchr2;
+
+/// Whether a byte is white space: space, HT, LF, VT, FF or CR.
+pub(crate) fn is_white(byte: u8) -> bool
+    ensures { result ≡ is_space byte }
+{
+    byte == b' ' || (9 <= byte && byte <= 13)
+}
+
+fn is_letter(byte: u8) -> bool
+    ensures { result ≡ is_letter_byte byte }
+{
+    (b'A' <= byte && byte <= b'Z') || (b'a' <= byte && byte <= b'z')
+}
+
+/// Whether a byte is an upper-case letter.
+pub(crate) fn is_upper(byte: u8) -> bool
+    ensures { result ≡ is_upper_byte byte }
+{
+    b'A' <= byte && byte <= b'Z'
+}
+
+/// Whether one of the bytes is an upper-case letter.
+pub(crate) fn has_upper(bytes: &[u8]) -> bool
+    ensures { result ≡ list_any is_upper_byte bytes.now }
+{
+    bytes.iter().any(|byte| is_upper(*byte))
+}
+
+/// The bytes behind the white space at the front.
+#[tactic(auto, using(crate::proofs::Scanning::after_space_more, crate::proofs::Scanning::after_space_stop))]
+pub(crate) fn after_space(bytes: &[u8]) -> &[u8]
+    ensures { result.now ≡ without_space bytes.now }
+{
+    let mut rest = bytes;
+    while let Some((first, more)) = rest.split_first() {
+        if !is_white(*first) {
+            return rest;
+        }
+        rest = more;
+    }
+    rest
+}
+
+/// Whether the first byte is this one.
+pub(crate) fn begins_with(bytes: &[u8], byte: u8) -> bool
+    ensures { result ≡ is_first byte bytes.now }
+{
+    match bytes.split_first() {
+        Some((first, _)) => *first == byte,
+        None => false,
+    }
+}
+
+/// Whether the first byte is a letter.
+pub(crate) fn begins_letter(bytes: &[u8]) -> bool
+    ensures { result ≡ is_letter_first bytes.now }
+{
+    match bytes.split_first() {
+        Some((first, _)) => is_letter(*first),
+        None => false,
+    }
+}
+
+/// The bytes behind this first byte, where it is the first.
+pub(crate) fn strip(bytes: &[u8], byte: u8) -> Option<&[u8]>
+    ensures stripped { IfSome result (λ rest. bytes.now ≡ byte ∷ rest.now) }
+    ensures other { IfNone result (is_first byte bytes.now ≡ false) }
+{
+    match bytes.split_first() {
+        Some((first, rest)) if *first == byte => Some(rest),
+        _ => None,
+    }
+}
+
+/// The letters at the front, and what follows them.
+pub(crate) fn letters(bytes: &[u8]) -> (&[u8], &[u8])
+    ensures whole { bytes.now ≡ result.0.now ++ result.1.now }
+    ensures letters { list_all is_letter_byte result.0.now ≡ true }
+    ensures stopped { is_letter_first result.1.now ≡ false }
+{
+    for (place, byte) in bytes.iter().enumerate() {
+        if !is_letter(*byte) {
+            return bytes.split_at(place);
+        }
+    }
+    (bytes, &[])
+}
+
+/// Whether a tree begins here: `(`, and `;` behind it, white space aside.
+pub(crate) fn begins_tree(bytes: &[u8]) -> bool
+    ensures { result ≡ is_tree_first bytes.now }
+{
+    match bytes.split_first() {
+        Some((b'(', rest)) => begins_with(after_space(rest), b';'),
+        _ => false,
+    }
+}
+
+/// The bytes from the first tree on.
+#[tactic(auto, using(crate::proofs::Scanning::from_tree_more, crate::proofs::Scanning::from_tree_here))]
+pub(crate) fn from_tree(bytes: &[u8]) -> &[u8]
+    ensures { result.now ≡ tree_in bytes.now }
+{
+    let mut rest = bytes;
+    while let Some((_, more)) = rest.split_first() {
+        if begins_tree(rest) {
+            return rest;
+        }
+        rest = more;
+    }
+    rest
+}
+
+/// What stands before the first `]` or `\`, that byte, and what follows it.
+pub(crate) fn ordinary(bytes: &[u8]) -> Option<(&[u8], u8, &[u8])>
+    ensures whole { IfSome result (λ r. bytes.now ≡ r.0.now ++ (r.1 ∷ r.2.now)) }
+    ensures front { IfSome result (λ r. list_all is_ordinary r.0.now ≡ true) }
+    ensures stopped { IfSome result (λ r. is_ordinary r.1 ≡ false) }
+    ensures none { IfNone result (list_all is_ordinary bytes.now ≡ true) }
+{
+    let place = memchr2(b']', b'\\', bytes)?;
+    let (front, rest) = bytes.split_at(place);
+    match rest.split_first() {
+        Some((byte, more)) => Some((front, *byte, more)),
+        None => None,
+    }
+}
