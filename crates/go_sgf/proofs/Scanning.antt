@@ -1,5 +1,6 @@
 -- How the scanners go on, byte by byte.
-use Rattle.std.proofs.Common.{◌≡◌, ℕ, zero, suc, ◌<◌, List, [], ◌∷◌, Bool, true, false, not, refl, take, get_or, arith}
+use Rattle.std.proofs.Common.{◌≡◌, ℕ, zero, suc, ◌<◌, List, [], ◌∷◌, true, false, refl, take, get_or, arith}
+use Rattle.std.proofs.lemmas.Bool.{not_from_false, false_from_ne_true}
 use Rattle.std.specs.List.{list_all}
 use Rattle.memchr.specs.Find.{is_byte2}
 use Rattle.go_sgf.specs.Reads.{is_ordinary}
@@ -17,16 +18,12 @@ from_tree_more c cs e = rw e refl
 pub from_tree_here : (c : ℕ) (cs : List ℕ) → begins_tree (c ∷ cs) ≡ true → from_tree (c ∷ cs) ≡ c ∷ cs
 from_tree_here c cs e = rw e refl
 
-not_true : (b : Bool) → (b ≡ true → ⊥) → not b ≡ true
-not_true true h = absurd (h refl)
-not_true false h = refl
-
 -- the bytes before a place are ordinary where none of them is `]` or `\`
 pub ordinary_before : (xs : List ℕ) (n : ℕ) → ((k : ℕ) → k < n → is_byte2 93 92 (get_or xs k 0) ≡ true → ⊥) →
     list_all is_ordinary (take n xs) ≡ true
 ordinary_before xs zero h = refl
 ordinary_before [] (suc n) h = refl
 ordinary_before (x ∷ xs) (suc n) h =
-    let first : is_ordinary x ≡ true = not_true _ (h 0 (omega arith)) in
+    let first : is_ordinary x ≡ true = not_from_false _ (false_from_ne_true _ (h 0 (omega arith))) in
     let later : list_all is_ordinary (take n xs) ≡ true = ordinary_before xs n (λ k less. h (suc k) (omega arith)) in
     rw (first, later) refl

@@ -1,7 +1,7 @@
 -- What comes of reading a tree: what is left after it, or its first fault. It serves the contracts of private functions alone.
-use Rattle.std.specs.Prelude.{◌≡◌, ℕ, suc, ◌-◌, ◌≤◌, ◌==◌, Bool, true, false, if◌then◌else◌, List, [], ◌∷◌, length, Option, Some, None, Result, Ok, Err}
+use Rattle.std.specs.Prelude.{◌≡◌, ℕ, suc, ◌-◌, ◌≤◌, ◌==◌, if◌then◌else◌, List, [], ◌∷◌, length, Option, Some, None, Result, Ok, Err}
 use Rattle.go_sgf.specs.Spelling.{after_space}
-use Rattle.go_sgf.specs.Stands.{State, Place, step, opened, closed}
+use Rattle.go_sgf.specs.Stands.{State, Place, step, closed}
 use Rattle.go_sgf.specs.declared.fault.Fault.{Fault}
 use Rattle.go_sgf.specs.declared.fault.Fault.TheVariants.{Memory, End, Unexpected, TooDeep}
 

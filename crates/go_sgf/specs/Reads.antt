@@ -1,8 +1,8 @@
 -- What the parts of the reader have read, up to the rest. It serves the contracts of private functions alone.
-use Rattle.std.specs.Prelude.{◌≡◌, ◌≢◌, ◌≤◌, ◌+◌, ◌==◌, ◌||◌, not, Bool, false, ℕ, List, [], ◌∷◌, ◌++◌, map}
+use Rattle.std.specs.Prelude.{◌≢◌, ◌≤◌, ◌+◌, ◌==◌, ◌||◌, not, Bool, false, ℕ, List, [], ◌∷◌, ◌++◌, map}
 use Rattle.std.specs.List.{flat_map, AllByRecursion}
 use Rattle.go_sgf.specs.Record.{Property, Trees, is_letter, IsValue, IsProperty, AreTrees, depth}
-use Rattle.go_sgf.specs.Spelling.{Part, closing, value, SpellsParts, property_parts, node_parts, parts}
+use Rattle.go_sgf.specs.Spelling.{is_space, closing, value, SpellsParts, property_parts, node_parts, parts}
 use Rattle.go_sgf.specs.declared.limits.TheConstants.{MAX_DEPTH}
 
 pub record ReadsValues (b : List ℕ) (vs : List (List ℕ)) (rest : List ℕ) : Type 0 where
@@ -38,3 +38,7 @@ begins_letter (c ∷ cs) = is_letter c
 -- neither `]` nor `\`
 abbrev pub is_ordinary : ℕ → Bool
 is_ordinary c = not (c == 93 || c == 92)
+
+abbrev pub begins_space : List ℕ → Bool
+begins_space [] = false
+begins_space (c ∷ cs) = is_space c

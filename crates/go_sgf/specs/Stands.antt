@@ -1,8 +1,7 @@
 -- Where a tree stops to be one: how its text stands, byte by byte.
-use Rattle.std.specs.Prelude.{◌≡◌, ℕ, zero, suc, ◌+◌, ◌≤◌, ◌==◌, Bool, true, false, if◌then◌else◌, List, [], ◌∷◌, take, length, Option, Some, None, option_and_then}
-use Rattle.go_sgf.specs.Record.{Trees, AreTrees, depth, is_upper, is_lower}
-use Rattle.go_sgf.specs.Spelling.{Spells, SpellsParts, parts, from_tree, begins_tree, is_space}
-use Rattle.go_sgf.specs.declared.limits.TheConstants.{MAX_DEPTH}
+use Rattle.std.specs.Prelude.{◌≡◌, ℕ, zero, suc, ◌≤◌, ◌==◌, if◌then◌else◌, List, [], ◌∷◌, Option, Some, None, option_and_then}
+use Rattle.go_sgf.specs.Record.{is_upper, is_lower}
+use Rattle.go_sgf.specs.Spelling.{is_space}
 
 -- What was read last: a tree's `(`, its `;`, lower-case letters, a name with an upper-case letter, a name and white
 -- space, a byte of a value, a `\` in a value, a value's `]`, a child's `)`, and the `)` of the first tree.

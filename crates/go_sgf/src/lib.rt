@@ -3,6 +3,7 @@
 
 mod fault;
 mod limits;
+mod reader;
 mod record;
 mod scan;
 

@@ -1,4 +1,4 @@
-use Rattle.std.proofs.Common.{◌≡◌, ap, sym, true, length, take, List, ℕ, arith}
+use Rattle.std.proofs.Common.{◌≡◌, true, length, take, arith}
 use Rattle.std.proofs.lemmas.List.{take_all}
 use Rattle.std.specs.List.{list_all}
 use Rattle.go_sgf.specs.Reads.{is_ordinary}
@@ -9,7 +9,7 @@ pub returns-in_err-place-clause-none : goal.returns-in_err-place-clause-none
 returns-in_err-place-clause-none c =
     let bytes = c.args.bytes.now in
     let before : list_all is_ordinary (take (length bytes) bytes) ≡ true =
-        ordinary_before bytes (length bytes) (λ k less. c.in_err-place.ensures k (omega arith) less) in
+    ordinary_before bytes (length bytes) (λ k less. c.in_err-place.ensures k (omega arith) less) in
     let all : list_all is_ordinary bytes ≡ true = rw (← take_all (length bytes) bytes (omega arith)) before in
     rw c.from_residual.ensures all
 

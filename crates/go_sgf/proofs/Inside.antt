@@ -1,0 +1,78 @@
+-- What stands inside of a value.
+use Rattle.std.proofs.Common.{◌≡◌, ◌≤◌, ◌+◌, ◌==◌, ◌≢◌, inl, inr, ℕ, List, [], ◌∷◌, ◌++◌, Bool, true, false, not, refl, sym, ap, subst, ◌∙◌, length, take, drop, append_assoc, length-append, eqb-true, arith}
+use Rattle.std.proofs.lemmas.Bool.{and_parts, not-true, not-false, or_parts, or_cases}
+use Rattle.std.proofs.lemmas.List.{take-append-drop, take_at, length-take-le}
+use Rattle.std.specs.List.{list_all}
+use Rattle.go_sgf.specs.Record.{is_inside, IsValue}
+use Rattle.go_sgf.specs.Reads.{is_ordinary}
+
+pub is_inside-append : (e : Bool) (v w : List ℕ) → is_inside e v ≡ true → is_inside e (v ++ w) ≡ is_inside false w
+is_inside-append true [] w h = cc
+is_inside-append false [] w h = refl
+is_inside-append true (c ∷ cs) w h = is_inside-append false cs w h
+is_inside-append false (c ∷ cs) w h =
+    let parts = and_parts (not (c == 93)) (is_inside (c == 92) cs) h in
+    let later : is_inside (c == 92) (cs ++ w) ≡ is_inside false w = is_inside-append (c == 92) cs w parts.1 in
+    rw (parts.0, later) refl
+
+-- ordinary bytes
+pub ordinary_inside : (v : List ℕ) → list_all is_ordinary v ≡ true → IsValue v
+ordinary_inside [] h = refl
+ordinary_inside (c ∷ cs) h =
+    let parts = and_parts (is_ordinary c) (list_all is_ordinary cs) h in
+    let tests = or_parts (c == 93) (c == 92) (not-true _ parts.0) in
+    let later : is_inside false cs ≡ true = ordinary_inside cs parts.1 in
+    rw (tests.0, tests.1, later) refl
+
+pub ordinary_on : (v w : List ℕ) → IsValue v → list_all is_ordinary w ≡ true → IsValue (v ++ w)
+ordinary_on v w h k = is_inside-append false v w h ∙ ordinary_inside w k
+
+-- a place further on, over what stands there
+pub split_further : (n : ℕ) (b front rest : List ℕ) → n ≤ length b → drop n b ≡ front ++ rest →
+    (take (n + length front) b ≡ take n b ++ front) × (b ≡ take (n + length front) b ++ rest)
+split_further n b front rest h e =
+    let whole : b ≡ (take n b ++ front) ++ rest =
+    sym (take-append-drop n b) ∙ ap (λ xs. take n b ++ xs) e ∙ sym (append_assoc (take n b) front rest) in
+    let long : length (take n b ++ front) ≡ n + length front =
+    length-append (take n b) front ∙ ap (λ k. k + length front) (length-take-le n b h) in
+    let front_is : take (n + length front) b ≡ take n b ++ front =
+    ap (take (n + length front)) whole ∙ take_at (take n b ++ front) rest (n + length front) long in
+    (front_is, whole ∙ ap (λ xs. xs ++ rest) (sym front_is))
+
+-- the byte where a search for `]` and `\` stops
+pub stop_is_escape : (c : ℕ) → is_ordinary c ≡ false → c ≢ 93 → c ≡ 92
+stop_is_escape c h ne = elim (or_cases (c == 93) (c == 92) (not-false _ h)) [
+  | inl e ↦ absurd (ne (eqb-true c 93 e))
+  | inr e ↦ eqb-true c 92 e
+]
+
+-- a value up to a `]`
+pub value_up_to : (n : ℕ) (b front rest : List ℕ) → n ≤ length b → IsValue (take n b) → list_all is_ordinary front ≡ true →
+    drop n b ≡ front ++ rest → IsValue (take (n + length front) b)
+value_up_to n b front rest h v o e =
+    let P : List ℕ → Type 0 = λ xs. IsValue xs in
+    subst P (sym (split_further n b front rest h e).0) (ordinary_on (take n b) front v o)
+
+escape_inside : (front : List ℕ) (x : ℕ) → list_all is_ordinary front ≡ true → IsValue (front ++ (92 ∷ x ∷ []))
+escape_inside front x o = is_inside-append false front (92 ∷ x ∷ []) (ordinary_inside front o)
+
+past_escape : (n : ℕ) (b front : List ℕ) (x : ℕ) (rest : List ℕ) → n ≤ length b → IsValue (take n b) →
+    list_all is_ordinary front ≡ true → drop n b ≡ front ++ (92 ∷ x ∷ rest) →
+    (n + length front + 2 ≤ length b) × IsValue (take (n + length front + 2) b)
+past_escape n b front x rest h v o e =
+    let both : List ℕ = front ++ (92 ∷ x ∷ []) in
+    let split = split_further n b both rest h (e ∙ sym (append_assoc front (92 ∷ x ∷ []) rest)) in
+    let long : n + length both ≡ n + length front + 2 = omega (arith, length-append front (92 ∷ x ∷ [])) in
+    let within : n + length front + 2 ≤ length b =
+    omega (arith, ap length split.1, length-append (take (n + length both) b) rest, length-append front (92 ∷ x ∷ []), length-append (take n b) both, ap length split.0, length-take-le n b h) in
+    let inside : IsValue (take (n + length both) b) =
+    rw split.0 (is_inside-append false (take n b) both v ∙ escape_inside front x o) in
+    let P : ℕ → Type 0 = λ k. IsValue (take k b) in
+    (within, subst P long inside)
+
+-- a value past a `\` and the byte after it
+pub value_past_escape : (n : ℕ) (b front more : List ℕ) → n ≤ length b → IsValue (take n b) →
+    list_all is_ordinary front ≡ true → drop n b ≡ front ++ (92 ∷ more) → (length more == 0) ≡ false →
+    (n + length front + 2 ≤ length b) × IsValue (take (n + length front + 2) b)
+value_past_escape n b front [] h v o e some = cc
+value_past_escape n b front (x ∷ rest) h v o e some = past_escape n b front x rest h v o e
