@@ -4,3 +4,6 @@ pub mod Parts
 pub mod Inside
 pub mod Passing
 pub mod Growing
+pub mod Outcomes
+pub mod Standing
+pub mod Stops

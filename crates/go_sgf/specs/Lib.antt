@@ -4,3 +4,4 @@ pub mod Spelling
 pub mod Stands
 pub mod Outcome
 pub mod Reads
+pub mod Refusals

@@ -2,6 +2,8 @@
 use Rattle.std.specs.Prelude.{◌≡◌, ℕ, suc, ◌-◌, ◌≤◌, ◌==◌, if◌then◌else◌, List, [], ◌∷◌, length, Option, Some, None, Result, Ok, Err}
 use Rattle.go_sgf.specs.Spelling.{after_space}
 use Rattle.go_sgf.specs.Stands.{State, Place, step, closed}
+use Rattle.go_sgf.specs.declared.error.SgfError.{SgfError}
+use Rattle.go_sgf.specs.declared.error.SgfError.TheVariants as error
 use Rattle.go_sgf.specs.declared.fault.Fault.{Fault}
 use Rattle.go_sgf.specs.declared.fault.Fault.TheVariants.{Memory, End, Unexpected, TooDeep}
 
@@ -43,3 +45,10 @@ left_of Memory = 0
 left_of End = 0
 left_of (Unexpected n) = n
 left_of (TooDeep n) = n
+
+-- the answer for a fault in a source of this length
+abbrev pub place_of : ℕ → Fault → SgfError
+place_of len Memory = error.Memory
+place_of len End = error.EndInside len
+place_of len (Unexpected left) = error.Unexpected (len - left)
+place_of len (TooDeep left) = error.TooDeep (len - left)

@@ -1,5 +1,5 @@
 -- Where a tree stops to be one: how its text stands, byte by byte.
-use Rattle.std.specs.Prelude.{◌≡◌, ℕ, zero, suc, ◌≤◌, ◌==◌, if◌then◌else◌, List, [], ◌∷◌, Option, Some, None, option_and_then}
+use Rattle.std.specs.Prelude.{◌≡◌, ◌≢◌, ℕ, zero, suc, ◌==◌, if◌then◌else◌, List, [], ◌∷◌, Option, Some, None, option_and_then}
 use Rattle.go_sgf.specs.Record.{is_upper, is_lower}
 use Rattle.go_sgf.specs.Spelling.{is_space}
 
@@ -113,9 +113,14 @@ stands [] = None
 stands (c ∷ cs) = if c == 40 then run opened 1 cs else None
 
 -- it stands, and its tree isn't whole
-abbrev pub IsOpen : Option Place → Type 0
-IsOpen None = ⊥
-IsOpen (Some p) = 1 ≤ p.1
+abbrev pub IsUnfinished : Option Place → Type 0
+IsUnfinished None = ⊥
+IsUnfinished (Some p) = p.0 ≢ whole
+
+-- it stands, and its tree is whole
+abbrev pub IsWhole : Option Place → Type 0
+IsWhole None = ⊥
+IsWhole (Some p) = p.0 ≡ whole
 
 -- it stands at this depth
 abbrev pub IsAtDepth : ℕ → Option Place → Type 0

@@ -1,15 +1,21 @@
-ghost use Rattle.std.specs.Prelude.{◌≡◌, ◌≤◌, ◌+◌, ◌++◌, ◌∷◌, ℕ, Err, IfNone, IfOk, IfSome, OnOk, [], false, map, true};
+ghost use Rattle.std.specs.Prelude.{◌≡◌, ◌≤◌, ◌+◌, ◌++◌, ◌∷◌, ℕ, Err, IfNone, IfOk, IfSome, OnOk, [], false, map, true, IfErr, ◌<◌, ◌↔◌, length};
 ghost use Rattle.go_sgf.specs.declared.fault.Fault.TheVariants.{End};
-ghost use Rattle.go_sgf.specs.Outcome.{IsWithin, Meets, here, outcome, outcome_after};
+ghost use Rattle.go_sgf.specs.Outcome.{IsWithin, Meets, here, left_of, outcome, outcome_after, place_of};
 ghost use Rattle.go_sgf.specs.Reads.{ReadsNode, ReadsNodes, ReadsProperty, ReadsTree, ReadsValues, begins_letter as is_letter_first};
 ghost use Rattle.go_sgf.specs.Record.{IsValue};
+ghost use Rattle.go_sgf.specs.Refusals.{IsRefusal};
+ghost use Rattle.go_sgf.specs.Spelling.{Spells};
 ghost use Rattle.go_sgf.specs.Stands.{after, closed, in_node, in_value, named, opened};
-ghost use Rattle.go_sgf.specs.View.{node_of, property_of, tree_of, values_of};
+ghost use Rattle.go_sgf.specs.View.{collection_of, node_of, property_of, tree_of, values_of};
 
+use crate::error::SgfError;
 use crate::fault::Fault;
-use crate::limits::MAX_DEPTH;
-use crate::record::{Node, Property, Tree};
-use crate::scan::{after_space, begins_letter, begins_with, has_upper, letters, ordinary, strip};
+use crate::limits::{MAX_DEPTH, MAX_RECORD};
+use crate::record::{Collection, Node, Property, Tree};
+use crate::scan::{
+    after_space, begins_letter, begins_with, from_tree, has_upper, letters, ordinary, strip,
+    strip_tree,
+};
 use std::alloc::{AllocError, Allocator};
 
 /// The fault of a byte that nothing allows, or of the end.
@@ -164,4 +170,63 @@ pub(crate) fn tree<'a, A: Allocator + Copy>(
         Some(behind) => Ok((Tree { nodes, children }, after_space(behind))),
         None => Err(unexpected(rest)),
     }
+}
+
+/// What is answered for a fault in a source of this length.
+fn placed(fault: Fault, length: usize) -> SgfError
+    requires { left_of fault ≤ length }
+    ensures { result ≡ place_of length fault }
+{
+    match fault {
+        Fault::Memory => SgfError::Memory,
+        Fault::End => SgfError::EndInside(length),
+        Fault::Unexpected(left) => SgfError::Unexpected(length - left),
+        Fault::TooDeep(left) => SgfError::TooDeep(length - left),
+    }
+}
+
+/// The trees of a source, one after another.
+fn trees<'a, A: Allocator + Copy>(alloc: A, source: &'a [u8]) -> Result<Collection<'a, A>, SgfError>
+    ensures read { IfOk result (λ c. Spells source.now (collection_of c)) }
+    ensures refused { IfErr result (IsRefusal source.now) }
+    ensures long { (result ≡ Err SgfError.TooLong) → ⊥ }
+{
+    let mut rest = from_tree(source);
+    if rest.is_empty() {
+        return Err(SgfError::NoTree);
+    }
+    let mut trees = Vec::new(alloc);
+    while let Some(inside) = strip_tree(rest) {
+        let (one, more) = match tree(alloc, inside, 1) {
+            Ok(read) => read,
+            Err(fault) => return Err(placed(fault, source.len())),
+        };
+        push(&mut trees, one)?;
+        rest = more;
+    }
+    Ok(Collection { trees })
+}
+
+/// Reads a record. What stands before its first tree is skipped; the trees go on as long as `(`
+/// and `;` come next, white space aside, and what follows the last of them is skipped too. Names
+/// and values are parts of the source, which isn't copied.
+///
+/// # Errors
+///
+/// `TooLong` exactly where the source has more than [`MAX_RECORD`] bytes, which comes first.
+/// `NoTree` where no tree begins. `EndInside`, `Unexpected` and `TooDeep` where the source spells
+/// no record, with the first place that shows it. `Memory` may stand in place of all but
+/// `TooLong`.
+pub fn read<'a, A: Allocator + Copy>(
+    alloc: A,
+    source: &'a [u8],
+) -> Result<Collection<'a, A>, SgfError>
+    ensures too_long { (result ≡ Err SgfError.TooLong) ↔ (MAX_RECORD < length source.now) }
+    ensures read { IfOk result (λ c. Spells source.now (collection_of c)) }
+    ensures refused { IfErr result (IsRefusal source.now) }
+{
+    if source.len() > MAX_RECORD {
+        return Err(SgfError::TooLong);
+    }
+    trees(alloc, source)
 }

@@ -103,6 +103,19 @@ pub(crate) fn begins_tree(bytes: &[u8]) -> bool
     }
 }
 
+/// The bytes behind a tree's `(`, where a tree begins.
+pub(crate) fn strip_tree(bytes: &[u8]) -> Option<&[u8]>
+    ensures stripped { IfSome result (λ rest. bytes.now ≡ 40 ∷ rest.now) }
+    ensures begins { IfSome result (λ _. is_tree_first bytes.now ≡ true) }
+    ensures other { IfNone result (is_tree_first bytes.now ≡ false) }
+{
+    if begins_tree(bytes) {
+        strip(bytes, b'(')
+    } else {
+        None
+    }
+}
+
 /// The bytes from the first tree on.
 #[tactic(auto, using(crate::proofs::Scanning::from_tree_more, crate::proofs::Scanning::from_tree_here))]
 pub(crate) fn from_tree(bytes: &[u8]) -> &[u8]

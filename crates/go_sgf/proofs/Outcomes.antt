@@ -1,0 +1,182 @@
+-- What spells a tree is read to its end without a fault.
+use Rattle.std.proofs.Common.{◌≡◌, ◌≢◌, ◌≤◌, ◌<◌, ◌+◌, inl, inr, ℕ, suc, List, [], ◌∷◌, ◌++◌, Bool, true, false, Option, Some, None, refl, sym, ap, ◌∙◌, map, append_assoc, arith}
+use Rattle.std.proofs.lemmas.Bool.{and_parts, or_cases, false_from_ne_true}
+use Rattle.std.proofs.lemmas.Bool.Decides.{nat_tests}
+use Rattle.std.specs.List.{list_all, flat_map, AllByRecursion}
+use Rattle.go_sgf.specs.Record.{Property, Trees, none, tree, is_letter, is_upper, is_lower, IsValue, IsName, IsProperty, AreTrees, depth}
+use Rattle.go_sgf.specs.Spelling.{Part, closing, value, property_parts, node_parts, parts, after_space, is_space, SpellsParts}
+use Rattle.go_sgf.specs.Stands.{State, opened, in_node, named, after, closed}
+use Rattle.go_sgf.specs.Outcome.{outcome, outcome_after, IsWithin}
+use Rattle.go_sgf.specs.Reads.{begins_letter}
+use Rattle.go_sgf.proofs.Growing.{closes, out_of_child}
+use Rattle.go_sgf.proofs.Machine as machine
+use Rattle.go_sgf.proofs.Parts.{SpellsParts-same, after_space-again}
+use Rattle.go_sgf.proofs.Scanning.{after_space_stop}
+use Rattle.go_sgf.proofs.Passing.{values_begin, value_passed}
+
+pub SpellsParts-split : (ps qs : List Part) (b r : List ℕ) → SpellsParts b (ps ++ qs) r → (mid : List ℕ) × SpellsParts b ps mid × SpellsParts mid qs r
+SpellsParts-split [] qs b r h = (after_space b, refl, SpellsParts-same qs b (after_space b) r (sym (after_space-again b)) h)
+SpellsParts-split (p ∷ ps) qs b r h =
+    let later = SpellsParts-split ps qs h.0 r h.2 in
+    (later.0, (h.0, h.1, later.1), later.2)
+
+-- behind a property's values, or before the first property
+abbrev node_state : Bool → State
+node_state true = after
+node_state false = in_node
+
+-- behind the nodes, or behind a child
+abbrev pub tree_state : Option Bool → State
+tree_state None = closed
+tree_state (Some o) = node_state o
+
+-- what begins with a letter
+letter_same : (b : List ℕ) → begins_letter b ≡ true → after_space b ≡ b
+letter_same [] e = refl
+letter_same (c ∷ cs) e = let other : is_space c ≡ false = grind (arith, nat_tests) in after_space_stop c cs other
+
+bracket_no_letter : (b more : List ℕ) → after_space b ≡ 91 ∷ more → begins_letter b ≡ false
+bracket_no_letter b more e = false_from_ne_true _ (λ l. let whole : b ≡ 91 ∷ more = sym (letter_same b l) ∙ e in letter_91 b more whole l)
+  where
+    letter_91 : (b more : List ℕ) → b ≡ 91 ∷ more → begins_letter b ≡ true → ⊥
+    letter_91 b more whole l = let h : begins_letter (91 ∷ more) ≡ true = rw whole at l in cc
+
+name_letter : (n b : List ℕ) → IsName n → begins_letter (n ++ b) ≡ true
+name_letter [] b h = let e = h.1 in cc
+name_letter (c ∷ cs) b h = (and_parts (is_letter c) (list_all is_letter cs) h.0).0
+
+module _ (limit : ℕ) where
+  -- ---- a node
+
+  state_white : (o : Option Bool) (d : ℕ) → IsWithin limit d → (b : List ℕ) → outcome limit (tree_state o) d b ≡ outcome limit (tree_state o) d (after_space b)
+  state_white None = machine.closed_white limit
+  state_white (Some true) = machine.after_value_white limit
+  state_white (Some false) = machine.in_node_white limit
+
+  values_outcome : (d : ℕ) → IsWithin limit d → (vs : List (List ℕ)) (b r : List ℕ) → AllByRecursion IsValue vs → SpellsParts b (map value vs) r →
+      outcome limit after d b ≡ outcome limit after d r
+  values_outcome d h [] b r i s = machine.after_value_white limit d h b ∙ ap (outcome limit after d) s
+  values_outcome d h (v ∷ vs) b r i s =
+      machine.after_value_white limit d h b
+      ∙ value_passed limit d h (after_space b) v (v ++ (93 ∷ s.0)) s.0 (s.1 ∙ ap (λ xs. 91 ∷ xs) (append_assoc v (93 ∷ []) s.0)) refl i.0
+      ∙ sym (machine.after_value_white limit d h s.0)
+      ∙ values_outcome d h vs s.0 r i.1 s.2
+
+  first_value : (d : ℕ) → IsWithin limit d → (vs : List (List ℕ)) (b r : List ℕ) → vs ≢ [] → SpellsParts b (map value vs) r →
+      outcome limit named d b ≡ outcome limit after d b
+  first_value d h [] b r some s = absurd (some refl)
+  first_value d h (v ∷ vs) b r some s =
+      values_begin limit d h b (after_space b) (bracket_no_letter b ((v ++ (93 ∷ [])) ++ s.0) s.1) refl (rw s.1 refl)
+      ∙ sym (machine.after_value_white limit d h b)
+
+  letter_in_node : (d : ℕ) (o : Bool) (b : List ℕ) → begins_letter b ≡ true → outcome limit (node_state o) d b ≡ outcome limit in_node d b
+  letter_in_node d false b e = refl
+  letter_in_node d true [] e = cc
+  letter_in_node d true (c ∷ cs) e = machine.one_step limit after in_node d c cs (elim (or_cases (is_upper c) (is_lower c) e) [
+    | inl u ↦ machine.outside_upper after d c u ∙ sym (machine.outside_upper in_node d c u)
+    | inr l ↦ machine.outside_lower after d c l ∙ sym (machine.outside_lower in_node d c l)
+  ])
+
+  property_outcome : (d : ℕ) → IsWithin limit d → (o : Bool) (p : Property) (b r : List ℕ) → IsProperty p → SpellsParts b (property_parts p) r →
+      outcome limit (node_state o) d b ≡ outcome limit after d r
+  property_outcome d h o p b r i s =
+      state_white (Some o) d h b ∙ ap (outcome limit (node_state o) d) s.1
+      ∙ letter_in_node d o (p.name ++ s.0) (name_letter p.name s.0 i.named)
+      ∙ machine.name_outcome limit d h p.name s.0 i.named.0 i.named.1
+      ∙ first_value d h p.values s.0 r i.some s.2
+      ∙ values_outcome d h p.values s.0 r i.inside s.2
+
+  properties_outcome : (d : ℕ) → IsWithin limit d → (o : Bool) (ps : List Property) (b r : List ℕ) → AllByRecursion IsProperty ps →
+      SpellsParts b (flat_map property_parts ps) r → (o' : Bool) × (outcome limit (node_state o) d b ≡ outcome limit (node_state o') d r)
+  properties_outcome d h o [] b r i s = (o, state_white (Some o) d h b ∙ ap (outcome limit (node_state o) d) s)
+  properties_outcome d h o (p ∷ ps) b r i s =
+      let split = SpellsParts-split (property_parts p) (flat_map property_parts ps) b r s in
+      let later = properties_outcome d h true ps split.0 r i.1 split.2 in
+      (later.0, property_outcome d h o p b split.0 i.0 split.1 ∙ later.1)
+
+  -- past a `;`
+  semicolon_outcome : (d : ℕ) → IsWithin limit d → (o : Bool) (b more : List ℕ) → after_space b ≡ 59 ∷ more →
+      outcome limit (node_state o) d b ≡ outcome limit in_node d more
+  semicolon_outcome d h true b more e =
+      state_white (Some true) d h b ∙ ap (outcome limit after d) e ∙ machine.goes_on limit after d 59 more in_node d refl h
+  semicolon_outcome d h false b more e =
+      state_white (Some false) d h b ∙ ap (outcome limit in_node d) e ∙ machine.goes_on limit in_node d 59 more in_node d refl h
+
+  later_nodes : (d : ℕ) → IsWithin limit d → (o : Bool) (ns : List (List Property)) (b r : List ℕ) → AllByRecursion (AllByRecursion IsProperty) ns →
+      SpellsParts b (flat_map node_parts ns) r → (o' : Bool) × (outcome limit (node_state o) d b ≡ outcome limit (node_state o') d r)
+  later_nodes d h o [] b r i s = (o, state_white (Some o) d h b ∙ ap (outcome limit (node_state o) d) s)
+  later_nodes d h o (n ∷ ns) b r i s =
+      let split = SpellsParts-split (flat_map property_parts n) (flat_map node_parts ns) s.0 r s.2 in
+      let first = properties_outcome d h false n s.0 split.0 i.0 split.1 in
+      let later = later_nodes d h first.0 ns split.0 r i.1 split.2 in
+      (later.0, semicolon_outcome d h o b s.0 s.1 ∙ first.1 ∙ later.1)
+
+  -- the nodes of a tree, behind its `(`
+  nodes_outcome : (d : ℕ) → IsWithin limit d → (ns : List (List Property)) (b r : List ℕ) → ns ≢ [] → AllByRecursion (AllByRecursion IsProperty) ns →
+      SpellsParts b (flat_map node_parts ns) r → (o' : Bool) × (outcome limit opened d b ≡ outcome limit (node_state o') d r)
+  nodes_outcome d h [] b r some i s = absurd (some refl)
+  nodes_outcome d h (n ∷ ns) b r some i s =
+      let split = SpellsParts-split (flat_map property_parts n) (flat_map node_parts ns) s.0 r s.2 in
+      let first = properties_outcome d h false n s.0 split.0 i.0 split.1 in
+      let later = later_nodes d h first.0 ns split.0 r i.1 split.2 in (
+        later.0,
+        machine.opened_white limit d h b ∙ ap (outcome limit opened d) s.1
+            ∙ machine.goes_on limit opened d 59 s.0 in_node d refl h ∙ first.1 ∙ later.1,
+      )
+
+  -- ---- a tree
+
+  -- past a `(`
+  opening_outcome : (d : ℕ) → IsWithin limit d → d < limit → (o : Option Bool) (b more : List ℕ) → after_space b ≡ 40 ∷ more →
+      outcome limit (tree_state o) d b ≡ outcome limit opened (suc d) more
+  opening_outcome d h less o b more e =
+      state_white o d h b ∙ ap (outcome limit (tree_state o) d) e ∙ opens o
+    where
+      opens : (o : Option Bool) → outcome limit (tree_state o) d (40 ∷ more) ≡ outcome limit opened (suc d) more
+      opens None = machine.goes_on limit closed d 40 more opened (suc d) refl (omega arith, omega arith)
+      opens (Some true) = machine.goes_on limit after d 40 more opened (suc d) refl (omega arith, omega arith)
+      opens (Some false) = machine.goes_on limit in_node d 40 more opened (suc d) refl (omega arith, omega arith)
+
+  -- before a `)` all states of a tree are one
+  closing_same : (d : ℕ) (o : Option Bool) (b more : List ℕ) → b ≡ 41 ∷ more → outcome limit (tree_state o) d b ≡ outcome limit closed d b
+  closing_same d None b more e = refl
+  closing_same d (Some true) b more e = rw e (machine.one_step limit after closed d 41 more refl)
+  closing_same d (Some false) b more e = rw e (machine.one_step limit in_node closed d 41 more refl)
+
+  closing_outcome : (d : ℕ) → IsWithin limit d → (o : Option Bool) (b r : List ℕ) → SpellsParts b (closing ∷ []) r →
+      outcome limit (tree_state o) d b ≡ outcome_after limit d r
+  closing_outcome d h o b r s =
+      state_white o d h b ∙ closing_same d o (after_space b) s.0 s.1 ∙ closes limit d h (after_space b) s.0 s.1
+      ∙ ap (outcome_after limit d) s.2
+
+  -- children, one after another
+  children_outcome : (c : Trees) (d : ℕ) → IsWithin limit d → (o : Option Bool) (b r : List ℕ) → AreTrees c → depth c + d ≤ limit →
+      SpellsParts b (parts c) r → (o' : Option Bool) × (outcome limit (tree_state o) d b ≡ outcome limit (tree_state o') d r)
+  children_outcome none d h o b r i deep s = (o, state_white o d h b ∙ ap (outcome limit (tree_state o) d) s)
+  children_outcome (tree nodes children later) d h o b r i deep s =
+      let within : IsWithin limit (suc d) = (omega arith, omega arith) in
+      let split = SpellsParts-split (flat_map node_parts nodes) (parts children ++ (closing ∷ parts later)) s.0 r s.2 in
+      let rest = SpellsParts-split (parts children) (closing ∷ parts later) split.0 r split.2 in
+      let heads = nodes_outcome (suc d) within nodes s.0 split.0 i.0 i.1 split.1 in
+      let inner = children_outcome children (suc d) within (Some heads.0) split.0 rest.0 i.2 (omega arith) rest.1 in
+      let behind = rest.2 in
+      let closed_is = closing_outcome (suc d) within inner.0 rest.0 (after_space behind.0) (behind.0, behind.1, refl) in
+      let after_is : outcome_after limit (suc d) (after_space behind.0) ≡ outcome limit closed d (after_space behind.0) =
+      let more : suc d ≡ d + 1 = omega arith in
+      ap (λ k. outcome_after limit k (after_space behind.0)) more ∙ out_of_child limit d h.0 (after_space behind.0) in
+      let others = children_outcome later d h None behind.0 r i.3 (omega arith) behind.2 in (
+        others.0,
+        opening_outcome d h (omega arith) o b s.0 s.1 ∙ heads.1 ∙ inner.1 ∙ closed_is ∙ after_is
+            ∙ sym (machine.closed_white limit d h behind.0) ∙ others.1,
+      )
+
+  -- a tree, behind its `(`
+  pub tree_outcome : (d : ℕ) → IsWithin limit d → (nodes : List (List Property)) (children : Trees) (b r : List ℕ) → nodes ≢ [] →
+      AllByRecursion (AllByRecursion IsProperty) nodes → AreTrees children → depth children + d ≤ limit →
+      SpellsParts b (flat_map node_parts nodes ++ (parts children ++ (closing ∷ []))) r → outcome limit opened d b ≡ outcome_after limit d r
+  tree_outcome d h nodes children b r some i fit deep s =
+      let split = SpellsParts-split (flat_map node_parts nodes) (parts children ++ (closing ∷ [])) b r s in
+      let rest = SpellsParts-split (parts children) (closing ∷ []) split.0 r split.2 in
+      let heads = nodes_outcome d h nodes b split.0 some i split.1 in
+      let inner = children_outcome children d h (Some heads.0) split.0 rest.0 fit deep rest.1 in
+      heads.1 ∙ inner.1 ∙ closing_outcome d h inner.0 rest.0 r rest.2

@@ -1,0 +1,223 @@
+-- A fault in a source, and where the reading of it ends.
+use Rattle.std.proofs.Common.{◌≡◌, ◌≢◌, ◌≤◌, ◌<◌, ◌+◌, ◌-◌, ◌==◌, inl, inr, ℕ, zero, suc, List, [], ◌∷◌, ◌++◌, true, false, None, Result, Ok, Err, refl, sym, ap, subst, ◌∙◌, length, take, eqb-true, arith}
+use Rattle.std.proofs.lemmas.Bool.{cases_Bool, and_parts}
+use Rattle.std.specs.List.{flat_map, AllByRecursion}
+use Rattle.go_sgf.specs.Record.{Property, Trees, none, tree, IsProperty, AreTrees, depth}
+use Rattle.go_sgf.specs.Spelling.{Part, opening, closing, begins_with, node_parts, parts, after_space, begins_tree, from_tree, Spells, SpellsParts}
+use Rattle.go_sgf.specs.Stands.{stands, run, opened, IsAtDepth}
+use Rattle.go_sgf.specs.Outcome.{outcome, left_of, place_of, Meets}
+use Rattle.go_sgf.specs.Reads.{ReadsTree}
+use Rattle.go_sgf.specs.Refusals.{StopsAt, EndsAt, StandsNoLonger, StandsTooDeep, IsRefusal}
+use Rattle.go_sgf.specs.View.{chain}
+use Rattle.go_sgf.specs.declared.fault.Fault.{Fault}
+use Rattle.go_sgf.specs.declared.fault.Fault.TheVariants.{Memory, End, Unexpected, TooDeep}
+use Rattle.go_sgf.specs.declared.limits.TheConstants.{MAX_DEPTH}
+use Rattle.go_sgf.proofs.Growing.{Grown, chain-push, depth-push, parts-push}
+use Rattle.go_sgf.proofs.Outcomes.{SpellsParts-split, tree_outcome}
+use Rattle.go_sgf.proofs.Parts.{SpellsParts-append, SpellsParts-same, after_space-again, rest_le}
+use Rattle.go_sgf.proofs.Passing.{push_some}
+use Rattle.go_sgf.proofs.Scanning.{from_tree_here, from_tree_more}
+use Rattle.go_sgf.proofs.Standing.{FaultIs, Why, fault_is}
+
+-- ---- from the first tree on
+
+pub from_tree_begins : (b : List ℕ) → from_tree b ≢ [] → begins_tree (from_tree b) ≡ true
+from_tree_begins [] some = absurd (some refl)
+from_tree_begins (c ∷ cs) some = elim (cases_Bool (begins_tree (c ∷ cs))) [
+  | inl e ↦ rw (from_tree_here c cs e) e
+  | inr e ↦ rw (from_tree_more c cs e) (from_tree_begins cs (λ h. some (from_tree_more c cs e ∙ h)))
+]
+
+pub length-from_tree : (b : List ℕ) → length (from_tree b) ≤ length b
+length-from_tree [] = omega arith
+length-from_tree (c ∷ cs) = elim (cases_Bool (begins_tree (c ∷ cs))) [
+  | inl e ↦ rw (from_tree_here c cs e) (omega arith)
+  | inr e ↦ let h = length-from_tree cs in rw (from_tree_more c cs e) (omega arith)
+]
+
+-- a text that begins a tree begins with no white space
+pub begins_no_space : (b : List ℕ) → begins_tree b ≡ true → after_space b ≡ b
+begins_no_space [] e = refl
+begins_no_space (c ∷ cs) e =
+    let is : c ≡ 40 = eqb-true c 40 (and_parts (c == 40) (begins_with 59 (after_space cs)) e).0 in
+    rw is refl
+
+-- ---- two readings of one text
+
+-- a first tree, and what follows it
+first_tree : (nodes : List (List Property)) (children later : Trees) (b r : List ℕ) → nodes ≢ [] → AllByRecursion (AllByRecursion IsProperty) nodes →
+    AreTrees children → suc (depth children) ≤ MAX_DEPTH →
+    SpellsParts b (flat_map node_parts nodes ++ (parts children ++ (closing ∷ parts later))) r →
+    (behind : List ℕ) × (outcome MAX_DEPTH opened 1 b ≡ Ok behind) × SpellsParts behind (parts later) r
+first_tree nodes children later b r some fit below deep s =
+    let heads = SpellsParts-split (flat_map node_parts nodes) (parts children ++ (closing ∷ parts later)) b r s in
+    let inner = SpellsParts-split (parts children) (closing ∷ parts later) heads.0 r heads.2 in
+    let close = inner.2 in
+    let behind : List ℕ = after_space close.0 in
+    let whole : SpellsParts b (flat_map node_parts nodes ++ (parts children ++ (closing ∷ []))) behind =
+    SpellsParts-append (flat_map node_parts nodes) (parts children ++ (closing ∷ [])) b heads.0 behind heads.1
+    (SpellsParts-append (parts children) (closing ∷ []) heads.0 inner.0 behind inner.1 (close.0, close.1, refl)) in (
+      behind,
+      tree_outcome MAX_DEPTH 1 (omega arith, omega arith) nodes children b behind some fit below (omega arith) whole,
+      SpellsParts-same (parts later) close.0 behind r (sym (after_space-again close.0)) close.2,
+    )
+
+tree_begins : (nodes : List (List Property)) (ps : List Part) (b r : List ℕ) → nodes ≢ [] → SpellsParts b (flat_map node_parts nodes ++ ps) r →
+    begins_tree (40 ∷ b) ≡ true
+tree_begins [] ps b r some s = absurd (some refl)
+tree_begins (n ∷ ns) ps b r some s = rw s.1 refl
+
+-- trees and then a fault, and trees and then no tree, aren't both read from one text
+two_ways : (before c : Trees) (b at rest inside : List ℕ) (f : Fault) → AreTrees before → depth before ≤ MAX_DEPTH → AreTrees c → depth c ≤ MAX_DEPTH →
+    SpellsParts b (parts before) at → SpellsParts b (parts c) rest → begins_tree rest ≡ false → begins_tree at ≡ true → at ≡ 40 ∷ inside →
+    outcome MAX_DEPTH opened 1 inside ≡ Err f → ⊥
+two_ways none none b at rest inside f w n w' n' s s' ended begins is e =
+    let same : begins_tree at ≡ begins_tree rest = ap begins_tree (sym s ∙ s') in
+    let h : true ≡ false = sym begins ∙ same ∙ ended in cc
+two_ways none (tree nodes children later) b at rest inside f w n w' n' s s' ended begins is e =
+    let first = first_tree nodes children later s'.0 rest w'.0 w'.1 w'.2 (omega arith) s'.2 in
+    let same : 40 ∷ inside ≡ 40 ∷ s'.0 = sym is ∙ sym s ∙ s'.1 in
+    let inner : inside ≡ s'.0 = cc in
+    let h : Ok first.0 ≡ Err f = sym first.1 ∙ ap (outcome MAX_DEPTH opened 1) (sym inner) ∙ e in cc
+two_ways (tree nodes children later) none b at rest inside f w n w' n' s s' ended begins is e =
+    let same : 40 ∷ s.0 ≡ rest = sym s.1 ∙ s' in
+    let h : true ≡ false = sym (tree_begins nodes _ s.0 at w.0 s.2) ∙ ap begins_tree same ∙ ended in cc
+two_ways (tree nodes children later) (tree nodes' children' later') b at rest inside f w n w' n' s s' ended begins is e =
+    let first = first_tree nodes children later s.0 at w.0 w.1 w.2 (omega arith) s.2 in
+    let first' = first_tree nodes' children' later' s'.0 rest w'.0 w'.1 w'.2 (omega arith) s'.2 in
+    let same : 40 ∷ s.0 ≡ 40 ∷ s'.0 = sym s.1 ∙ s'.1 in
+    let inner : s.0 ≡ s'.0 = cc in
+    let both : Ok first.0 ≡ Ok first'.0 = sym first.1 ∙ ap (outcome MAX_DEPTH opened 1) inner ∙ first'.1 in
+    let behind : first.0 ≡ first'.0 = cc in
+    let P : List ℕ → Type 0 = λ xs. SpellsParts xs (parts later') rest in
+    two_ways later later' first.0 at rest inside f w.3 (omega arith) w'.3 (omega arith) first.2 (subst P (sym behind) first'.2) ended begins is e
+
+-- ---- a collection read so far
+
+pub record TreesSoFar (source : List ℕ) (ts : List Grown) (rest : List ℕ) : Type 0 where
+  pub some : ts ≡ [] → begins_tree rest ≡ true
+  pub fit : AreTrees (chain ts)
+  pub nesting : depth (chain ts) ≤ MAX_DEPTH
+  pub spelling : SpellsParts (from_tree source) (parts (chain ts)) rest
+
+pub trees_first : (source rest : List ℕ) → rest ≡ from_tree source → rest ≢ [] → TreesSoFar source [] rest
+trees_first source rest e some =
+    let begins : begins_tree (from_tree source) ≡ true = from_tree_begins source (λ h. some (e ∙ h)) in
+    record {
+      some = λ _. rw e begins;
+      fit = tt;
+      nesting = omega arith;
+      spelling = begins_no_space (from_tree source) begins ∙ sym e;
+    }
+
+pub trees_more : (source : List ℕ) (ts ts' : List Grown) (rest inside : List ℕ) (t : Grown) (more : List ℕ) → TreesSoFar source ts rest →
+    ts' ≡ ts ++ t ∷ [] → rest ≡ 40 ∷ inside → ReadsTree 1 inside t more → TreesSoFar source ts' more
+trees_more source ts ts' rest inside t more far e f r =
+    let Q : List Grown → Type 0 = λ xs. TreesSoFar source xs more in
+    let P : List Part → Type 0 = λ ps. SpellsParts (from_tree source) ps more in
+    subst Q (sym e) (record {
+      some = λ empty. absurd (push_some ts t empty);
+      fit = chain-push ts t far.fit r.some r.nodes r.children;
+      nesting = depth-push ts t MAX_DEPTH far.nesting (omega (arith, r.nesting));
+      spelling =
+          let tail : List Part = opening ∷ (flat_map node_parts t.0 ++ (parts t.1 ++ (closing ∷ []))) in
+          subst P (sym (parts-push ts t))
+          (SpellsParts-append (parts (chain ts)) tail (from_tree source) rest more far.spelling (inside, ap after_space f, r.spelling));
+    })
+
+chain_some : (ts : List Grown) → ts ≢ [] → chain ts ≢ none
+chain_some [] some e = some refl
+chain_some (t ∷ ts) some e = cc
+
+pub trees_whole : (source : List ℕ) (ts : List Grown) (rest : List ℕ) → TreesSoFar source ts rest → begins_tree rest ≡ false → Spells source (chain ts)
+trees_whole source ts rest far ended = record {
+  fit = record { some = chain_some ts (λ empty. let h = far.some empty in cc); trees = far.fit; nesting = far.nesting };
+  rest = rest;
+  spelling = far.spelling;
+  ended = ended;
+}
+
+-- ---- a refusal
+
+shallow_text : (inside : List ℕ) (at : ℕ) → ((k : ℕ) → k ≤ at → IsAtDepth (suc MAX_DEPTH) (run opened 1 (take k inside)) → ⊥) →
+    (k : ℕ) → k ≤ suc at → IsAtDepth (suc MAX_DEPTH) (stands (take k (40 ∷ inside))) → ⊥
+shallow_text inside at h zero less deep = deep
+shallow_text inside at h (suc k) less deep = h k (omega arith) deep
+
+no_longer : (inside : List ℕ) (at : ℕ) → ((k : ℕ) → at < k → run opened 1 (take k inside) ≡ None) →
+    (k : ℕ) → suc at < k → stands (take k (40 ∷ inside)) ≡ None
+no_longer inside at h zero less = absurd (omega arith)
+no_longer inside at h (suc k) less = h k (omega arith)
+
+-- why it stops, in a text
+abbrev WhyIn : Fault → List ℕ → ℕ → Type 0
+WhyIn Memory text at = ⊥
+WhyIn End text at = EndsAt text at
+WhyIn (Unexpected n) text at = StandsNoLonger text at
+WhyIn (TooDeep n) text at = StandsTooDeep text at
+
+why_in : (inside : List ℕ) (f : Fault) (at : ℕ) → Why MAX_DEPTH f opened 1 inside at → WhyIn f (40 ∷ inside) (suc at)
+why_in inside Memory at w = w
+why_in inside End at w = ap suc w
+why_in inside (Unexpected n) at w = (omega arith, no_longer inside at w.1)
+why_in inside (TooDeep n) at w =
+    let P : ℕ → Type 0 = λ k. IsAtDepth (suc MAX_DEPTH) (stands (take k (40 ∷ inside))) in
+    let same : suc (at + 1) ≡ suc at + 1 = omega arith in
+    (omega arith, subst P same w.1)
+
+stops_at : (source : List ℕ) (ts : List Grown) (inside : List ℕ) (f : Fault) (place : ℕ) → TreesSoFar source ts (40 ∷ inside) →
+    begins_tree (40 ∷ inside) ≡ true → outcome MAX_DEPTH opened 1 inside ≡ Err f → place + left_of f ≡ length source →
+    StopsAt source place (WhyIn f)
+stops_at source ts inside f place far begins e placed =
+    let i : FaultIs MAX_DEPTH opened 1 inside f = fault_is MAX_DEPTH inside opened 1 f (λ h. cc) (omega arith, omega arith) e in
+    record {
+      spells_none = λ c s.
+          two_ways (chain ts) c (from_tree source) (40 ∷ inside) s.rest inside f far.fit far.nesting s.fit.trees s.fit.nesting
+          far.spelling s.spelling s.ended begins refl e;
+      before = chain ts;
+      whole = far.fit;
+      nesting = far.nesting;
+      text = 40 ∷ inside;
+      spelling = far.spelling;
+      begins = begins;
+      at = suc i.at;
+      placed = let h = i.left in omega arith;
+      unfinished = i.unfinished;
+      shallow = shallow_text inside i.at i.shallow;
+      stops = why_in inside f i.at i.stops;
+    }
+
+-- no more bytes are left at a fault than the source has
+left_in : (source : List ℕ) (ts : List Grown) (rest inside : List ℕ) (f : Fault) → TreesSoFar source ts rest → rest ≡ 40 ∷ inside →
+    outcome MAX_DEPTH opened 1 inside ≡ Err f → left_of f ≤ length source
+left_in source ts rest inside f far is e =
+    let i : FaultIs MAX_DEPTH opened 1 inside f = fault_is MAX_DEPTH inside opened 1 f (λ h. cc) (omega arith, omega arith) e in
+    let h = i.left in
+    let whole : length rest ≤ length (from_tree source) = rest_le (parts (chain ts)) (from_tree source) rest far.spelling in
+    omega (arith, length-from_tree source, ap length is)
+
+module _ {X : Type 0} (later : X → Result (List ℕ) Fault) (source : List ℕ) (ts : List Grown) (rest inside : List ℕ) where
+  pub left_by : (f : Fault) → TreesSoFar source ts rest → rest ≡ 40 ∷ inside → Meets (Err f) (outcome MAX_DEPTH opened 1 inside) later →
+      left_of f ≤ length source
+  left_by Memory far is m = omega arith
+  left_by End far is m = omega arith
+  left_by (Unexpected n) far is m = left_in source ts rest inside (Unexpected n) far is m
+  left_by (TooDeep n) far is m = left_in source ts rest inside (TooDeep n) far is m
+
+  stops_here : (f : Fault) (place : ℕ) → TreesSoFar source ts rest → begins_tree rest ≡ true → rest ≡ 40 ∷ inside →
+      outcome MAX_DEPTH opened 1 inside ≡ Err f → place + left_of f ≡ length source → StopsAt source place (WhyIn f)
+  stops_here f place far begins is e placed =
+      let P : List ℕ → Type 0 = λ xs. TreesSoFar source ts xs in
+      let Q : List ℕ → Type 0 = λ xs. begins_tree xs ≡ true in
+      stops_at source ts inside f place (subst P is far) (subst Q is begins) e placed
+
+  pub refused_by : (f : Fault) → TreesSoFar source ts rest → begins_tree rest ≡ true → rest ≡ 40 ∷ inside →
+      Meets (Err f) (outcome MAX_DEPTH opened 1 inside) later → IsRefusal source (place_of (length source) f)
+  refused_by Memory far begins is m = tt
+  refused_by End far begins is m = (refl, stops_here End (length source) far begins is m (omega arith))
+  refused_by (Unexpected n) far begins is m =
+      let left : n ≤ length source = left_in source ts rest inside (Unexpected n) far is m in
+      stops_here (Unexpected n) (length source - n) far begins is m (omega arith)
+  refused_by (TooDeep n) far begins is m =
+      let left : n ≤ length source = left_in source ts rest inside (TooDeep n) far is m in
+      stops_here (TooDeep n) (length source - n) far begins is m (omega arith)
