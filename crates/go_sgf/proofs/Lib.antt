@@ -7,3 +7,8 @@ pub mod Growing
 pub mod Outcomes
 pub mod Standing
 pub mod Stops
+pub mod Written
+pub mod Canonical
+pub mod Unambiguous
+pub mod Fronts
+pub mod Fronted

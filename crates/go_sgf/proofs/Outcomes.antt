@@ -31,17 +31,17 @@ tree_state None = closed
 tree_state (Some o) = node_state o
 
 -- what begins with a letter
-letter_same : (b : List ℕ) → begins_letter b ≡ true → after_space b ≡ b
+pub letter_same : (b : List ℕ) → begins_letter b ≡ true → after_space b ≡ b
 letter_same [] e = refl
 letter_same (c ∷ cs) e = let other : is_space c ≡ false = grind (arith, nat_tests) in after_space_stop c cs other
 
-bracket_no_letter : (b more : List ℕ) → after_space b ≡ 91 ∷ more → begins_letter b ≡ false
+pub bracket_no_letter : (b more : List ℕ) → after_space b ≡ 91 ∷ more → begins_letter b ≡ false
 bracket_no_letter b more e = false_from_ne_true _ (λ l. let whole : b ≡ 91 ∷ more = sym (letter_same b l) ∙ e in letter_91 b more whole l)
   where
     letter_91 : (b more : List ℕ) → b ≡ 91 ∷ more → begins_letter b ≡ true → ⊥
     letter_91 b more whole l = let h : begins_letter (91 ∷ more) ≡ true = rw whole at l in cc
 
-name_letter : (n b : List ℕ) → IsName n → begins_letter (n ++ b) ≡ true
+pub name_letter : (n b : List ℕ) → IsName n → begins_letter (n ++ b) ≡ true
 name_letter [] b h = let e = h.1 in cc
 name_letter (c ∷ cs) b h = (and_parts (is_letter c) (list_all is_letter cs) h.0).0
 

@@ -173,7 +173,7 @@ module _ (limit : ℕ) where
       })
 
   -- a fault further on
-  run_more : (s : State) (d c : ℕ) (b : List ℕ) (p : Place) → step s d c ≡ Some p → run s d (c ∷ b) ≡ run p.0 p.1 b
+  pub run_more : (s : State) (d c : ℕ) (b : List ℕ) (p : Place) → step s d c ≡ Some p → run s d (c ∷ b) ≡ run p.0 p.1 b
   run_more s d c b p e = rw e refl
 
   why_later : (s : State) (d c : ℕ) (cs : List ℕ) (p : Place) (f : Fault) (at : ℕ) → step s d c ≡ Some p →

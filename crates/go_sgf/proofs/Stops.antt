@@ -62,7 +62,7 @@ first_tree nodes children later b r some fit below deep s =
       SpellsParts-same (parts later) close.0 behind r (sym (after_space-again close.0)) close.2,
     )
 
-tree_begins : (nodes : List (List Property)) (ps : List Part) (b r : List ℕ) → nodes ≢ [] → SpellsParts b (flat_map node_parts nodes ++ ps) r →
+pub tree_begins : (nodes : List (List Property)) (ps : List Part) (b r : List ℕ) → nodes ≢ [] → SpellsParts b (flat_map node_parts nodes ++ ps) r →
     begins_tree (40 ∷ b) ≡ true
 tree_begins [] ps b r some s = absurd (some refl)
 tree_begins (n ∷ ns) ps b r some s = rw s.1 refl

@@ -5,3 +5,6 @@ pub mod Stands
 pub mod Outcome
 pub mod Reads
 pub mod Refusals
+pub mod Texts
+pub mod Laws
+pub mod Cooked

@@ -1,13 +1,19 @@
 //! Records of games in the Smart Game Format: read, written, and the values in them.
 #![tactic(auto)]
 
+mod cooking;
 mod error;
 mod fault;
+pub mod laws;
 mod limits;
 mod reader;
 mod record;
 mod scan;
+mod writer;
 
+pub use cooking::{cook_simple, cook_text, escape};
 pub use error::SgfError;
 pub use limits::{MAX_DEPTH, MAX_RECORD};
+pub use reader::read;
 pub use record::{Collection, Node, Property, Tree};
+pub use writer::write;

@@ -1,0 +1,147 @@
+-- How the pieces that are written make up the canonical text.
+use Rattle.std.proofs.Common.{◌≡◌, ◌<◌, ◌≤◌, ◌+◌, inl, inr, ℕ, List, [], ◌∷◌, ◌++◌, Bool, true, false, refl, sym, ap, ◌∙◌, length, map, take, get_or, append_assoc}
+use Rattle.std.proofs.lemmas.Bool.{cases_Bool, and_parts}
+use Rattle.std.proofs.lemmas.Grind.{flat_map-append}
+use Rattle.std.proofs.lemmas.List.{append-nil, map-append, take_all, take_more}
+use Rattle.std.specs.List.{flat_map, filter, list_all}
+use Rattle.go_sgf.specs.Record.{Property, Trees, is_upper, plain, plain_property}
+use Rattle.go_sgf.specs.Spelling.{Part, opening, closing, value, text, joined, node_parts, property_parts, parts, tree_text, canonical}
+use Rattle.go_sgf.specs.Texts.{value_text, property_text, node_text, text_of}
+use Rattle.go_sgf.specs.View.{chain, node_of, tree_of, tree_step, trees_of}
+use Rattle.go_sgf.specs.declared.record.Node.{Node}
+use Rattle.go_sgf.specs.declared.record.Tree.{Tree}
+use Rattle.go_sgf.specs.declared.record.Tree.TheFolds.{fold_out-Tree}
+use Rattle.go_sgf.specs.declared.record.Tree.TheViews.{out-Tree}
+use Rattle.go_sgf.proofs.Growing.{Grown}
+use Rattle.go_sgf.proofs.Passing.{flat_map-push}
+
+-- ---- loops
+
+-- one more element
+pub next_item : {X : Type 0} (xs : List X) (i : ℕ) (x : X) → i < length xs → x ≡ get_or xs i x → take (i + 1) xs ≡ take i xs ++ x ∷ []
+next_item xs i x less e = take_more xs i x less ∙ ap (λ y. take i xs ++ y ∷ []) (sym e)
+
+-- one more element's text
+pub one_more : {X Y : Type 0} (f : Y → List ℕ) (v : X → Y) (xs : List X) (i : ℕ) (x : X) → take (i + 1) xs ≡ take i xs ++ x ∷ [] →
+    flat_map f (map v (take i xs)) ++ f (v x) ≡ flat_map f (map v (take (i + 1) xs))
+one_more f v xs i x e =
+    sym (ap (λ ys. flat_map f (map v ys)) e ∙ ap (flat_map f) (map-append v (take i xs) (x ∷ [])) ∙ flat_map-push f (map v (take i xs)) (v x))
+
+pub filter-append : {X : Type 0} (p : X → Bool) (xs ys : List X) → filter p (xs ++ ys) ≡ filter p xs ++ filter p ys
+filter-append p [] ys = refl
+filter-append p (x ∷ xs) ys = elim (cases_Bool (p x)) [
+  | inl e ↦ rw e (ap (λ zs. x ∷ zs) (filter-append p xs ys))
+  | inr e ↦ rw e (filter-append p xs ys)
+]
+
+pub filter-all : {X : Type 0} (p : X → Bool) (xs : List X) → list_all p xs ≡ true → filter p xs ≡ xs
+filter-all p [] h = refl
+filter-all p (x ∷ xs) h =
+    let parts = and_parts (p x) (list_all p xs) h in
+    rw parts.0 (ap (λ zs. x ∷ zs) (filter-all p xs parts.1))
+
+-- one more element of a filter, that passes or doesn't
+pub filter_more : (p : ℕ → Bool) (xs : List ℕ) (i x : ℕ) → take (i + 1) xs ≡ take i xs ++ x ∷ [] → p x ≡ true →
+    filter p (take i xs) ++ x ∷ [] ≡ filter p (take (i + 1) xs)
+filter_more p xs i x e h = sym (ap (filter p) e ∙ filter-append p (take i xs) (x ∷ []) ∙ rw h refl)
+
+pub filter_same : (p : ℕ → Bool) (xs : List ℕ) (i x : ℕ) → take (i + 1) xs ≡ take i xs ++ x ∷ [] → p x ≡ false →
+    filter p (take i xs) ≡ filter p (take (i + 1) xs)
+filter_same p xs i x e h =
+    sym (ap (filter p) e ∙ filter-append p (take i xs) (x ∷ []) ∙ rw h (append-nil (filter p (take i xs))))
+
+-- ---- texts
+
+pub joined-append : (ps qs : List Part) → joined (ps ++ qs) ≡ joined ps ++ joined qs
+joined-append ps qs = flat_map-append text ps qs
+
+-- the text of the parts of elements
+pub joined-flat_map : {X : Type 0} (f : X → List Part) (xs : List X) → joined (flat_map f xs) ≡ flat_map (λ x. joined (f x)) xs
+joined-flat_map f [] = refl
+joined-flat_map f (x ∷ xs) = joined-append (f x) (flat_map f xs) ∙ ap (λ ys. joined (f x) ++ ys) (joined-flat_map f xs)
+
+joined-values : (vs : List (List ℕ)) → joined (map value vs) ≡ flat_map value_text vs
+joined-values [] = refl
+joined-values (v ∷ vs) = ap (λ ys. value_text v ++ ys) (joined-values vs)
+
+flat_map-map : {X Y Z : Type 0} (f : Y → List Z) (g : X → Y) (xs : List X) → flat_map f (map g xs) ≡ flat_map (λ x. f (g x)) xs
+flat_map-map f g [] = refl
+flat_map-map f g (x ∷ xs) = ap (λ ys. f (g x) ++ ys) (flat_map-map f g xs)
+
+pub property_text-is : (p : Property) → filter is_upper p.name ++ flat_map value_text p.values ≡ property_text p
+property_text-is p = ap (λ ys. filter is_upper p.name ++ ys) (sym (joined-values p.values))
+
+pub node_text-is : (ps : List Property) → (59 ∷ []) ++ flat_map property_text ps ≡ node_text ps
+node_text-is ps =
+    ap (λ ys. 59 ∷ ys) (sym (ap joined (flat_map-map property_parts plain_property ps) ∙ joined-flat_map (λ p. property_parts (plain_property p)) ps))
+
+joined-nodes : (ns : List (List Property)) → joined (flat_map node_parts (map (map plain_property) ns)) ≡ flat_map node_text ns
+joined-nodes ns =
+    ap joined (flat_map-map node_parts (map plain_property) ns) ∙ joined-flat_map (λ n. node_parts (map plain_property n)) ns
+
+-- a tree's text, and what follows it
+tree_then : (nodes : List (List Property)) (children : Trees) (ps : List Part) →
+    joined (opening ∷ (flat_map node_parts (map (map plain_property) nodes) ++ (parts (plain children) ++ (closing ∷ ps))))
+    ≡ tree_text nodes children ++ joined ps
+tree_then nodes children ps =
+    let front : List Part = flat_map node_parts (map (map plain_property) nodes) in
+    let inner : front ++ (parts (plain children) ++ (closing ∷ ps)) ≡ (front ++ (parts (plain children) ++ (closing ∷ []))) ++ ps =
+    ap (λ qs. front ++ qs) (sym (append_assoc (parts (plain children)) (closing ∷ []) ps))
+    ∙ sym (append_assoc front (parts (plain children) ++ (closing ∷ [])) ps) in
+    ap (λ qs. joined (opening ∷ qs)) inner
+    ∙ joined-append (opening ∷ (front ++ (parts (plain children) ++ (closing ∷ [])))) ps
+
+abbrev grown_text : Grown → List ℕ
+grown_text t = tree_text t.0 t.1
+
+children_text : (ts : List Grown) → joined (parts (plain (chain ts))) ≡ flat_map grown_text ts
+children_text [] = refl
+children_text (t ∷ ts) = tree_then t.0 t.1 (parts (plain (chain ts))) ∙ ap (λ ys. tree_text t.0 t.1 ++ ys) (children_text ts)
+
+-- a tree's text by its nodes and its children
+tree_text-is : {A : Type 0} (nodes : List (List Property)) (ts : List (Tree A)) →
+    (40 ∷ []) ++ (flat_map node_text nodes ++ (flat_map text_of ts ++ (41 ∷ []))) ≡ tree_text nodes (trees_of ts)
+tree_text-is nodes ts =
+    let front : List Part = flat_map node_parts (map (map plain_property) nodes) in
+    let behind : joined (parts (plain (trees_of ts)) ++ (closing ∷ [])) ≡ flat_map text_of ts ++ (41 ∷ []) =
+    joined-append (parts (plain (trees_of ts))) (closing ∷ [])
+    ∙ ap (λ ys. ys ++ (41 ∷ [])) (children_text (map tree_of ts) ∙ flat_map-map grown_text tree_of ts) in
+    let whole : joined (front ++ (parts (plain (trees_of ts)) ++ (closing ∷ []))) ≡ flat_map node_text nodes ++ (flat_map text_of ts ++ (41 ∷ [])) =
+    joined-append front (parts (plain (trees_of ts)) ++ (closing ∷ [])) ∙ ap (λ ys. ys ++ joined (parts (plain (trees_of ts)) ++ (closing ∷ []))) (joined-nodes nodes)
+    ∙ ap (λ ys. flat_map node_text nodes ++ ys) behind in
+    ap (λ ys. 40 ∷ ys) (sym whole)
+
+-- what a tree that is read stands for
+tree_of-out : {A : Type 0} (t : Tree A) → tree_of t ≡ (map node_of (out-Tree A t).nodes.items, trees_of (out-Tree A t).children.items)
+tree_of-out {A} t = fold_out-Tree A Grown tree_step t
+
+-- the text of a tree that is read, after all of its children
+pub text_of-is : {A : Type 0} (t : Tree A) (nodes : List (Node A)) (children : List (Tree A)) (k : ℕ) → nodes ≡ (out-Tree A t).nodes.items →
+    children ≡ (out-Tree A t).children.items → length children ≤ k →
+    (40 ∷ []) ++ (flat_map node_text (map node_of nodes) ++ (flat_map text_of (take k children) ++ (41 ∷ []))) ≡ text_of t
+text_of-is {A} t nodes children k e f h =
+    ap (λ ts. (40 ∷ []) ++ (flat_map node_text (map node_of nodes) ++ (flat_map text_of ts ++ (41 ∷ [])))) (take_all k children h)
+    ∙ tree_text-is (map node_of nodes) children
+    ∙ ap (λ ns. tree_text (map node_of ns) (trees_of children)) e
+    ∙ ap (λ ts. tree_text (map node_of (out-Tree A t).nodes.items) (trees_of ts)) f
+    ∙ ap grown_text (sym (tree_of-out t))
+
+-- one more child's text
+pub text_more : {A : Type 0} (ts : List (Tree A)) (i : ℕ) (t : Tree A) → take (i + 1) ts ≡ take i ts ++ t ∷ [] →
+    flat_map text_of (take i ts) ++ text_of t ≡ flat_map text_of (take (i + 1) ts)
+text_more ts i t e = sym (ap (flat_map text_of) e ∙ flat_map-push text_of (take i ts) t)
+
+-- each tree's text and LF
+canonical-is : (ts : List Grown) → canonical (chain ts) ≡ flat_map (λ t. grown_text t ++ (10 ∷ [])) ts
+canonical-is [] = refl
+canonical-is (t ∷ ts) =
+    ap (λ ys. grown_text t ++ (10 ∷ ys)) (canonical-is ts)
+    ∙ sym (append_assoc (grown_text t) (10 ∷ []) (flat_map (λ u. grown_text u ++ (10 ∷ [])) ts))
+
+-- one more tree's text
+pub canonical_more : {A : Type 0} (ts : List (Tree A)) (i : ℕ) (t : Tree A) → take (i + 1) ts ≡ take i ts ++ t ∷ [] →
+    canonical (trees_of (take i ts)) ++ (text_of t ++ (10 ∷ [])) ≡ canonical (trees_of (take (i + 1) ts))
+canonical_more ts i t e =
+    let f = λ (u : Grown). grown_text u ++ (10 ∷ []) in
+    ap (λ ys. ys ++ (text_of t ++ (10 ∷ []))) (canonical-is (map tree_of (take i ts)))
+    ∙ one_more f tree_of ts i t e ∙ sym (canonical-is (map tree_of (take (i + 1) ts)))

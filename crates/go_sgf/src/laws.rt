@@ -1,0 +1,37 @@
+//! What the words of this crate's contracts mean: laws about definitions, each the contract of a
+//! function that does nothing.
+ghost use Rattle.std.specs.Prelude.{ℕ};
+ghost use Rattle.go_sgf.specs.Cooked.{CookedByFront, CookingUndoesEscaping};
+ghost use Rattle.go_sgf.specs.Laws.{CanonicalSpellsPlain, FrontsStand, OneRecord, SpelledIsFit};
+
+/// The canonical text of a record spells it with plain names, and is their canonical text too.
+pub fn canonical_spells_plain()
+    ensures { CanonicalSpellsPlain }
+{}
+
+/// What a text spells can be spelled: it has a tree, its names and values are as they are to be,
+/// and it isn't nested too deep.
+pub fn spelled_is_fit()
+    ensures { SpelledIsFit }
+{}
+
+/// No text spells two records.
+pub fn one_record()
+    ensures { OneRecord }
+{}
+
+/// Each front of a tree's text stands, of a tree of any depth, and as a whole tree exactly where
+/// it is all of the text.
+pub fn fronts_stand()
+    ensures { FrontsStand }
+{}
+
+/// What a value says, by its front, is what cooking gives, whatever a line break gives.
+pub fn cooked_by_front()
+    ensures { (line_break : ℕ) → CookedByFront line_break }
+{}
+
+/// Cooking an escaped text as Text gives the text, where it has no CR, HT, VT and FF.
+pub fn cooking_undoes_escaping()
+    ensures { CookingUndoesEscaping }
+{}
