@@ -8,3 +8,5 @@ pub mod Refusals
 pub mod Texts
 pub mod Laws
 pub mod Cooked
+pub mod Numbers
+pub mod BoardValues

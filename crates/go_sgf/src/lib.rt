@@ -4,8 +4,11 @@
 mod cooking;
 mod error;
 mod fault;
+mod hundredths;
 pub mod laws;
 mod limits;
+mod numbers;
+mod points;
 mod reader;
 mod record;
 mod scan;
@@ -13,7 +16,10 @@ mod writer;
 
 pub use cooking::{cook_simple, cook_text, escape};
 pub use error::SgfError;
+pub use hundredths::{MOST_HUNDREDTHS, hundredths_of};
 pub use limits::{MAX_DEPTH, MAX_RECORD};
+pub use numbers::{MAX_NUMBER, number_of};
+pub use points::{point_of, points_of};
 pub use reader::read;
 pub use record::{Collection, Node, Property, Tree};
 pub use writer::write;

@@ -1,8 +1,8 @@
-ghost use Rattle.std.specs.Prelude.{◌≡◌, map};
-ghost use Rattle.std.specs.Str.{bytes_eq};
-ghost use Rattle.go_sgf.specs.Record.{plain_property};
+ghost use Rattle.std.specs.Prelude.{◌≡◌, bytes_eq, filter, map};
+ghost use Rattle.go_sgf.specs.Record.{is_upper as is_upper_byte, plain_property};
 ghost use Rattle.go_sgf.specs.View.{collection_of, node_of, property_of, tree_of, trees_of, values_of};
 
+use crate::scan::{is_upper, strip};
 use std::alloc::Allocator;
 
 /// A property: a name and its values, as they stand in the source.
@@ -66,10 +66,33 @@ impl<'a, A: Allocator + Copy> Node<'a, A> {
 }
 
 impl<'a, A: Allocator + Copy> Property<'a, A> {
+    /// Whether this is its name, lower-case letters aside.
+    pub fn is(&self, name: &[u8]) -> bool
+        ensures { result ≡ bytes_eq (plain_property (property_of self.now)).name name.now }
+    {
+        is_plain_name(self.name, name)
+    }
+
     /// The values, in the source's order, without their brackets.
     pub fn values(&self) -> &[&'a [u8]]
         ensures { values_of result.now ≡ (property_of self.now).values }
     {
         self.values.as_slice()
     }
+}
+
+/// Whether the upper-case letters of a property's name are this name.
+fn is_plain_name(letters: &[u8], name: &[u8]) -> bool
+    ensures { result ≡ bytes_eq (filter is_upper_byte letters.now) name.now }
+{
+    let mut rest = name;
+    for letter in letters {
+        if is_upper(*letter) {
+            match strip(rest, *letter) {
+                Some(more) => rest = more,
+                None => return false,
+            }
+        }
+    }
+    rest.is_empty()
 }

@@ -1,0 +1,87 @@
+-- Values that are numbers: a whole number, and a komi in hundredths.
+use Rattle.std.specs.Prelude.{ℕ, ℤ, pos, ◌+◌, ◌-◌, ◌*◌, ◌-ℤ◌, ◌==◌, ◌&&◌, ◌||◌, not, nat_le, Bool, true, false, if◌then◌else◌, List, [], ◌∷◌, ◌++◌, Option, Some, None, codes, drop, fold, length, option_map, position, reverse, take, unwrap_or}
+use Rattle.std.specs.Char.{is_ascii_digit}
+use Rattle.std.specs.List.{list_all}
+use Rattle.go_sgf.specs.Spelling.{after_space}
+use Rattle.go_sgf.specs.declared.numbers.TheConstants.{MAX_NUMBER}
+use Rattle.go_sgf.specs.declared.hundredths.TheConstants.{MOST_HUNDREDTHS}
+
+-- without the white space at the end
+abbrev pub trimmed_end : List ℕ → List ℕ
+trimmed_end v = reverse (after_space (reverse v))
+
+-- without the white space at both ends
+abbrev pub trimmed : List ℕ → List ℕ
+trimmed v = trimmed_end (after_space v)
+
+abbrev pub is_empty : List ℕ → Bool
+is_empty [] = true
+is_empty (c ∷ cs) = false
+
+-- the value of decimal digits
+abbrev pub value_of : List ℕ → ℕ
+value_of digits = fold (λ value c. 10 * value + (c - 48)) 0 digits
+
+-- one or more digits, with a value that is at most MAX_NUMBER
+abbrev pub int_of : List ℕ → Option ℕ
+int_of digits =
+    if (not (is_empty digits) && list_all is_ascii_digit digits) && nat_le (value_of digits) MAX_NUMBER
+    then Some (value_of digits) else None
+
+abbrev pub behind_plus : List ℕ → List ℕ
+behind_plus [] = []
+behind_plus (c ∷ cs) = if c == 43 then cs else c ∷ cs
+
+-- an optional `+` and digits
+abbrev pub number_of : List ℕ → Option ℕ
+number_of v = int_of (behind_plus (trimmed v))
+
+-- a number begins with a minus sign
+abbrev pub has_minus : List ℕ → Bool
+has_minus [] = false
+has_minus (c ∷ cs) = c == 45
+
+-- a number without its sign
+abbrev pub behind_sign : List ℕ → List ℕ
+behind_sign [] = []
+behind_sign (c ∷ cs) = if c == 43 || c == 45 then cs else c ∷ cs
+
+-- where the point stands, or where the number ends
+abbrev pub point_place : List ℕ → ℕ
+point_place number = unwrap_or (position (λ c. c == 46) number) (length number)
+
+-- what stands before the point, and what stands behind it
+abbrev pub whole_part : List ℕ → List ℕ
+whole_part number = take (point_place number) number
+
+abbrev pub decimals_in : List ℕ → List ℕ
+decimals_in number = drop 1 (drop (point_place number) number)
+
+-- digits, at least one in all, and none but 0 behind the second decimal
+abbrev pub is_decimal : List ℕ → List ℕ → Bool
+is_decimal whole decimals =
+    ((list_all is_ascii_digit whole && list_all is_ascii_digit decimals) && (not (is_empty whole) || not (is_empty decimals)))
+    && list_all (λ c. c == 48) (drop 2 decimals)
+
+-- the digits with two decimals
+abbrev pub hundredths_in : List ℕ → List ℕ → ℕ
+hundredths_in whole decimals = value_of (whole ++ take 2 (decimals ++ codes "00"))
+
+abbrev pub size_by : List ℕ → List ℕ → Option ℕ
+size_by whole decimals =
+    if is_decimal whole decimals && nat_le (hundredths_in whole decimals) MOST_HUNDREDTHS
+    then Some (hundredths_in whole decimals) else None
+
+-- the size of a number without a sign, in hundredths
+abbrev pub size_of_number : List ℕ → Option ℕ
+size_of_number number = size_by (whole_part number) (decimals_in number)
+
+abbrev pub with_sign : Bool → ℕ → ℤ
+with_sign minus size = if minus then pos 0 -ℤ pos size else pos size
+
+-- the komi that a word spells, in hundredths: an optional sign, digits, and an optional point among or behind them
+abbrev pub komi_of : List ℕ → Option ℤ
+komi_of word = option_map (with_sign (has_minus word)) (size_of_number (behind_sign word))
+
+abbrev pub hundredths_of : List ℕ → Option ℤ
+hundredths_of v = komi_of (trimmed v)
