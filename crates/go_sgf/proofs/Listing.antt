@@ -3,11 +3,10 @@ use Rattle.std.proofs.Common.{◌≡◌, ◌+◌, ℕ, List, [], ◌∷◌, ◌+
 use Rattle.std.proofs.lemmas.List.{append-nil}
 use Rattle.std.proofs.lemmas.List.FromFn.{map-range_with_len_more}
 use Rattle.std.proofs.lemmas.Bool.{cases_Bool}
-use Rattle.std.proofs.lemmas.List.Elements.{All-push}
+use Rattle.std.proofs.lemmas.List.Elements.{All-push, filter-append}
 use Rattle.std.specs.List.{All, filter, range_with_len}
 use Rattle.go_board.specs.declared.point.Point.{Point}
 use Rattle.go_sgf.specs.BoardValues.{both, Pushed}
-use Rattle.go_sgf.proofs.Written.{filter-append}
 
 -- one more number
 pub filter_range : {X : Type 0} (p : X → Bool) (f : ℕ → X) (old items items' : List X) (k : ℕ) (x : X) →

@@ -18,6 +18,10 @@ from_tree_more c cs e = rw e refl
 pub from_tree_here : (c : ℕ) (cs : List ℕ) → begins_tree (c ∷ cs) ≡ true → from_tree (c ∷ cs) ≡ c ∷ cs
 from_tree_here c cs e = rw e refl
 
+pub ruleset space_steps = (after_space_more, after_space_stop)
+
+pub ruleset tree_steps = (from_tree_more, from_tree_here)
+
 -- the bytes before a place are ordinary where none of them is `]` or `\`
 pub ordinary_before : (xs : List ℕ) (n : ℕ) → ((k : ℕ) → k < n → is_byte2 93 92 (get_or xs k 0) ≡ true → ⊥) →
     list_all is_ordinary (take n xs) ≡ true

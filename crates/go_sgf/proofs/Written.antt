@@ -1,7 +1,8 @@
 -- How the pieces that are written make up the canonical text.
-use Rattle.std.proofs.Common.{◌≡◌, ◌<◌, ◌≤◌, ◌+◌, inl, inr, ℕ, List, [], ◌∷◌, ◌++◌, Bool, true, false, refl, sym, ap, ◌∙◌, length, map, take, get_or, append_assoc}
-use Rattle.std.proofs.lemmas.Bool.{cases_Bool, and_parts}
+use Rattle.std.proofs.Common.{◌≡◌, ◌<◌, ◌≤◌, ◌+◌, ℕ, List, [], ◌∷◌, ◌++◌, Bool, true, false, refl, sym, ap, ◌∙◌, length, map, take, get_or, append_assoc}
+use Rattle.std.proofs.lemmas.Bool.{and_parts}
 use Rattle.std.proofs.lemmas.Grind.{flat_map-append}
+use Rattle.std.proofs.lemmas.List.Elements.{filter-append}
 use Rattle.std.proofs.lemmas.List.{append-nil, map-append, take_all, take_more}
 use Rattle.std.specs.List.{flat_map, filter, list_all}
 use Rattle.go_sgf.specs.Record.{Property, Trees, is_upper, plain, plain_property}
@@ -26,13 +27,6 @@ pub one_more : {X Y : Type 0} (f : Y → List ℕ) (v : X → Y) (xs : List X) (
     flat_map f (map v (take i xs)) ++ f (v x) ≡ flat_map f (map v (take (i + 1) xs))
 one_more f v xs i x e =
     sym (ap (λ ys. flat_map f (map v ys)) e ∙ ap (flat_map f) (map-append v (take i xs) (x ∷ [])) ∙ flat_map-push f (map v (take i xs)) (v x))
-
-pub filter-append : {X : Type 0} (p : X → Bool) (xs ys : List X) → filter p (xs ++ ys) ≡ filter p xs ++ filter p ys
-filter-append p [] ys = refl
-filter-append p (x ∷ xs) ys = elim (cases_Bool (p x)) [
-  | inl e ↦ rw e (ap (λ zs. x ∷ zs) (filter-append p xs ys))
-  | inr e ↦ rw e (filter-append p xs ys)
-]
 
 pub filter-all : {X : Type 0} (p : X → Bool) (xs : List X) → list_all p xs ≡ true → filter p xs ≡ xs
 filter-all p [] h = refl

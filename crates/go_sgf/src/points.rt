@@ -169,7 +169,8 @@ fn push_inside<A: Allocator + Copy>(
     to: Point,
     point: Point,
 ) -> Result<(), AllocError>
-    ensures { OnOk result (listed.new.items ≡ listed.old.items ++ filter (is_in from to) (point ∷ [])) }
+    ensures { OnOk result
+        (listed.new.items ≡ listed.old.items ++ filter (is_in from to) (point ∷ [])) }
 {
     if is_inside(from, to, point) {
         listed.push(point)?;

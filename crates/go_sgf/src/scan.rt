@@ -34,7 +34,7 @@ pub(crate) fn has_upper(bytes: &[u8]) -> bool
 }
 
 /// The bytes behind the white space at the front.
-#[tactic(auto, using(crate::proofs::Scanning::after_space_more, crate::proofs::Scanning::after_space_stop))]
+#[tactic(auto, using(crate::proofs::Scanning::space_steps))]
 pub(crate) fn after_space(bytes: &[u8]) -> &[u8]
     ensures { result.now ≡ without_space bytes.now }
 {
@@ -117,7 +117,7 @@ pub(crate) fn strip_tree(bytes: &[u8]) -> Option<&[u8]>
 }
 
 /// The bytes from the first tree on.
-#[tactic(auto, using(crate::proofs::Scanning::from_tree_more, crate::proofs::Scanning::from_tree_here))]
+#[tactic(auto, using(crate::proofs::Scanning::tree_steps))]
 pub(crate) fn from_tree(bytes: &[u8]) -> &[u8]
     ensures { result.now ≡ tree_in bytes.now }
 {
