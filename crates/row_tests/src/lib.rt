@@ -12,6 +12,8 @@ mod handicaps;
 #[cfg(test)]
 mod lines;
 #[cfg(test)]
+mod records;
+#[cfg(test)]
 mod scripts;
 #[cfg(test)]
 mod watched;

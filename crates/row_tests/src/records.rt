@@ -1,0 +1,299 @@
+ghost use Rattle.std.specs.Prelude.{◌≡◌};
+ghost use Rattle.go_board.specs.Sizes.{lines_of};
+
+use failing::Failing;
+use go_board::{Point, Size, Vertex, WriteFault, read_vertex};
+use go_sgf::{
+    Collection, MAX_RECORD, SgfError, cook_simple, cook_text, escape, hundredths_of, number_of,
+    point_of, points_of, read, write,
+};
+use memory_devices::Writer;
+use std::alloc::{AllocError, Allocator, Global};
+use std::process::Abort;
+use std::test::Fail;
+
+const SAMPLE: &[u8] = b"x(;GM[1] FF[4] ;B[aa](;W[bb])(;W[cc]C[a\\]b]))";
+
+fn nine(rt: &impl Abort) -> Size
+    ensures { lines_of result ≡ 9 }
+{
+    Size::new(9).expect(rt, "a size")
+}
+
+/// Asserts what a source is refused with.
+fn refused(rt: &impl Abort, alloc: Global, source: &[u8], why: SgfError) {
+    assert!(rt; read(alloc, source).err() == Some(why));
+}
+
+/// Asserts what a source is written as, however the writer cuts the text.
+fn tidied(rt: &impl Abort, alloc: Global, source: &[u8], text: &[u8]) {
+    let collection = read(alloc, source).expect(rt, "a record");
+    for most in [1, 3, 4_096] {
+        let mut writer = Writer::new(alloc).in_pieces_of(most);
+        assert!(rt; write(&collection, &mut writer) == Ok(()));
+        assert!(rt; writer.bytes() == text);
+    }
+}
+
+/// So many copies of a piece, and a back.
+fn copies(alloc: Global, piece: &[u8], count: u32, back: &[u8]) -> Result<Vec<u8>, AllocError> {
+    let mut text = Vec::new(alloc);
+    for _ in 0..count {
+        text.extend_from_slice(piece)?;
+    }
+    text.extend_from_slice(back)?;
+    Ok(text)
+}
+
+#[test]
+fn fault_places(rt: HostRuntime) {
+    let alloc = rt.alloc();
+    refused(&rt, alloc, b"()", SgfError::NoTree);
+    refused(&rt, alloc, b"(;B[aa]7)", SgfError::Unexpected(7));
+    refused(&rt, alloc, b"(;ab[cc])", SgfError::Unexpected(4));
+    refused(&rt, alloc, b"(;B)", SgfError::Unexpected(3));
+    refused(&rt, alloc, b"(;A B[x])", SgfError::Unexpected(4));
+    refused(&rt, alloc, b"(;a [x])", SgfError::Unexpected(3));
+    refused(&rt, alloc, b"(;B[aa]())", SgfError::Unexpected(8));
+    refused(
+        &rt,
+        alloc,
+        b"(;B[aa](;W[bb]);W[cc])",
+        SgfError::Unexpected(15),
+    );
+    refused(&rt, alloc, b"(;C[a\\", SgfError::EndInside(6));
+    assert_eq!(rt; SAMPLE.len(), 45);
+    for (length, _) in SAMPLE.iter().enumerate() {
+        let why = if length < 3 {
+            SgfError::NoTree
+        } else {
+            SgfError::EndInside(length)
+        };
+        refused(&rt, alloc, SAMPLE.split_at(length).0, why);
+    }
+}
+
+#[test]
+fn deep_records(rt: HostRuntime) -> Result<(), Fail> {
+    let alloc = rt.alloc();
+    let deep = copies(alloc, b"(;", 1_001, b"")?;
+    refused(&rt, alloc, deep.as_slice(), SgfError::TooDeep(2_000));
+    let open = copies(alloc, b"(;", 1_000, b"")?;
+    refused(&rt, alloc, open.as_slice(), SgfError::EndInside(2_000));
+    let stray = copies(alloc, b"(;", 1_000, b"(x")?;
+    refused(&rt, alloc, stray.as_slice(), SgfError::TooDeep(2_000));
+    let closing = copies(alloc, b")", 1_000, b"")?;
+    let whole = copies(alloc, b"(;", 1_000, closing.as_slice())?;
+    let text = copies(alloc, b"", 0, whole.as_slice())?;
+    let text = copies(alloc, text.as_slice(), 1, b"\n")?;
+    tidied(&rt, alloc, whole.as_slice(), text.as_slice());
+    Ok(())
+}
+
+#[test]
+fn long_records(rt: HostRuntime) -> Result<(), Fail> {
+    let alloc = rt.alloc();
+    let blank = vec![in alloc; b' '; MAX_RECORD + 1]?;
+    refused(&rt, alloc, blank.as_slice(), SgfError::TooLong);
+    refused(
+        &rt,
+        alloc,
+        blank.as_slice().split_at(MAX_RECORD).0,
+        SgfError::NoTree,
+    );
+    let values = copies(alloc, b"[]", 1_000_000, b")")?;
+    let many = copies(alloc, b"(;A", 1, values.as_slice())?;
+    let collection = read(alloc, many.as_slice()).expect(&rt, "a record");
+    let property = collection
+        .trees()
+        .first()
+        .and_then(|tree| tree.nodes().first())
+        .and_then(|node| node.properties().first())
+        .expect(&rt, "a property");
+    assert_eq!(rt; property.values().len(), 1_000_000);
+    Ok(())
+}
+
+#[test]
+fn tidy_a_record(rt: HostRuntime) {
+    let alloc = rt.alloc();
+    let text = b"(;GM[1]FF[4];B[aa](;W[bb])(;W[cc]C[a\\]b]))\n";
+    tidied(&rt, alloc, SAMPLE, text);
+    tidied(&rt, alloc, b"(;B[aa])x(;W[bb])", b"(;B[aa])\n");
+    tidied(&rt, alloc, b"(;B[aa])()", b"(;B[aa])\n");
+    tidied(
+        &rt,
+        alloc,
+        b"(;CoPyright [x] [y])(;)",
+        b"(;CP[x][y])\n(;)\n",
+    );
+    let collection = read(alloc, SAMPLE).expect(&rt, "a record");
+    let mut whole = Writer::new(alloc);
+    assert!(rt; write(&collection, &mut whole) == Ok(()));
+    for put in 1..=whole.put_count() {
+        let mut failing = Writer::new(alloc).failing_at_put(put);
+        assert!(rt; write(&collection, &mut failing) == Err(WriteFault));
+        assert!(rt; failing.bytes() != text.as_slice() && text.starts_with(failing.bytes()));
+        let mut stalling = Writer::new(alloc).stalling_at_put(put);
+        assert!(rt; write(&collection, &mut stalling) == Err(WriteFault));
+    }
+}
+
+#[test]
+fn parts_of_a_record(rt: HostRuntime) {
+    let source = b"(;GaMe[1]SZ[9];B[aa][bb](;W[])(;W[cc]))(;)";
+    let collection = read(rt.alloc(), source).expect(&rt, "a record");
+    assert_eq!(rt; collection.trees().len(), 2);
+    let tree = collection.trees().first().expect(&rt, "a tree");
+    assert!(rt; tree.nodes().len() == 2 && tree.children().len() == 2);
+    let root = tree.nodes().first().expect(&rt, "a node");
+    let game = root.properties().first().expect(&rt, "a property");
+    assert!(rt; game.is(b"GM") && !game.is(b"GaMe") && !game.is(b"G") && !game.is(b"GMM"));
+    assert!(rt; game.values().first().copied() == Some(b"1".as_slice()));
+    let last = tree.nodes().last().expect(&rt, "a node");
+    let moves = last.properties().first().expect(&rt, "a property");
+    assert!(rt; moves.values().len() == 2);
+    assert!(rt; moves.values().last().copied() == Some(b"bb".as_slice()));
+}
+
+/// Asserts what a call made of its bytes.
+fn gives(rt: &impl Abort, made: Result<Vec<u8>, AllocError>, text: &[u8]) {
+    assert!(rt; made.expect(rt, "memory").as_slice() == text);
+}
+
+#[test]
+fn cooked_and_escaped(rt: HostRuntime) {
+    let alloc = rt.alloc();
+    gives(&rt, cook_text(alloc, b"a\\]b\\\nc\td"), b"a]bc d");
+    gives(&rt, cook_text(alloc, b"a\r\nb"), b"a\nb");
+    gives(&rt, cook_simple(alloc, b"a\r\nb"), b"a b");
+    gives(&rt, cook_text(alloc, b"\n\r\r\n\r\r"), b"\n\n\n\n");
+    gives(&rt, cook_simple(alloc, b"a\\\r\nb\\"), b"ab");
+    gives(&rt, escape(alloc, b"a]b\\"), b"a\\]b\\\\");
+}
+
+/// Asserts the points that values list on nine lines, by their words.
+fn lists(rt: &impl Abort, alloc: Global, values: &[&[u8]], words: &[&[u8]]) {
+    let listed = points_of(alloc, values, nine(rt)).expect(rt, "memory");
+    let points = listed.expect(rt, "points");
+    assert_eq!(rt; points.len(), words.len());
+    for (point, word) in points.iter().zip(words) {
+        assert!(rt; read_vertex(word, nine(rt)) == Ok(Vertex::At(*point)));
+    }
+}
+
+#[test]
+fn points_and_lists(rt: HostRuntime) {
+    let alloc = rt.alloc();
+    let size = nine(&rt);
+    assert!(rt; point_of(b"aa", size) == Some(Vertex::At(Point { col: 0, row: 8 })));
+    assert!(rt; point_of(b" cc ", size) == Some(Vertex::At(Point { col: 2, row: 6 })));
+    assert!(rt; point_of(b"", size) == Some(Vertex::Pass));
+    assert!(rt; point_of(b"tt", size) == Some(Vertex::Pass));
+    for word in [b"jj".as_slice(), b"a", b"aaa", b"AA", b"a a", b"ja"] {
+        assert!(rt; point_of(word, size).is_none());
+    }
+    lists(
+        &rt,
+        alloc,
+        &[b"bb:aa".as_slice(), b"aa".as_slice()],
+        &[
+            b"a8".as_slice(),
+            b"b8".as_slice(),
+            b"a9".as_slice(),
+            b"b9".as_slice(),
+            b"a9".as_slice(),
+        ],
+    );
+    lists(
+        &rt,
+        alloc,
+        &[b" aa : ba ".as_slice()],
+        &[b"a9".as_slice(), b"b9".as_slice()],
+    );
+    lists(&rt, alloc, &[b"".as_slice()], &[]);
+    lists(&rt, alloc, &[], &[]);
+    for word in [b"tt".as_slice(), b"aa:", b":aa", b"aa:bb:cc", b"aa:jj"] {
+        let listed = points_of(alloc, &[word], size).expect(&rt, "memory");
+        assert!(rt; listed.is_none());
+    }
+}
+
+#[test]
+fn numbers_and_hundredths(rt: HostRuntime) {
+    assert!(rt; number_of(b"+1") == Some(1));
+    assert!(rt; number_of(b" 007\n") == Some(7));
+    assert!(rt; number_of(b"2147483647") == Some(2_147_483_647));
+    for word in [
+        b"2147483648".as_slice(),
+        b"",
+        b"-1",
+        b"+",
+        b"1 2",
+        b"99999999999999999999",
+    ] {
+        assert!(rt; number_of(word).is_none());
+    }
+    assert!(rt; hundredths_of(b" 6.50 ") == Some(650));
+    assert!(rt; hundredths_of(b"6.") == Some(600));
+    assert!(rt; hundredths_of(b".5") == Some(50));
+    assert!(rt; hundredths_of(b"-0.5") == Some(-50));
+    assert!(rt; hundredths_of(b"+999999999.99") == Some(99_999_999_999));
+    for word in [
+        b"".as_slice(),
+        b"6.505",
+        b"1000000000",
+        b".",
+        b"1e3",
+        b"--1",
+        b"1.2.3",
+    ] {
+        assert!(rt; hundredths_of(word).is_none());
+    }
+}
+
+/// Whether a record is read with this allocator; that it is refused for want of memory, if not.
+fn reads<A: Allocator + Copy>(rt: &impl Abort, alloc: A) -> bool {
+    match read(alloc, SAMPLE) {
+        Ok(_) => true,
+        Err(why) => {
+            assert!(rt; why == SgfError::Memory);
+            false
+        }
+    }
+}
+
+#[test]
+fn read_always_memory(rt: HostRuntime) {
+    assert!(rt; reads(&rt, rt.alloc()));
+}
+
+/// How many requests a call makes, each of which it is refused with.
+fn each_refused(rt: &impl Abort, alloc: Global, call: u8) -> u64 {
+    for number in 1..100u64 {
+        let failing = Failing::new(alloc, number);
+        let done = match call {
+            0 => reads(rt, &failing),
+            1 => cook_text(&failing, b"a\\]b").is_ok(),
+            2 => cook_simple(&failing, b"a\nb").is_ok(),
+            3 => escape(&failing, b"]]]]").is_ok(),
+            _ => points_of(&failing, &[b"aa:ii".as_slice()], nine(rt)).is_ok(),
+        };
+        assert!(rt; done == failing.waits(), "request {number} of call {call}");
+        if done {
+            return number - 1;
+        }
+    }
+    0
+}
+
+#[test]
+fn each_request_for_memory_refused(rt: HostRuntime) {
+    for call in 0..5u8 {
+        let requests = each_refused(&rt, rt.alloc(), call);
+        assert!(rt;
+            requests > 0 && requests < 50,
+            "{requests} requests of call {call}"
+        );
+    }
+}
