@@ -22,7 +22,7 @@ use Rattle.goref.specs.Starts.{begun}
 use Rattle.goref.specs.Handicaps.{with_stones}
 use Rattle.goref.specs.Legal.{is_legal, is_open}
 use Rattle.goref_lines.specs.Words.{int_of, colour_of}
-use Rattle.goref_lines.specs.Komis.{komi_of}
+use Rattle.go_sgf.specs.Numbers.{hundredths_of}
 use Rattle.goref_lines.specs.Requests.{Asked}
 use Rattle.goref.specs.Contents.{Content}
 use Rattle.goref.specs.Commands.{command_of}
@@ -115,7 +115,7 @@ decided_on s command.ListCommands arguments content = keeps s (Tells Commands)
 decided_on s command.Quit arguments content = keeps s Ends
 decided_on s command.Boardsize arguments content = decided_size s (option_and_then int_of (slice_get arguments 0))
 decided_on s command.ClearBoard arguments content = comes_to (begun s.lines s.komi)
-decided_on s command.Komi arguments content = decided_komi s (option_and_then komi_of (slice_get arguments 0))
+decided_on s command.Komi arguments content = decided_komi s (option_and_then hundredths_of (slice_get arguments 0))
 decided_on s command.Play arguments content = decided_play s (option_and_then colour_of (slice_get arguments 0)) (option_and_then vertex_of (slice_get arguments 1))
 decided_on s command.Undo arguments content = decided_undo s s.moves
 decided_on s command.FixedHandicap arguments content = decided_fixed s (option_and_then int_of (slice_get arguments 0))

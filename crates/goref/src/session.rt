@@ -4,7 +4,7 @@ ghost use Rattle.go_board.specs.Vertices.{vertex_of, vertex_on};
 ghost use Rattle.go_board.specs.Sizes.{lines_of};
 ghost use Rattle.go_board.specs.declared.size.TheConstants.{MAX_LINES};
 ghost use Rattle.go_game.specs.Standings.{IsKomi, Standing};
-ghost use Rattle.goref_lines.specs.Komis.{komi_of};
+ghost use Rattle.go_sgf.specs.Numbers.{hundredths_of as komi_of};
 ghost use Rattle.goref.specs.Starts.{begun};
 ghost use Rattle.goref_lines.specs.Words.{int_of, colour_of};
 ghost use Rattle.goref.specs.Contents.{content_of};
@@ -23,7 +23,8 @@ use crate::flow::Flow;
 use crate::shelf::Fetched;
 use go_board::{Colour, Move, Point, Sink, Size, Vertex, VertexError, WriteFault, read_vertex};
 use go_game::{Game, PlayError, SetupError, fixed_points, greatest_handicap, stones_on};
-use goref_lines::{Line, Request, id_of_cut, read_colour, read_int, read_komi};
+use go_sgf::hundredths_of;
+use goref_lines::{Line, Request, id_of_cut, read_colour, read_int};
 use std::alloc::Allocator;
 use std::marker::Model;
 
@@ -330,7 +331,7 @@ fn komi_argument(request: &Request, place: u16) -> Option<i64>
     ensures bound { IfSome result IsKomi }
 {
     match request.argument(place) {
-        Some(word) => read_komi(word),
+        Some(word) => hundredths_of(word),
         None => None,
     }
 }

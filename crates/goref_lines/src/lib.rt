@@ -1,12 +1,10 @@
 //! The lines of the Go Text Protocol: what is kept of a line, its words and what they ask for.
 #![tactic(auto)]
 
-mod komi;
 mod line;
 mod request;
 mod words;
 
-pub use komi::read_komi;
 pub use line::{LINE_LIMIT, Line};
 pub use request::{Request, id_of_cut};
 pub use words::{read_colour, read_int};
