@@ -2,3 +2,4 @@ pub mod Splits
 pub mod Joins
 pub mod Pushes
 pub mod Requests
+pub mod FirstWords

@@ -1,10 +1,12 @@
 //! The lines of the Go Text Protocol: what is kept of a line, its words and what they ask for.
 #![tactic(auto)]
 
+mod cursor;
 mod line;
 mod request;
 mod words;
 
+pub use cursor::Words;
 pub use line::{LINE_LIMIT, Line};
 pub use request::{Request, id_of_cut};
 pub use words::{read_colour, read_int};

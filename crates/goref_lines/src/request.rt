@@ -2,6 +2,7 @@ ghost use Rattle.std.specs.Prelude.{◌≡◌, ◌<◌, IfSome, length, option_c
 ghost use Rattle.goref_lines.specs.Kept.{is_space, words};
 ghost use Rattle.goref_lines.specs.Requests.{Asked, asked_by, asked_with, words_before_name as words_before, id_of_cut as id_before_space};
 
+use crate::cursor::Words;
 use crate::words::{read_int, word};
 use std::marker::Model;
 
@@ -54,6 +55,18 @@ impl<'a> Request<'a> {
             self.text,
             words_before_name(self.id) + 1 + usize::from(place),
         )
+    }
+
+    /// All the arguments.
+    pub fn arguments(&self) -> Words<'a>
+        ensures { result ≡ self.now.arguments }
+    {
+        let mut words = Words::of(self.text);
+        if self.id.is_some() {
+            words.skip_word();
+        }
+        words.skip_word();
+        words
     }
 }
 

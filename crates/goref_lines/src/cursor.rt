@@ -1,0 +1,66 @@
+ghost use Rattle.std.specs.Prelude.{◌≡◌, ◌≤◌, ◌∷◌, [], IfNone, IfSome, drop, length, not};
+ghost use Rattle.std.specs.List.{prefix_len};
+ghost use Rattle.goref_lines.specs.Kept.{is_space, words};
+
+use std::marker::Model;
+
+/// The words of a text that are still to come.
+#[derive(Drop)]
+pub struct Words<'a> {
+    text: &'a [u8],
+}
+
+impl<'a> Model for Words<'a> {
+    ghost use Rattle.std.specs.Prelude.{ℕ, List};
+    ghost use Rattle.goref_lines.specs.Kept.{words};
+
+    ghost Value = { List (List ℕ) };
+
+    ghost view = { λ w. words w.text.now };
+}
+
+impl<'a> Words<'a> {
+    /// All the words of a text.
+    pub(crate) fn of(text: &'a [u8]) -> Words<'a>
+        ensures { result ≡ words text.entry.now }
+    {
+        Words { text }
+    }
+
+    /// Takes the next word, or gives none where no word is left.
+    pub fn next_word(&mut self) -> Option<&'a [u8]>
+        ensures none { IfNone result ((self.old ≡ []) × (self.new ≡ [])) }
+        ensures some { IfSome result (λ w. self.old ≡ w.now ∷ self.new) }
+    {
+        let (_, text) = self.text.split_at(count_spaces(self.text));
+        let (word, rest) = text.split_at(word_len(text));
+        self.text = rest;
+        if word.is_empty() {
+            return None;
+        }
+        Some(word)
+    }
+
+    /// Leaves out the next word.
+    pub(crate) fn skip_word(&mut self)
+        ensures { self.new ≡ drop 1 self.old }
+    {
+        self.next_word();
+    }
+}
+
+/// How many spaces a text begins with.
+fn count_spaces(text: &[u8]) -> usize
+    ensures value { result ≡ prefix_len is_space text.now }
+    ensures bound { result ≤ length text.now }
+{
+    text.iter().take_while(|byte| **byte == b' ').count()
+}
+
+/// How many bytes stand before the first space of a text.
+fn word_len(text: &[u8]) -> usize
+    ensures value { result ≡ prefix_len (λ b. not (is_space b)) text.now }
+    ensures bound { result ≤ length text.now }
+{
+    text.iter().take_while(|byte| **byte != b' ').count()
+}
