@@ -8,3 +8,4 @@ pub mod Moves
 pub mod Listing
 pub mod Earlier
 pub mod Starting
+pub mod Gathering

@@ -13,3 +13,5 @@ pub mod Replies
 pub mod Conversation
 pub mod Progress
 pub mod Runs
+pub mod Stones
+pub mod Gathered

@@ -11,6 +11,7 @@ pub mod laws;
 mod runs;
 mod session;
 mod shelf;
+mod stones;
 
 pub use flow::{Flow, RunError};
 pub use goref_lines::{LINE_LIMIT, Line};
