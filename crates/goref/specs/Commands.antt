@@ -2,7 +2,7 @@
 use Rattle.std.specs.Prelude.{ℕ, List, [], ◌∷◌, Option, codes, find, map}
 use Rattle.std.specs.Str.{bytes_eq}
 use Rattle.goref.specs.declared.command.Command.{Command}
-use Rattle.goref.specs.declared.command.Command.TheVariants.{ProtocolVersion, Name, Version, KnownCommand, ListCommands, Quit, Boardsize, ClearBoard, Komi, Play, Undo, FixedHandicap, PlaceFreeHandicap, FinalScore, Showboard, TimeSettings, TimeLeft, Chains}
+use Rattle.goref.specs.declared.command.Command.TheVariants.{ProtocolVersion, Name, Version, KnownCommand, ListCommands, Quit, Boardsize, ClearBoard, Komi, Play, Undo, FixedHandicap, PlaceFreeHandicap, SetFreeHandicap, FinalScore, Showboard, TimeSettings, TimeLeft, Chains}
 
 -- the name by which a line asks for a command
 abbrev pub name_of : Command → List ℕ
@@ -19,6 +19,7 @@ name_of Play = codes "play"
 name_of Undo = codes "undo"
 name_of FixedHandicap = codes "fixed_handicap"
 name_of PlaceFreeHandicap = codes "place_free_handicap"
+name_of SetFreeHandicap = codes "set_free_handicap"
 name_of FinalScore = codes "final_score"
 name_of Showboard = codes "showboard"
 name_of TimeSettings = codes "time_settings"
@@ -27,7 +28,7 @@ name_of Chains = codes "goref-chains"
 
 -- all commands, in the order in which they are listed
 abbrev pub commands : List Command
-commands = ProtocolVersion ∷ Name ∷ Version ∷ KnownCommand ∷ ListCommands ∷ Quit ∷ Boardsize ∷ ClearBoard ∷ Komi ∷ Play ∷ Undo ∷ FixedHandicap ∷ PlaceFreeHandicap
+commands = ProtocolVersion ∷ Name ∷ Version ∷ KnownCommand ∷ ListCommands ∷ Quit ∷ Boardsize ∷ ClearBoard ∷ Komi ∷ Play ∷ Undo ∷ FixedHandicap ∷ PlaceFreeHandicap ∷ SetFreeHandicap
     ∷ FinalScore ∷ Showboard ∷ TimeSettings ∷ TimeLeft ∷ Chains ∷ []
 
 abbrev pub command_names : List (List ℕ)

@@ -1,5 +1,5 @@
 -- What is decided on a line: what the answer tells, and what stands then.
-use Rattle.std.specs.Prelude.{◌≡◌, ℕ, ℤ, ◌&&◌, ◌⊎◌, nat_le, Bool, true, false, is_some, min, if◌then◌else◌, List, [], ◌∷◌, Option, Some, None, slice_get}
+use Rattle.std.specs.Prelude.{◌≡◌, ℕ, ℤ, ◌&&◌, ◌⊎◌, nat_le, Bool, true, false, is_some, min, if◌then◌else◌, List, [], ◌∷◌, Option, Some, None, Result, Ok, Err, slice_get}
 use Rattle.std.specs.Option.{option_and_then}
 use Rattle.go_board.specs.declared.size.TheConstants.{MAX_LINES}
 use Rattle.goref.specs.declared.command.Command.{Command}
@@ -10,7 +10,7 @@ use Rattle.goref.specs.declared.decision.Fact.TheVariants.{Protocol, Program, Re
 use Rattle.go_game.specs.declared.errors.PlayError.{PlayError}
 use Rattle.go_game.specs.declared.errors.PlayError.TheVariants.{OffBoard, Occupied, Repeats, Memory}
 use Rattle.goref.specs.declared.decision.Refusal.{Refusal}
-use Rattle.goref.specs.declared.decision.Refusal.TheVariants.{UnknownCommand, SyntaxError, UnacceptableSize, IllegalMove, CannotUndo, BoardNotEmpty, InvalidNumber, OutOfMemory}
+use Rattle.goref.specs.declared.decision.Refusal.TheVariants.{UnknownCommand, SyntaxError, UnacceptableSize, IllegalMove, CannotUndo, BoardNotEmpty, InvalidNumber, BadVertexList, OutOfMemory}
 use Rattle.go_board.specs.declared.colour.Colour.{Colour}
 use Rattle.go_board.specs.declared.vertex.Move.{Move}
 use Rattle.go_board.specs.declared.vertex.Vertex.{Vertex}
@@ -20,6 +20,9 @@ use Rattle.go_game.specs.Handicaps.{fixed, greatest}
 use Rattle.go_game.specs.Standings.{Standing, is_vacant, with_move, without_last}
 use Rattle.goref.specs.Starts.{begun}
 use Rattle.goref.specs.Handicaps.{with_stones}
+use Rattle.goref.specs.Stones.{stones_listed}
+use Rattle.goref.specs.declared.stones.ListError.{ListError}
+use Rattle.goref.specs.declared.stones.ListError.TheVariants.{Malformed, Bad}
 use Rattle.goref.specs.Legal.{is_legal, is_open}
 use Rattle.goref_lines.specs.Words.{int_of, colour_of}
 use Rattle.go_sgf.specs.Numbers.{hundredths_of}
@@ -96,6 +99,12 @@ abbrev pub decided_free : Standing → Option ℕ → Decided
 decided_free s None = keeps s (Refused SyntaxError)
 decided_free s (Some number) = decided_handicap s (min number (greatest s.lines))
 
+-- `set_free_handicap`: black stones on the points that are listed
+abbrev pub decided_stones : Standing → Result (List Point) ListError → Decided
+decided_stones s (Err Malformed) = keeps s (Refused SyntaxError)
+decided_stones s (Err Bad) = keeps s (Refused (if is_vacant s then BadVertexList else BoardNotEmpty))
+decided_stones s (Ok points) = if is_vacant s then comes_to (with_stones s points) else keeps s (Refused BoardNotEmpty)
+
 -- `time_settings` and `time_left`: nothing is done with the times
 abbrev pub decided_settings : Standing → Option ℕ → Option ℕ → Option ℕ → Decided
 decided_settings s (Some main) (Some byo_yomi) (Some stones) = comes_to s
@@ -120,6 +129,7 @@ decided_on s command.Play arguments content = decided_play s (option_and_then co
 decided_on s command.Undo arguments content = decided_undo s s.moves
 decided_on s command.FixedHandicap arguments content = decided_fixed s (option_and_then int_of (slice_get arguments 0))
 decided_on s command.PlaceFreeHandicap arguments content = decided_free s (option_and_then int_of (slice_get arguments 0))
+decided_on s command.SetFreeHandicap arguments content = decided_stones s (stones_listed s.lines arguments)
 decided_on s command.TimeSettings arguments content =
     decided_settings s (option_and_then int_of (slice_get arguments 0)) (option_and_then int_of (slice_get arguments 1)) (option_and_then int_of (slice_get arguments 2))
 decided_on s command.TimeLeft arguments content =
@@ -156,6 +166,7 @@ abbrev pub LacksMemoryOn : Standing → Command → List (List ℕ) → Content 
 LacksMemoryOn s command.Play arguments content = LacksMemoryAt s (option_and_then colour_of (slice_get arguments 0)) (option_and_then vertex_of (slice_get arguments 1))
 LacksMemoryOn s command.FixedHandicap arguments content = LacksMemoryFor (decided_fixed s (option_and_then int_of (slice_get arguments 0)))
 LacksMemoryOn s command.PlaceFreeHandicap arguments content = LacksMemoryFor (decided_free s (option_and_then int_of (slice_get arguments 0)))
+LacksMemoryOn s command.SetFreeHandicap arguments content = LacksMemoryFor (decided_stones s (stones_listed s.lines arguments))
 LacksMemoryOn s _ arguments content = ⊥
 
 abbrev pub LacksMemoryIf : Standing → Option Command → List (List ℕ) → Content → Type 0

@@ -202,6 +202,7 @@ fn refusal_word(why: Refusal) -> &'static [u8]
         Refusal::CannotUndo => b"cannot undo",
         Refusal::BoardNotEmpty => b"board not empty",
         Refusal::InvalidNumber => b"invalid number of stones",
+        Refusal::BadVertexList => b"bad vertex list",
         Refusal::OutOfMemory => b"out of memory",
     }
 }

@@ -18,6 +18,7 @@ pub enum Command {
     Undo,
     FixedHandicap,
     PlaceFreeHandicap,
+    SetFreeHandicap,
     FinalScore,
     Showboard,
     TimeSettings,
@@ -27,7 +28,7 @@ pub enum Command {
 
 /// The names of all commands, each on a line of its own.
 const LISTING: &[u8] =
-    b"protocol_version\nname\nversion\nknown_command\nlist_commands\nquit\nboardsize\nclear_board\nkomi\nplay\nundo\nfixed_handicap\nplace_free_handicap\nfinal_score\nshowboard\ntime_settings\ntime_left\ngoref-chains";
+    b"protocol_version\nname\nversion\nknown_command\nlist_commands\nquit\nboardsize\nclear_board\nkomi\nplay\nundo\nfixed_handicap\nplace_free_handicap\nset_free_handicap\nfinal_score\nshowboard\ntime_settings\ntime_left\ngoref-chains";
 
 /// The command of this name.
 pub fn command_named(name: &[u8]) -> Option<Command>
@@ -71,6 +72,9 @@ pub fn command_named(name: &[u8]) -> Option<Command>
     }
     if name == b"place_free_handicap".as_slice() {
         return Some(Command::PlaceFreeHandicap);
+    }
+    if name == b"set_free_handicap".as_slice() {
+        return Some(Command::SetFreeHandicap);
     }
     if name == b"final_score".as_slice() {
         return Some(Command::FinalScore);

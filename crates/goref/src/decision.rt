@@ -45,5 +45,6 @@ pub enum Refusal {
     CannotUndo,
     BoardNotEmpty,
     InvalidNumber,
+    BadVertexList,
     OutOfMemory,
 }

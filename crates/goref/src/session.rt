@@ -1,9 +1,9 @@
-ghost use Rattle.std.specs.Prelude.{◌≡◌, ◌<◌, ◌*◌, ◌&&◌, All, IfErr, OnErr, OnOk, if◌then◌else◌, length, nat_le, option_map, slice_get, pos, IfSome, Some, None};
+ghost use Rattle.std.specs.Prelude.{◌≡◌, ◌<◌, ◌*◌, ◌&&◌, All, IfErr, OnErr, OnOk, if◌then◌else◌, length, nat_le, option_map, slice_get, pos, IfSome, Some, None, Ok};
 ghost use Rattle.std.specs.Option.{option_and_then};
 ghost use Rattle.go_board.specs.Vertices.{vertex_of, vertex_on};
 ghost use Rattle.go_board.specs.Sizes.{lines_of};
 ghost use Rattle.go_board.specs.declared.size.TheConstants.{MAX_LINES};
-ghost use Rattle.go_game.specs.Standings.{IsKomi, Standing};
+ghost use Rattle.go_game.specs.Standings.{IsKomi, Standing, is_vacant};
 ghost use Rattle.go_sgf.specs.Numbers.{hundredths_of as komi_of};
 ghost use Rattle.goref.specs.Starts.{begun};
 ghost use Rattle.goref_lines.specs.Words.{int_of, colour_of};
@@ -12,8 +12,9 @@ ghost use Rattle.goref.specs.Commands.{command_of};
 ghost use Rattle.go_board.specs.Device.{failures_after};
 ghost use Rattle.goref.specs.Answers.{DecidesLine, is_end, line_id};
 ghost use Rattle.goref.specs.Replies.{Answered, flow_of};
-ghost use Rattle.goref.specs.Decisions.{Decides, DecidesPlay, MayDecide, decided_fixed, decided_free, decided_handicap, decided_komi, decided_known, decided_left, decided_settings, decided_size, decided_undo, move_refusal};
+ghost use Rattle.goref.specs.Decisions.{Decides, DecidesPlay, MayDecide, decided_fixed, decided_free, decided_handicap, decided_komi, decided_known, decided_left, decided_settings, decided_size, decided_stones, decided_undo, move_refusal};
 ghost use Rattle.goref.specs.Handicaps.{with_stones};
+ghost use Rattle.goref.specs.Stones.{stones_listed};
 ghost use Rattle.go_board.specs.Points.{IsOn};
 
 use crate::answer::write_answer;
@@ -21,6 +22,7 @@ use crate::command::{Command, command_named};
 use crate::decision::{Decision, Fact, Refusal};
 use crate::flow::Flow;
 use crate::shelf::Fetched;
+use crate::stones::{ListError, read_stones};
 use go_board::{Colour, Move, Point, Sink, Size, Vertex, VertexError, WriteFault, read_vertex};
 use go_game::{Game, PlayError, SetupError, fixed_points, greatest_handicap, stones_on};
 use go_sgf::hundredths_of;
@@ -113,6 +115,7 @@ impl<A: Allocator + Copy> Session<A> {
             Some(Command::Undo) => self.decide_undo(),
             Some(Command::FixedHandicap) => self.decide_fixed(request),
             Some(Command::PlaceFreeHandicap) => self.decide_free(request),
+            Some(Command::SetFreeHandicap) => self.decide_stones(request),
             Some(Command::TimeSettings) => decide_settings(request),
             Some(Command::TimeLeft) => decide_left(request),
             Some(Command::FinalScore) => Decision::Tells(Fact::Score),
@@ -231,6 +234,46 @@ impl<A: Allocator + Copy> Session<A> {
                 Ok(()) => Decision::Tells(Fact::Places(number)),
                 Err(_) => Decision::Refused(Refusal::OutOfMemory),
             },
+        }
+    }
+
+    fn decide_stones(&mut self, request: &Request) -> Decision
+        ensures { MayDecide self.old
+            (decided_stones self.old (stones_listed self.old.lines request.now.arguments))
+            (record { decision = result; standing = self.new }) }
+    {
+        match read_stones(request.arguments(), self.game.size()) {
+            Err(ListError::Malformed) => Decision::Refused(Refusal::SyntaxError),
+            Err(ListError::Bad) => self.decide_bad_list(),
+            Ok(points) => self.decide_points(points.as_slice()),
+        }
+    }
+
+    fn decide_bad_list(&self) -> Decision
+        ensures { result
+            ≡ Decision.Refused (if is_vacant self.now then Refusal.BadVertexList else Refusal.BoardNotEmpty) }
+    {
+        if self.game.is_vacant() {
+            Decision::Refused(Refusal::BadVertexList)
+        } else {
+            Decision::Refused(Refusal::BoardNotEmpty)
+        }
+    }
+
+    /// Begins anew with stones on these points, if nothing stands.
+    fn decide_points(&mut self, points: &[Point]) -> Decision
+        requires on { All (IsOn self.old.lines) points.now }
+        requires few { length points.now < self.old.lines * self.old.lines }
+        ensures { MayDecide self.old (decided_stones self.old (Ok points.now))
+            (record { decision = result; standing = self.new }) }
+    {
+        if self.game.is_vacant() {
+            match self.begin_with(points) {
+                Ok(()) => Decision::Done,
+                Err(_) => Decision::Refused(Refusal::OutOfMemory),
+            }
+        } else {
+            Decision::Refused(Refusal::BoardNotEmpty)
         }
     }
 

@@ -59,12 +59,41 @@ fn the_start_of_a_handicap(rt: HostRuntime) {
 }
 
 #[test]
+fn free_handicap(rt: HostRuntime) {
+    says(
+        &rt,
+        rt.alloc(),
+        b"boardsize 9\nset_free_handicap a1 a1\nset_free_handicap a1\nset_free_handicap a1 pass\n\
+        set_free_handicap a1 t19\nset_free_handicap a1 5b\nset_free_handicap a1 b2\nshowboard\n",
+        b"=\n\n? bad vertex list\n\n? bad vertex list\n\n? bad vertex list\n\n? bad vertex list\n\n\
+        ? syntax error\n\n=\n\n\
+        = size 9 komi 0 prisoners B 0 W 0 moves 0 next W\n \
+        9 . . . . . . . . .\n 8 . . . . . . . . .\n 7 . . . . . . . . .\n \
+        6 . . . . . . . . .\n 5 . . . . . . . . .\n 4 . . . . . . . . .\n \
+        3 . . . . . . . . .\n 2 . X . . . . . . .\n 1 X . . . . . . . .\n   A B C D E F G H J\n\n",
+    );
+}
+
+#[test]
+fn a_free_handicap_leaves_a_point(rt: HostRuntime) {
+    says(
+        &rt,
+        rt.alloc(),
+        b"boardsize 2\nset_free_handicap a1 b1 a2 b2\nset_free_handicap a1 a1 x\n\
+        set_free_handicap B2 a1 A2\ngoref-chains\nundo\n",
+        b"=\n\n? bad vertex list\n\n? syntax error\n\n=\n\n= B A1 A2 B2 : B1\n\n? cannot undo\n\n",
+    );
+}
+
+#[test]
 fn refusals_in_order(rt: HostRuntime) {
     says(
         &rt,
         rt.alloc(),
-        b"play b a1\nfixed_handicap 99\nfixed_handicap x\nplace_free_handicap 1\nplace_free_handicap\n",
-        b"=\n\n? board not empty\n\n? syntax error\n\n? board not empty\n\n? syntax error\n\n",
+        b"play b a1\nfixed_handicap 99\nfixed_handicap x\nset_free_handicap\nset_free_handicap a2\n\
+        place_free_handicap 1\nplace_free_handicap\n",
+        b"=\n\n? board not empty\n\n? syntax error\n\n? syntax error\n\n? board not empty\n\n\
+        ? board not empty\n\n? syntax error\n\n",
     );
 }
 
