@@ -109,6 +109,29 @@ fn lines_as_sent(rt: HostRuntime) {
 }
 
 #[test]
+fn long_lines(rt: HostRuntime) -> Result<(), Fail> {
+    let mut script = Vec::new(rt.alloc());
+    for (front, letters) in [
+        (b"play ".as_slice(), 4_092u32),
+        (b"play ".as_slice(), 4_091),
+        (b"9 play ".as_slice(), 4_090),
+    ] {
+        script.extend_from_slice(front)?;
+        for _ in 0..letters {
+            script.push(b'a')?;
+        }
+        script.push(b'\n')?;
+    }
+    says(
+        &rt,
+        rt.alloc(),
+        script.as_slice(),
+        b"? line too long\n\n? syntax error\n\n?9 line too long\n\n",
+    );
+    Ok(())
+}
+
+#[test]
 fn sizes_and_vertices(rt: HostRuntime) {
     says(
         &rt,
