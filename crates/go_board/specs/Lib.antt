@@ -11,3 +11,4 @@ pub mod Vertices
 pub mod Number
 pub mod Device
 pub mod Writing
+pub mod Reading

@@ -3,7 +3,7 @@
 
 ghost use Rattle.std.specs.Prelude.{◌≡◌};
 ghost use Rattle.clap.specs.Values.{kind_of};
-ghost use Rattle.goref_program.specs.Status.{run_status, words_status};
+ghost use Rattle.goref_program.specs.Status.{run_status, tool_status, words_status};
 
 mod files;
 
@@ -11,13 +11,14 @@ use files::NoFiles;
 use go_board::Size;
 use goref::{RunError, run};
 use goref_streams::{Input, Output};
+use goref_tools::{ToolError, tidy_run};
 use goref_words::{Task, task_of};
 use std::process::ExitCode;
 
 /// The exit status where the words are refused.
 const REFUSED: u8 = 2;
 
-/// The exit status where a task meets a fault of its streams.
+/// The exit status where a run meets a fault of its streams.
 const FAULT: u8 = 3;
 
 fn main(rt: HostRuntime) -> ExitCode {
@@ -55,6 +56,7 @@ fn unreadable(rt: &HostRuntime) -> u8
 fn obeyed(rt: &HostRuntime, words: &Vec<&str>) -> u8 {
     match task_of(rt.alloc(), words.as_slice()) {
         Ok(Task::Gtp(size)) => ended(rt, gtp(rt, size)),
+        Ok(Task::Tidy) => done(rt, tidy(rt)),
         Err(error) => told(rt, &error),
     }
 }
@@ -72,6 +74,26 @@ fn gtp(rt: &HostRuntime, size: Size) -> Result<(), RunError> {
     let mut input = Input::new(rt.stdin());
     let mut output = Output::new(rt.stdout());
     run(rt.alloc(), size, &mut input, &mut output, &mut NoFiles)
+}
+
+/// Writes the record on the standard input in its canonical spelling.
+fn tidy(rt: &HostRuntime) -> Result<(), ToolError> {
+    let mut input = Input::new(rt.stdin());
+    let mut output = Output::new(rt.stdout());
+    tidy_run(rt.alloc(), &mut input, &mut output)
+}
+
+/// Tells why a tool didn't do its task.
+fn done(rt: &HostRuntime, outcome: Result<(), ToolError>) -> u8
+    ensures { result ≡ tool_status outcome }
+{
+    match outcome {
+        Ok(()) => 0,
+        Err(fault) => {
+            let _ = eprintln!(rt; "goref: {fault}");
+            fault.status()
+        }
+    }
 }
 
 /// Tells of the fault that a run met.

@@ -16,10 +16,12 @@ use go_board::{MAX_LINES, Size};
 use std::alloc::{AllocError, Global};
 
 /// What the program is to do.
-#[derive(Clone, Copy)]
+#[derive(Clone, Copy, Debug, PartialEq, Eq)]
 pub enum Task {
     /// Answer the commands of the Go Text Protocol, on a board that has this size at first.
     Gtp(Size),
+    /// Write a record in its canonical spelling.
+    Tidy,
 }
 
 /// The task that the program's words name, the program's own name first.
@@ -46,10 +48,14 @@ fn program_command<'a>(alloc: Global) -> Result<Command<'a>, AllocError>
         .about("Answers the commands of the Go Text Protocol, version 2")
         .after_help("Example: goref gtp --size 9")
         .arg(size_argument(alloc))?;
+    let tidy = Command::new(alloc, "tidy")
+        .about("Reads a record in SGF, and writes it in its one canonical spelling")
+        .after_help("Example: goref tidy < game.sgf");
     Command::new(alloc, "goref")
         .about("A Go engine and referee for the Tromp-Taylor rules")
         .subcommand_required(true)
-        .subcommand(gtp)
+        .subcommand(gtp)?
+        .subcommand(tidy)
 }
 
 /// The option `--size`.
@@ -74,6 +80,7 @@ fn asked<'a>(matches: &ArgMatches<'a>) -> Option<Task>
 {
     match matches.subcommand() {
         Some(("gtp", inner)) => Some(Task::Gtp(size_of(inner)?)),
+        Some(("tidy", _)) => Some(Task::Tidy),
         _ => None,
     }
 }

@@ -1,15 +1,21 @@
 use crate::{Task, task_of};
 use clap::error::ErrorKind;
-use go_board::MAX_LINES;
+use go_board::{MAX_LINES, Size};
 use std::alloc::Global;
+use std::process::Abort;
 use std::test::Fail;
 
-/// The lines of the board that the words ask for, or the kind of their refusal.
-fn lines_asked<'a>(alloc: Global, words: &'a [&'a str]) -> Result<u8, ErrorKind> {
+/// The task that the words ask for, or the kind of their refusal.
+fn asked<'a>(alloc: Global, words: &'a [&'a str]) -> Result<Task, ErrorKind> {
     match task_of(alloc, words) {
-        Ok(Task::Gtp(size)) => Ok(size.lines()),
+        Ok(task) => Ok(task),
         Err(error) => Err(error.kind()),
     }
+}
+
+/// To answer commands on a board of so many lines.
+fn gtp(rt: &impl Abort, lines: u8) -> Task {
+    Task::Gtp(Size::new(lines).expect(rt, "a size"))
 }
 
 /// The text that the words are refused with.
@@ -23,10 +29,11 @@ fn refusal<'a>(alloc: Global, words: &'a [&'a str]) -> Result<String, Fail> {
 #[test]
 fn program_words(rt: HostRuntime) {
     let alloc = rt.alloc();
-    assert!(rt; lines_asked(alloc, &["goref", "gtp"]) == Ok(19));
-    assert!(rt; lines_asked(alloc, &["goref", "gtp", "--size", "9"]) == Ok(9));
-    assert!(rt; lines_asked(alloc, &["goref", "gtp", "--size=1"]) == Ok(1));
-    assert!(rt; lines_asked(alloc, &["goref", "gtp", "--size", "19"]) == Ok(19));
+    assert!(rt; asked(alloc, &["goref", "gtp"]) == Ok(gtp(&rt, 19)));
+    assert!(rt; asked(alloc, &["goref", "gtp", "--size", "9"]) == Ok(gtp(&rt, 9)));
+    assert!(rt; asked(alloc, &["goref", "gtp", "--size=1"]) == Ok(gtp(&rt, 1)));
+    assert!(rt; asked(alloc, &["goref", "gtp", "--size", "19"]) == Ok(gtp(&rt, 19)));
+    assert!(rt; asked(alloc, &["goref", "tidy"]) == Ok(Task::Tidy));
 }
 
 #[test]
@@ -34,23 +41,39 @@ fn refused_words(rt: HostRuntime) {
     let alloc = rt.alloc();
     let invalid = Err(ErrorKind::ValueValidation);
     let unknown = Err(ErrorKind::InvalidSubcommand);
-    assert!(rt; lines_asked(alloc, &["goref", "gtp", "--size", "0"]) == invalid);
-    assert!(rt; lines_asked(alloc, &["goref", "gtp", "--size", "20"]) == invalid);
-    assert!(rt; lines_asked(alloc, &["goref", "gtp", "--size", "nine"]) == invalid);
-    assert!(rt; lines_asked(alloc, &["goref", "gtp", "--size"]) == Err(ErrorKind::InvalidValue));
-    assert!(rt; lines_asked(alloc, &["goref", "gtp", "9"]) == Err(ErrorKind::UnknownArgument));
-    assert!(rt; lines_asked(alloc, &["goref", "judge"]) == unknown);
-    assert!(rt; lines_asked(alloc, &["goref", "tidy"]) == unknown);
-    assert!(rt; lines_asked(alloc, &["goref", "GTP"]) == unknown);
-    assert!(rt; lines_asked(alloc, &["goref"]) == Err(ErrorKind::MissingSubcommand));
-    assert!(rt; lines_asked(alloc, &[]) == Err(ErrorKind::MissingSubcommand));
+    assert!(rt; asked(alloc, &["goref", "gtp", "--size", "0"]) == invalid);
+    assert!(rt; asked(alloc, &["goref", "gtp", "--size", "20"]) == invalid);
+    assert!(rt; asked(alloc, &["goref", "gtp", "--size", "nine"]) == invalid);
+    assert!(rt; asked(alloc, &["goref", "gtp", "--size"]) == Err(ErrorKind::InvalidValue));
+    assert!(rt; asked(alloc, &["goref", "gtp", "9"]) == Err(ErrorKind::UnknownArgument));
+    assert!(rt; asked(alloc, &["goref", "judge"]) == unknown);
+    assert!(rt; asked(alloc, &["goref", "GTP"]) == unknown);
+    assert!(rt; asked(alloc, &["goref", "tidy", "--size", "9"]) == Err(ErrorKind::UnknownArgument));
+    assert!(rt; asked(alloc, &["goref", "tidy", "game.sgf"]) == Err(ErrorKind::UnknownArgument));
+    assert!(rt; asked(alloc, &["goref"]) == Err(ErrorKind::MissingSubcommand));
+    assert!(rt; asked(alloc, &[]) == Err(ErrorKind::MissingSubcommand));
 }
 
 #[test]
 fn help(rt: HostRuntime) -> Result<(), Fail> {
     let alloc = rt.alloc();
-    assert!(rt; lines_asked(alloc, &["goref", "--help"]) == Err(ErrorKind::DisplayHelp));
-    assert!(rt; lines_asked(alloc, &["goref", "help"]) == Err(ErrorKind::DisplayHelp));
+    assert!(rt; asked(alloc, &["goref", "--help"]) == Err(ErrorKind::DisplayHelp));
+    assert!(rt; asked(alloc, &["goref", "help"]) == Err(ErrorKind::DisplayHelp));
+    let words = refusal(alloc, &["goref", "--help"])?;
+    assert!(rt;
+        words
+            .as_str()
+            .contains("Answers the commands of the Go Text Protocol"),
+        "{words}"
+    );
+    assert!(rt;
+        words
+            .as_str()
+            .contains("writes it in its one canonical spelling"),
+        "{words}"
+    );
+    let tidy = refusal(alloc, &["goref", "tidy", "--help"])?;
+    assert!(rt; tidy.as_str().contains("goref tidy < game.sgf"), "{tidy}");
     let text = refusal(alloc, &["goref", "gtp", "--help"])?;
     let range = format!(in alloc; "from 1 to {MAX_LINES}")?;
     assert!(rt; text.as_str().contains(range.as_str()), "{text}");

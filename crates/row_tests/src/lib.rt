@@ -16,4 +16,6 @@ mod records;
 #[cfg(test)]
 mod scripts;
 #[cfg(test)]
+mod tidying;
+#[cfg(test)]
 mod watched;

@@ -1,0 +1,45 @@
+-- What a tool reads of its input, and how it ends.
+use Rattle.std.specs.Prelude.{◌≡◌, ◌≢◌, ◌≤◌, ◌+◌, ℕ, List, [], Option, IfSome, Result, Err, length}
+use Rattle.go_board.specs.Device.{after_bytes}
+use Rattle.go_sgf.specs.Refusals.{IsRefusal}
+use Rattle.go_sgf.specs.declared.error.SgfError.{SgfError}
+use Rattle.go_sgf.specs.declared.error.SgfError.TheVariants.{Memory}
+use Rattle.go_sgf.specs.declared.limits.TheConstants.{MAX_RECORD}
+use Rattle.goref_tools.specs.declared.error.ToolError.{ToolError}
+use Rattle.goref_tools.specs.declared.error.ToolError.TheVariants.{Sgf, Read, Write, Memory as NoMemory}
+
+-- the device gave at most one byte more than the largest record has
+pub record Reads (left left' : Option (List ℕ)) : Type 0 where
+  pub bytes : List ℕ
+  pub few : length bytes ≤ MAX_RECORD + 1
+  pub given : left ≡ after_bytes bytes left'
+
+-- these bytes were read: all up to the end of the input, or one more than the largest record has
+pub record IsInput (bytes : List ℕ) (left left' : Option (List ℕ)) : Type 0 where
+  pub few : length bytes ≤ MAX_RECORD + 1
+  pub given : left ≡ after_bytes bytes left'
+  pub ended : length bytes ≤ MAX_RECORD → IfSome left' (λ xs. xs ≡ [])
+
+-- the whole input is refused for this, which isn't want of memory
+abbrev pub Refuses : Option (List ℕ) → SgfError → Type 0
+Refuses left why = (why ≢ Memory) × IfSome left (λ input. IsRefusal input why)
+
+-- a refusal of the record; want of memory is one of the tool itself
+abbrev pub of_record : SgfError → ToolError
+of_record Memory = NoMemory
+of_record why = Sgf why
+
+-- the exit status: 1 for a refused record, 3 for a fault
+abbrev pub status_of : ToolError → ℕ
+status_of (Sgf _) = 1
+status_of _ = 3
+
+-- the count of failed reads after a tool's run: one more where it ended by one
+abbrev pub read_failures_after : {T : Type 0} → Result T ToolError → ℕ → ℕ
+read_failures_after (Err Read) old = old + 1
+read_failures_after _ old = old
+
+-- the count of failed writes and flushes after a tool's run: one more where it ended by one
+abbrev pub write_failures_after : {T : Type 0} → Result T ToolError → ℕ → ℕ
+write_failures_after (Err Write) old = old + 1
+write_failures_after _ old = old

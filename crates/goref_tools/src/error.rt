@@ -1,0 +1,55 @@
+ghost use Rattle.std.specs.Prelude.{◌≡◌};
+ghost use Rattle.goref_tools.specs.Tools.{of_record, status_of};
+ghost use Rattle.goref_tools.specs.declared.error.ToolError.TheVariants.{Memory};
+
+use go_sgf::SgfError;
+use std::alloc::AllocError;
+use thiserror::Error;
+
+/// Why a tool didn't do its task.
+#[derive(Clone, Copy, Debug, PartialEq, Eq, Error)]
+pub enum ToolError {
+    /// The input is no record. Want of memory in reading it is [`ToolError::Memory`].
+    #[error("{0}")]
+    Sgf(SgfError),
+    /// A read failed.
+    #[error("read fault")]
+    Read,
+    /// A write or a flush failed, or a write took no byte.
+    #[error("write fault")]
+    Write,
+    /// There was no memory for the record.
+    #[error("out of memory")]
+    Memory,
+}
+
+impl ToolError {
+    /// The exit status that tells of it: 1 where the record is refused, 3 for any other fault.
+    pub fn status(&self) -> u8
+        ensures { result ≡ status_of self.now }
+    {
+        match self {
+            ToolError::Sgf(_) => 1,
+            ToolError::Read | ToolError::Write | ToolError::Memory => 3,
+        }
+    }
+}
+
+impl From<AllocError> for ToolError {
+    ghost from_gives = { λ _ error. error ≡ Memory };
+
+    fn from(_: AllocError) -> ToolError {
+        ToolError::Memory
+    }
+}
+
+impl From<SgfError> for ToolError {
+    ghost from_gives = { λ why error. error ≡ of_record why };
+
+    fn from(why: SgfError) -> ToolError {
+        match why {
+            SgfError::Memory => ToolError::Memory,
+            other => ToolError::Sgf(other),
+        }
+    }
+}

@@ -1,0 +1,62 @@
+ghost use Rattle.std.specs.Prelude.{◌≡◌, ◌≢◌, ◌≤◌, ◌+◌, IfErr, IfSome, IsErrOf, OnOk};
+ghost use Rattle.go_sgf.specs.declared.error.SgfError.{SgfError};
+ghost use Rattle.go_sgf.specs.declared.limits.TheConstants.{MAX_RECORD};
+ghost use Rattle.goref_tools.specs.Tidying.{BeginsToTidy, Tidies};
+ghost use Rattle.goref_tools.specs.Tools.{Reads, Refuses, read_failures_after};
+ghost use Rattle.goref_tools.specs.Tools.{write_failures_after};
+ghost use Rattle.goref_tools.specs.declared.error.ToolError.TheVariants.{Sgf, Write};
+
+use crate::error::ToolError;
+use crate::input::input;
+use go_board::{Failed, Sink, Source, WriteFault};
+use go_sgf::{read, write};
+use std::alloc::Allocator;
+
+/// Reads a record up to the end of the input, and writes its canonical spelling. Of an input that
+/// is too long for a record it reads one byte more than a record may have. Nothing is written
+/// before the whole record was read, and the writer is flushed once, behind the last byte.
+///
+/// # Errors
+///
+/// `Read` and `Write` where a device failed; `Sgf` where the input is no record; `Memory` where
+/// there was none for the record. Only with `Write` was anything written.
+pub fn tidy_run<A: Allocator + Copy, R: Source, W: Sink>(
+    alloc: A,
+    reader: &mut R,
+    writer: &mut W,
+) -> Result<(), ToolError>
+    ensures ok { OnOk result (IfSome (R.left reader.old)
+        (λ input. Tidies input (W.taken writer.old) (W.taken writer.new))) }
+    ensures refused { (why : SgfError) → IsErrOf result (Sgf why)
+        → Refuses (R.left reader.old) why }
+    ensures write { IsErrOf result Write → IfSome (R.left reader.old)
+        (λ input. BeginsToTidy input (W.taken writer.old) (W.taken writer.new)) }
+    ensures nothing_written { IfErr result
+        (λ error. error ≢ Write → W.taken writer.new ≡ W.taken writer.old) }
+    ensures reads { Reads (R.left reader.old) (R.left reader.new) }
+    ensures pulls { R.pulls reader.new ≤ R.pulls reader.old + MAX_RECORD + 2 }
+    ensures read_failures { R.failures reader.new ≡ read_failures_after result
+        (R.failures reader.old) }
+    ensures write_failures { W.failures writer.new ≡ write_failures_after result
+        (W.failures writer.old) }
+{
+    let source = input(alloc, reader)?;
+    let collection = read(alloc, source.as_slice())?;
+    match write(&collection, writer) {
+        Ok(()) => passed_on(writer),
+        Err(WriteFault) => Err(ToolError::Write),
+    }
+}
+
+/// Flushes the writer.
+fn passed_on<W: Sink>(writer: &mut W) -> Result<(), ToolError>
+    ensures bytes { W.taken writer.new ≡ W.taken writer.old }
+    ensures error { IfErr result (λ error. error ≡ Write) }
+    ensures failures { W.failures writer.new ≡ write_failures_after result
+        (W.failures writer.old) }
+{
+    match writer.flush() {
+        Ok(()) => Ok(()),
+        Err(Failed) => Err(ToolError::Write),
+    }
+}

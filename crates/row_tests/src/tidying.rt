@@ -1,0 +1,184 @@
+use failing::Failing;
+use go_sgf::{MAX_RECORD, SgfError};
+use goref_tools::{ToolError, tidy_run};
+use memory_devices::{Reader, Writer};
+use std::alloc::{AllocError, Allocator, Global};
+use std::process::Abort;
+use std::test::Fail;
+
+const SAMPLE: &[u8] = b"x(;GM[1] FF[4] ;B[aa](;W[bb])(;W[cc]C[a\\]b]))";
+
+const TIDY: &[u8] = b"(;GM[1]FF[4];B[aa](;W[bb])(;W[cc]C[a\\]b]))\n";
+
+/// Asserts what a record is written as, however it is read and written, with one flush.
+fn tidied(rt: &impl Abort, alloc: Global, source: &[u8], text: &[u8]) {
+    for (most, least) in [(1, 4_096), (2, 1), (7, 3), (4_096, 7)] {
+        let mut reader = Reader::new(source).in_pieces_of(most);
+        let mut writer = Writer::new(alloc).in_pieces_of(least);
+        assert!(rt; tidy_run(alloc, &mut reader, &mut writer) == Ok(()));
+        assert!(rt; writer.bytes() == text);
+        assert!(rt; writer.flush_count() == 1);
+    }
+}
+
+/// Asserts what a source is refused with, and that nothing is written of it.
+fn refused(rt: &impl Abort, alloc: Global, source: &[u8], why: SgfError) {
+    let mut reader = Reader::new(source);
+    let mut writer = Writer::new(alloc);
+    assert!(rt; tidy_run(alloc, &mut reader, &mut writer) == Err(ToolError::Sgf(why)));
+    assert!(rt; writer.put_count() == 0 && writer.flush_count() == 0);
+}
+
+#[test]
+fn tidy_a_record(rt: HostRuntime) {
+    let alloc = rt.alloc();
+    assert!(rt; SAMPLE.len() == 45);
+    tidied(&rt, alloc, SAMPLE, TIDY);
+    tidied(&rt, alloc, TIDY, TIDY);
+    tidied(&rt, alloc, b"(;B[aa])x(;W[bb])", b"(;B[aa])\n");
+    tidied(
+        &rt,
+        alloc,
+        b"(;CoPyright [x] [y])(;)",
+        b"(;CP[x][y])\n(;)\n",
+    );
+    refused(&rt, alloc, SAMPLE.split_at(44).0, SgfError::EndInside(44));
+    refused(&rt, alloc, b"", SgfError::NoTree);
+    refused(&rt, alloc, b"(;B[aa]7)", SgfError::Unexpected(7));
+}
+
+/// A tree behind so many spaces.
+fn tree_behind(alloc: Global, spaces: usize) -> Result<Vec<u8>, AllocError> {
+    let mut text = vec![in alloc; b' '; spaces]?;
+    text.extend_from_slice(b"(;)")?;
+    Ok(text)
+}
+
+#[test]
+fn records_at_the_limit(rt: HostRuntime) -> Result<(), Fail> {
+    let alloc = rt.alloc();
+    let longest = tree_behind(alloc, MAX_RECORD - 3)?;
+    let mut writer = Writer::new(alloc);
+    assert!(rt; tidy_run(alloc, &mut Reader::new(longest.as_slice()), &mut writer) == Ok(()));
+    assert!(rt; writer.bytes() == b"(;)\n".as_slice());
+    let longer = tree_behind(alloc, MAX_RECORD - 2)?;
+    refused(&rt, alloc, longer.as_slice(), SgfError::TooLong);
+    let longest_by_far = tree_behind(alloc, MAX_RECORD + 8_192)?;
+    let mut reader = Reader::new(longest_by_far.as_slice()).in_pieces_of(4_096);
+    let result = tidy_run(alloc, &mut reader, &mut Writer::new(alloc));
+    assert!(rt; result == Err(ToolError::Sgf(SgfError::TooLong)));
+    assert!(rt; reader.pull_count() == 4_097);
+    Ok(())
+}
+
+#[test]
+fn failing_devices(rt: HostRuntime) {
+    let alloc = rt.alloc();
+    for pull in 1..=46u64 {
+        let mut reader = Reader::new(SAMPLE).in_pieces_of(1).failing_at(pull);
+        let mut writer = Writer::new(alloc);
+        assert!(rt; tidy_run(alloc, &mut reader, &mut writer) == Err(ToolError::Read));
+        assert!(rt; writer.put_count() == 0);
+    }
+    for put in 1..=TIDY.len() as u64 {
+        let mut failing = Writer::new(alloc).in_pieces_of(1).failing_at_put(put);
+        let result = tidy_run(alloc, &mut Reader::new(SAMPLE), &mut failing);
+        assert!(rt; result == Err(ToolError::Write));
+        assert!(rt; TIDY.starts_with(failing.bytes()) && failing.bytes().len() as u64 == put - 1);
+        let mut stalling = Writer::new(alloc).in_pieces_of(1).stalling_at_put(put);
+        let result = tidy_run(alloc, &mut Reader::new(SAMPLE), &mut stalling);
+        assert!(rt; result == Err(ToolError::Write));
+        assert!(rt; stalling.bytes().len() as u64 == put - 1);
+    }
+    let mut writer = Writer::new(alloc).failing_at_flush(1);
+    let result = tidy_run(alloc, &mut Reader::new(SAMPLE), &mut writer);
+    assert!(rt; result == Err(ToolError::Write));
+    assert!(rt; writer.bytes() == TIDY);
+}
+
+/// Whether a record is tidied with this allocator; that memory was wanted and nothing was written,
+/// if not.
+fn tidies<A: Allocator + Copy>(rt: &impl Abort, alloc: A, ample: Global) -> bool {
+    let mut writer = Writer::new(ample);
+    let result = tidy_run(alloc, &mut Reader::new(SAMPLE), &mut writer);
+    if result.is_ok() {
+        assert!(rt; writer.bytes() == TIDY);
+    } else {
+        assert!(rt; result == Err(ToolError::Memory));
+        assert!(rt; writer.put_count() == 0);
+    }
+    result.is_ok()
+}
+
+#[test]
+fn each_request_for_memory_refused(rt: HostRuntime) {
+    let alloc = rt.alloc();
+    let mut requests = 0;
+    for number in 1..100u64 {
+        let failing = Failing::new(alloc, number);
+        let done = tidies(&rt, &failing, alloc);
+        assert!(rt; done == failing.waits(), "request {number}");
+        if done {
+            requests = number - 1;
+            break;
+        }
+    }
+    assert!(rt; requests > 5 && requests < 50, "{requests} requests");
+}
+
+/// Asserts the text of a fault, and its exit status.
+fn told(
+    rt: &impl Abort,
+    alloc: Global,
+    fault: ToolError,
+    text: &str,
+    status: u8,
+) -> Result<(), Fail> {
+    let words = format!(in alloc; "{fault}")?;
+    assert!(rt; words.as_str() == text, "{words}");
+    assert!(rt; fault.status() == status);
+    Ok(())
+}
+
+#[test]
+fn texts_and_statuses(rt: HostRuntime) -> Result<(), Fail> {
+    let alloc = rt.alloc();
+    told(
+        &rt,
+        alloc,
+        ToolError::Sgf(SgfError::NoTree),
+        "no game tree",
+        1,
+    )?;
+    told(
+        &rt,
+        alloc,
+        ToolError::Sgf(SgfError::EndInside(44)),
+        "record ends inside a tree at byte 44",
+        1,
+    )?;
+    told(
+        &rt,
+        alloc,
+        ToolError::Sgf(SgfError::Unexpected(7)),
+        "unexpected byte at 7",
+        1,
+    )?;
+    told(
+        &rt,
+        alloc,
+        ToolError::Sgf(SgfError::TooDeep(2_000)),
+        "too deep at byte 2000",
+        1,
+    )?;
+    told(
+        &rt,
+        alloc,
+        ToolError::Sgf(SgfError::TooLong),
+        "record too long",
+        1,
+    )?;
+    told(&rt, alloc, ToolError::Read, "read fault", 3)?;
+    told(&rt, alloc, ToolError::Write, "write fault", 3)?;
+    told(&rt, alloc, ToolError::Memory, "out of memory", 3)
+}
