@@ -5,7 +5,4 @@ pub mod Progressing
 pub mod Running
 pub mod Legal
 pub mod Moves
-pub mod Listing
-pub mod Earlier
 pub mod Starting
-pub mod Gathering

@@ -14,10 +14,10 @@ use Rattle.goref_lines.specs.Kept.{Kept, has_bytes, words}
 use Rattle.goref_lines.specs.Requests.{asked_by, id_of_cut}
 use Rattle.goref.specs.Contents.{Content}
 use Rattle.goref.specs.Commands.{command_names}
-use Rattle.goref.specs.Results.{result_text}
-use Rattle.goref.specs.Diagrams.{diagram}
-use Rattle.goref.specs.ChainLines.{chain_lines}
-use Rattle.goref.specs.Handicaps.{places_text}
+use Rattle.goref_results.specs.Results.{result_text}
+use Rattle.goref_results.specs.Diagrams.{diagram}
+use Rattle.goref_results.specs.ChainLines.{chain_lines}
+use Rattle.goref_results.specs.Places.{places_text}
 use Rattle.goref.specs.Decisions.{Decided, keeps, decided, MayLackMemory}
 
 abbrev pub refusal_text : Refusal → List ℕ

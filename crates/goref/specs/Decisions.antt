@@ -20,9 +20,9 @@ use Rattle.go_game.specs.Handicaps.{fixed, greatest}
 use Rattle.go_game.specs.Standings.{Standing, is_vacant, with_move, without_last}
 use Rattle.goref.specs.Starts.{begun}
 use Rattle.goref.specs.Handicaps.{with_stones}
-use Rattle.goref.specs.Stones.{stones_listed}
-use Rattle.goref.specs.declared.stones.ListError.{ListError}
-use Rattle.goref.specs.declared.stones.ListError.TheVariants.{Malformed, Bad}
+use Rattle.goref_lines.specs.Stones.{stones_listed}
+use Rattle.goref_lines.specs.declared.stones.ListError.{ListError}
+use Rattle.goref_lines.specs.declared.stones.ListError.TheVariants.{Malformed, Bad}
 use Rattle.goref.specs.Legal.{is_legal, is_open}
 use Rattle.goref_lines.specs.Words.{int_of, colour_of}
 use Rattle.go_sgf.specs.Numbers.{hundredths_of}

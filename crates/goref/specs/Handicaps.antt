@@ -1,26 +1,10 @@
 -- What the handicap commands come to.
-use Rattle.std.specs.Prelude.{ℕ, List, [], ◌∷◌, Option, Some, None, map}
-use Rattle.std.specs.List.{join_with_byte}
+use Rattle.std.specs.Prelude.{List, []}
 use Rattle.go_board.specs.declared.colour.Colour.TheVariants.{White}
 use Rattle.go_board.specs.declared.point.Point.{Point}
-use Rattle.go_board.specs.declared.vertex.Vertex.TheVariants.{At}
-use Rattle.go_board.specs.Vertices.{vertex_word}
 use Rattle.go_game.specs.Handicaps.{stones_on}
 use Rattle.go_game.specs.Standings.{Standing}
 
 -- a new start with these black stones: White is to move, and the komi stays
 abbrev pub with_stones : Standing → List Point → Standing
 with_stones s points = record { lines = s.lines; komi = s.komi; start = stones_on s.lines points; first = White; moves = [] }
-
--- the word of a point
-abbrev pub point_word : Point → List ℕ
-point_word p = vertex_word (At p)
-
--- and behind a space
-abbrev pub spaced_point : Point → List ℕ
-spaced_point p = 32 ∷ point_word p
-
--- the vertices of points, by spaces
-abbrev pub places_text : Option (List Point) → List ℕ
-places_text None = []
-places_text (Some points) = join_with_byte 32 (map point_word points)

@@ -2,9 +2,6 @@ pub mod Lines
 pub mod Starts
 pub mod Legal
 pub mod Contents
-pub mod Results
-pub mod Diagrams
-pub mod ChainLines
 pub mod Handicaps
 pub mod Commands
 pub mod Decisions
@@ -13,5 +10,3 @@ pub mod Replies
 pub mod Conversation
 pub mod Progress
 pub mod Runs
-pub mod Stones
-pub mod Gathered

@@ -1,21 +1,15 @@
 ghost use Rattle.std.specs.Prelude.{◌≡◌, ◌++◌, codes};
 ghost use Rattle.go_board.specs.Device.{Adds, Sent, failures_after, place};
-ghost use Rattle.std.specs.List.{flat_map, join_with_byte};
-ghost use Rattle.go_game.specs.Handicaps.{fixed};
-ghost use Rattle.go_game.specs.Scores.{margin_of, score_word};
+ghost use Rattle.std.specs.List.{join_with_byte};
 ghost use Rattle.goref.specs.Answers.{id_text, refusal_text, fact_text, decision_text};
 ghost use Rattle.goref.specs.Commands.{command_names};
-ghost use Rattle.goref.specs.Diagrams.{diagram};
-ghost use Rattle.goref.specs.Handicaps.{places_text, spaced_point};
-ghost use Rattle.goref.specs.Results.{result_text};
+ghost use Rattle.goref_results.specs.Results.{result_text};
 
-use crate::chain_lines::put_chains;
 use crate::command::listing;
 use crate::decision::{Decision, Fact, Refusal};
-use crate::diagram::put_diagram;
 use crate::session::Session;
-use go_board::{Pen, Point, Sink, Vertex, WriteFault, vertex_text};
-use go_game::{Game, fixed_points, score_text};
+use go_board::{Pen, Sink, WriteFault};
+use goref_results::{put_board, put_chains, put_places, put_score};
 use itoa::Buffer;
 use std::alloc::Allocator;
 
@@ -140,53 +134,6 @@ fn put_commands<W: Sink>(pen: &mut Pen, writer: &mut W)
 {
     pen.put(b" ", writer);
     pen.put(listing(), writer);
-}
-
-fn put_score<A: Allocator + Copy, W: Sink>(game: &Game<A>, pen: &mut Pen, writer: &mut W)
-    ensures { Adds (place pen.old.has_failed (W.taken writer.old) (W.failures writer.old))
-        (place pen.new.has_failed (W.taken writer.new) (W.failures writer.new))
-        (result_text (score_word (margin_of game.now.standing))) }
-{
-    pen.put(b" ", writer);
-    pen.put(score_text(game.margin()).as_bytes(), writer);
-}
-
-fn put_board<A: Allocator + Copy, W: Sink>(game: &Game<A>, pen: &mut Pen, writer: &mut W)
-    ensures { Adds (place pen.old.has_failed (W.taken writer.old) (W.failures writer.old))
-        (place pen.new.has_failed (W.taken writer.new) (W.failures writer.new))
-        (result_text (diagram game.now.standing)) }
-{
-    pen.put(b" ", writer);
-    put_diagram(game, pen, writer);
-}
-
-/// Writes the places of so many handicap stones.
-fn put_places<A: Allocator + Copy, W: Sink>(
-    game: &Game<A>,
-    number: u32,
-    pen: &mut Pen,
-    writer: &mut W,
-)
-    ensures { Adds (place pen.old.has_failed (W.taken writer.old) (W.failures writer.old))
-        (place pen.new.has_failed (W.taken writer.new) (W.failures writer.new))
-        (result_text (places_text (fixed game.now.standing.lines number))) }
-{
-    match fixed_points(game.size(), number) {
-        Some(points) => put_points(points.as_slice(), pen, writer),
-        None => {}
-    }
-}
-
-/// Writes points, each behind a space.
-fn put_points<W: Sink>(points: &[Point], pen: &mut Pen, writer: &mut W)
-    ensures { Adds (place pen.old.has_failed (W.taken writer.old) (W.failures writer.old))
-        (place pen.new.has_failed (W.taken writer.new) (W.failures writer.new))
-        (flat_map spaced_point points.now) }
-{
-    for point in points {
-        pen.put(b" ", writer);
-        pen.put(vertex_text(Vertex::At(*point)).as_bytes(), writer);
-    }
 }
 
 /// What the answer says to a refused command.

@@ -2,16 +2,13 @@
 #![tactic(auto)]
 
 mod answer;
-mod chain_lines;
 mod command;
 mod decision;
-mod diagram;
 mod flow;
 pub mod laws;
 mod runs;
 mod session;
 mod shelf;
-mod stones;
 
 pub use flow::{Flow, RunError};
 pub use goref_lines::{LINE_LIMIT, Line};

@@ -14,7 +14,7 @@ ghost use Rattle.goref.specs.Answers.{DecidesLine, is_end, line_id};
 ghost use Rattle.goref.specs.Replies.{Answered, flow_of};
 ghost use Rattle.goref.specs.Decisions.{Decides, DecidesPlay, MayDecide, decided_fixed, decided_free, decided_handicap, decided_komi, decided_known, decided_left, decided_settings, decided_size, decided_stones, decided_undo, move_refusal};
 ghost use Rattle.goref.specs.Handicaps.{with_stones};
-ghost use Rattle.goref.specs.Stones.{stones_listed};
+ghost use Rattle.goref_lines.specs.Stones.{stones_listed};
 ghost use Rattle.go_board.specs.Points.{IsOn};
 
 use crate::answer::write_answer;
@@ -22,11 +22,10 @@ use crate::command::{Command, command_named};
 use crate::decision::{Decision, Fact, Refusal};
 use crate::flow::Flow;
 use crate::shelf::Fetched;
-use crate::stones::{ListError, read_stones};
 use go_board::{Colour, Move, Point, Sink, Size, Vertex, VertexError, WriteFault, read_vertex};
 use go_game::{Game, PlayError, SetupError, fixed_points, greatest_handicap, stones_on};
 use go_sgf::hundredths_of;
-use goref_lines::{Line, Request, id_of_cut, read_colour, read_int};
+use goref_lines::{Line, ListError, Request, id_of_cut, read_colour, read_int, read_stones};
 use std::alloc::Allocator;
 use std::marker::Model;
 

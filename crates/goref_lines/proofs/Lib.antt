@@ -3,3 +3,4 @@ pub mod Joins
 pub mod Pushes
 pub mod Requests
 pub mod FirstWords
+pub mod Gathering

@@ -4,9 +4,11 @@
 mod cursor;
 mod line;
 mod request;
+mod stones;
 mod words;
 
 pub use cursor::Words;
 pub use line::{LINE_LIMIT, Line};
 pub use request::{Request, id_of_cut};
+pub use stones::{ListError, read_stones};
 pub use words::{read_colour, read_int};

@@ -6,7 +6,8 @@ use Rattle.goref.specs.Starts.{begun}
 use Rattle.goref.specs.Lines.{lines}
 use Rattle.goref.specs.Conversation.{Converses}
 use Rattle.goref.proofs.Progressing.{begins}
-use Rattle.goref.proofs.Running.{after_bytes-nil, has_read_more, of_input, answers_complete, answers_front}
+use Rattle.go_board.specs.Reading.{after_bytes-nil, has_read_more, of_input}
+use Rattle.goref.proofs.Running.{answers_complete, answers_front}
 use Rattle.goref.proofs.runs.run_within.Goals as goal
 
 pub loop-init : goal.loop-init

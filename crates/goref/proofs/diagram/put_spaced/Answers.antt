@@ -1,8 +1,0 @@
-use Rattle.go_board.specs.Writing.{adds_then}
-use Rattle.goref.specs.Diagrams.{spaced_letter}
-use Rattle.goref.proofs.Listing.{taken_more}
-use Rattle.goref.proofs.diagram.put_spaced.Goals as goal
-
-pub loop-letter-preserved : goal.loop-letter-preserved
-loop-letter-preserved g c =
-    adds_then _ c.loop-letter.invariant c.put.ensures (taken_more spaced_letter c.args.letters.now c.loop-letter.letter-index 0 c.loop-letter-test.true)

@@ -1,0 +1,147 @@
+ghost use Rattle.std.specs.Prelude.{◌≡◌, ◌<◌, ◌*◌, ◌∷◌, ◌==◌, ℕ, [], List, Option, All, IfErr, IfOk, OnOk, length};
+ghost use Rattle.std.specs.List.{list_any};
+ghost use Rattle.go_board.specs.declared.vertex.Vertex.{Vertex as VertexValue};
+ghost use Rattle.go_board.specs.Points.{IsOn, number_of};
+ghost use Rattle.go_board.specs.Sizes.{lines_of};
+ghost use Rattle.goref_lines.specs.Stones.{spelled, stones_listed, with_first};
+ghost use Rattle.goref_lines.specs.Gathered.{can_follow as can_follow_on, comes_to};
+
+use crate::cursor::Words;
+use arrayvec::ArrayVec;
+use go_board::{MAX_POINTS, Point, Size, Vertex, VertexError, read_vertex};
+use std::marker::Model;
+
+/// Why a list gives no stones of a free handicap.
+#[derive(Clone, Copy, Debug, PartialEq, Eq)]
+pub enum ListError {
+    /// There is no word, or one that spells no vertex.
+    Malformed,
+    /// There is a pass, a point off the board or one that stands twice, fewer than two points are
+    /// listed, or none is left.
+    Bad,
+}
+
+/// The points of the stones of a free handicap, as words list them.
+pub fn read_stones(
+    mut words: Words<'_>,
+    size: Size,
+) -> Result<ArrayVec<Point, MAX_POINTS>, ListError>
+    ensures ok { IfOk result
+        (λ points. stones_listed (lines_of size) words.entry ≡ Ok points.items) }
+    ensures err { IfErr result (λ error. stones_listed (lines_of size) words.entry ≡ Err error) }
+    ensures on { IfOk result (λ points. All (IsOn (lines_of size)) points.items) }
+    ensures few { IfOk result
+        (λ points. length points.items < lines_of size * lines_of size) }
+{
+    let mut stones = Stones::new(size);
+    match words.next_word() {
+        Some(word) => stones.push(word)?,
+        None => return Err(ListError::Malformed),
+    }
+    while let Some(word) = words.next_word() {
+        stones.push(word)?;
+    }
+    stones.finish()
+}
+
+/// The points of a list as far as it is read.
+#[derive(Drop)]
+struct Stones {
+    size: Size,
+    points: ArrayVec<Point, MAX_POINTS>,
+    is_bad: bool,
+}
+
+impl Model for Stones {
+    ghost use Rattle.std.specs.Prelude.{if◌then◌else◌, Some, None};
+    ghost use Rattle.go_board.specs.Sizes.{lines_of};
+    ghost use Rattle.goref_lines.specs.Gathered.{AreApart, Gathered};
+
+    ghost Value = { Gathered };
+
+    ghost view = { λ s. record {
+      lines = lines_of s.size;
+      points = if s.is_bad then None else Some s.points.items;
+    } };
+
+    ghost invariant = { λ s. AreApart (lines_of s.size) s.points.items };
+}
+
+impl Stones {
+    fn new(size: Size) -> Stones
+        ensures lines { result.lines ≡ lines_of size }
+        ensures points { result.points ≡ Some [] }
+    {
+        Stones {
+            size,
+            points: ArrayVec::new(),
+            is_bad: false,
+        }
+    }
+
+    /// Takes the next word. A bad list is read on: a word that spells no vertex outweighs it.
+    fn push(&mut self, word: &[u8]) -> Result<(), ListError>
+        ensures lines { self.new.lines ≡ self.old.lines }
+        ensures ok { OnOk result ((rest : List (List ℕ))
+            → comes_to self.old (spelled (word.now ∷ rest)) ≡ comes_to self.new (spelled rest)) }
+        ensures err { IfErr result (λ error. (rest : List (List ℕ))
+            → comes_to self.old (spelled (word.now ∷ rest)) ≡ Err error) }
+    {
+        match read_vertex(word, self.size) {
+            Ok(Vertex::At(point)) => self.add(point),
+            Ok(Vertex::Pass) => self.is_bad = true,
+            Err(VertexError::OffBoard) => self.is_bad = true,
+            Err(VertexError::Malformed) => return Err(ListError::Malformed),
+        }
+        Ok(())
+    }
+
+    fn add(&mut self, point: Point)
+        requires { IsOn self.old.lines point }
+        ensures lines { self.new.lines ≡ self.old.lines }
+        ensures goes_on { (rest : Option (List VertexValue))
+            → comes_to self.old (with_first (Some (Vertex.At point)) rest)
+            ≡ comes_to self.new rest }
+    {
+        if can_follow(&self.points, point, self.size) {
+            self.points.push(point);
+        } else {
+            self.is_bad = true;
+        }
+    }
+
+    /// The stones of the list, where it ends here.
+    fn finish(self) -> Result<ArrayVec<Point, MAX_POINTS>, ListError>
+        ensures ok { IfOk result (λ points. comes_to self (Some []) ≡ Ok points.items) }
+        ensures err { IfErr result (λ error. comes_to self (Some []) ≡ Err error) }
+        ensures on { IfOk result (λ points. All (IsOn self.lines) points.items) }
+        ensures few { IfOk result (λ points. length points.items < self.lines * self.lines) }
+    {
+        if self.is_bad || self.points.len() < 2 {
+            return Err(ListError::Bad);
+        }
+        Ok(self.points)
+    }
+}
+
+/// Whether a point is none of these points, and one more is left behind it.
+fn can_follow(points: &[Point], point: Point, size: Size) -> bool
+    requires points { All (IsOn (lines_of size)) points.now }
+    requires point { IsOn (lines_of size) point }
+    ensures { result ≡ can_follow_on (lines_of size) points.now point }
+{
+    points.len() + 1 < usize::from(size.points()) && !has_number(points, point.index(size), size)
+}
+
+/// Whether the point with this number is among points of the board.
+fn has_number(points: &[Point], number: u16, size: Size) -> bool
+    requires { All (IsOn (lines_of size)) points.now }
+    ensures { result ≡ list_any (λ p. number_of (lines_of size) p == number) points.now }
+{
+    for point in points {
+        if point.index(size) == number {
+            return true;
+        }
+    }
+    false
+}

@@ -1,0 +1,4 @@
+pub mod Results
+pub mod Diagrams
+pub mod ChainLines
+pub mod Places

@@ -1,0 +1,10 @@
+//! What commands answer of a game: the score, the diagram, the chains and the places of handicap
+//! stones, each written behind a space as it stands in an answer.
+#![tactic(auto)]
+
+mod chain_lines;
+mod diagram;
+mod results;
+
+pub use chain_lines::put_chains;
+pub use results::{put_board, put_places, put_score};
