@@ -1,6 +1,7 @@
 //! The rules of the board computed from its colours alone, by floods: what clears, what a move
 //! leaves, whose area a point is. Faster tables are compared with these.
-ghost use Rattle.std.specs.Prelude.{◌≡◌, ◌<◌, ◌*◌, ◌↔◌, ◌&&◌, ◌||◌, ℕ, Bool, Some, None, IsTrue, IfSome, IfNone, if◌then◌else◌, not, slice_set, true, false, cond};
+ghost use Rattle.std.specs.Prelude.{◌≡◌, ◌<◌, ◌*◌, ◌↔◌, ◌&&◌, ◌||◌, ℕ, Bool, Some, None, IsTrue, IfSome, IfNone, if◌then◌else◌, length, not, slice_set, true, false, cond};
+ghost use Rattle.go_board.specs.Chains.{liberties};
 ghost use Rattle.go_board.specs.Colours.{colour_at, other};
 ghost use Rattle.go_board.specs.Points.{IsOn, is_adjacent, number_of};
 ghost use Rattle.go_board.specs.Reaching.{area, cleared, connects, has_colour, is_dead, is_liberty_of, joined, moved, vanished};
@@ -136,7 +137,36 @@ pub fn is_liberty(grid: &Grid, p: Point, q: Point) -> bool
     ensures { result ≡ is_liberty_of grid.now.lines grid.now.colours (number_of grid.now.lines p)
         (number_of grid.now.lines q) }
 {
-    is_same(grid.get(q), None) && is_beside_chain(grid, &joined_to(grid, p), p, q)
+    is_liberty_of_chain(grid, &joined_to(grid, p), p, q)
+}
+
+/// How many liberties the chain of a stone has.
+pub fn liberties_of(grid: &Grid, p: Point) -> u16
+    requires { IsOn grid.now.lines p }
+    ensures { result ≡ length
+        (liberties grid.now.lines grid.now.colours (number_of grid.now.lines p)) }
+{
+    let chain = joined_to(grid, p);
+    let size = grid.size();
+    let mut count = 0u16;
+    for number in 0..size.points() {
+        if is_liberty_of_chain(grid, &chain, p, Point::numbered(size, number)) {
+            count += 1;
+        }
+    }
+    count
+}
+
+/// Whether a point is a liberty of p's chain, whose stones are marked.
+fn is_liberty_of_chain(grid: &Grid, chain: &Marks, p: Point, q: Point) -> bool
+    requires p_on { IsOn grid.now.lines p }
+    requires q_on { IsOn grid.now.lines q }
+    requires chain { AreJoined grid.now.lines grid.now.colours (number_of grid.now.lines p)
+        chain.now }
+    ensures { result ≡ is_liberty_of grid.now.lines grid.now.colours (number_of grid.now.lines p)
+        (number_of grid.now.lines q) }
+{
+    is_same(grid.get(q), None) && is_beside_chain(grid, chain, p, q)
 }
 
 /// Whether a point is adjacent to one of the marked stones of p's chain.
