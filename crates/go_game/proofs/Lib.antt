@@ -5,3 +5,5 @@ pub mod Margins
 pub mod Stones
 pub mod Vacant
 pub mod HandicapPlaces
+pub mod Legal
+pub mod Choosing

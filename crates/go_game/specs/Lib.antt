@@ -1,7 +1,10 @@
 pub mod Standings
+pub mod Legal
 pub mod Playing
 pub mod Prisoners
 pub mod Scores
 pub mod Whole
+pub mod Choices
+pub mod Trials
 pub mod Handicaps
 pub mod Held

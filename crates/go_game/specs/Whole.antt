@@ -1,15 +1,11 @@
 -- Everything that a game holds, as a function of what it stands for.
-use Rattle.std.specs.Prelude.{◌+◌, ℕ, Bool, List, [], ◌∷◌, Option, Some, None, if◌then◌else◌}
-use Rattle.std.specs.Cmp.Lexicographic.{pointwise}
+use Rattle.std.specs.Prelude.{◌+◌, ℕ, List, [], ◌∷◌, Option, Some, None, if◌then◌else◌}
 use Rattle.go_board.specs.declared.colour.Colour.{Colour}
 use Rattle.go_board.specs.Colours.{Colouring}
 use Rattle.go_board.specs.Chains.{Chain, chains}
-use Rattle.go_board.specs.Reaching.{is_same}
+use Rattle.go_game.specs.Legal.{same_colours}
 use Rattle.go_game.specs.Standings.{Standing, board_of, mover_of, positions_of}
 use Rattle.go_game.specs.Playing.{prisoners_of}
-
-abbrev pub same_colours : Colouring → Colouring → Bool
-same_colours g h = pointwise is_same g h
 
 -- the place of the first such colouring, counted from k
 abbrev pub first_at : ℕ → List Colouring → Colouring → Option ℕ

@@ -4,7 +4,7 @@ use crate::prisoners::Prisoners;
 use crate::step::Step;
 use crate::{PlayError, SetupError};
 use go_board::laws::vanished_at_most_all;
-use go_board::plain::{areas, first_dead, is_liberty, place, same_chain};
+use go_board::plain::{areas, first_dead, is_liberty, liberties_of, place, same_chain};
 use go_board::{Area, Colour, Grid, Move, Point, Size, Taken, Vertex};
 use std::alloc::{AllocError, Allocator};
 use std::marker::Model;
@@ -44,6 +44,7 @@ impl<A: Allocator + Copy> Game<A> {
     ghost use Rattle.go_board.specs.declared.colour.Colour.{Colour};
     ghost use Rattle.go_board.specs.declared.point.Point.{Point};
     ghost use Rattle.go_board.specs.declared.size.TheConstants.{MAX_POINTS};
+    ghost use Rattle.go_game.specs.Choices.{liberties_on};
     ghost use Rattle.go_game.specs.Held.{IsPlayed};
     ghost use Rattle.go_game.specs.Prisoners.{share_of};
     ghost use Rattle.go_game.specs.Standings.{IsEmptyStart, IsFirstAt, IsKomi, IsLegal, IsOccupied, IsOffBoard, IsSound, Repeats, board_of, is_vacant as is_vacant_in, mover_of, positions_of, started, with_move, without_last};
@@ -181,6 +182,19 @@ impl<A: Allocator + Copy> Game<A> {
             (number_of self.now.standing.lines p) (number_of self.now.standing.lines q) }
     {
         is_liberty(self.present(), p, q)
+    }
+
+    /// How many liberties the chain of the stone on a point has, and 0 where none is there.
+    pub(crate) fn liberties_of(&self, p: Point) -> u16
+        requires { IsOn self.now.standing.lines p }
+        ensures { result ≡ liberties_on self.now.standing.lines (board_of self.now.standing)
+            (number_of self.now.standing.lines p) }
+    {
+        let grid = self.present();
+        if grid.get(p).is_none() {
+            return 0;
+        }
+        liberties_of(grid, p)
     }
 
     /// How many points count for each colour.

@@ -1,7 +1,10 @@
 //! Laws about what a game stands for, each the contract of a function that does nothing.
-ghost use Rattle.std.specs.Prelude.{◌≡◌, List, length};
+ghost use Rattle.std.specs.Prelude.{◌≡◌, ◌↔◌, IsTrue, List, length};
+ghost use Rattle.go_board.specs.declared.colour.Colour.{Colour};
 ghost use Rattle.go_board.specs.declared.vertex.Move.{Move};
-ghost use Rattle.go_game.specs.Standings.{Standing, with_moves, without_last};
+ghost use Rattle.go_board.specs.declared.vertex.Vertex.{Vertex};
+ghost use Rattle.go_game.specs.Legal.{is_legal};
+ghost use Rattle.go_game.specs.Standings.{IsLegal, Standing, with_moves, without_last};
 ghost use Rattle.go_game.specs.Whole.{whole_of};
 
 /// Any moves, then as many taken back, leave the standing as it was.
@@ -14,4 +17,9 @@ pub fn moves_taken_back()
 pub fn whole_state_restored()
     ensures { (s : Standing) (moves : List Move)
         → whole_of (without_last (length moves) (with_moves s moves)) ≡ whole_of s }
+{}
+
+/// The test whether a move is legal holds exactly where the rules say that it is.
+pub fn legal_by_the_rules()
+    ensures { (s : Standing) (c : Colour) (v : Vertex) → IsTrue (is_legal s c v) ↔ IsLegal s c v }
 {}

@@ -1,6 +1,7 @@
 //! A game of Go: its start and its moves, what is legal, prisoners, and exact undo.
 #![tactic(auto)]
 
+mod choice;
 mod errors;
 mod game;
 mod handicap;

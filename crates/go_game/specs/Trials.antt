@@ -1,0 +1,37 @@
+-- What trials of plays find. For the contracts of the choice's own parts.
+use Rattle.std.specs.Prelude.{◌≡◌, ◌<◌, ℕ, Bool, true, false, Option, Some, None, if◌then◌else◌}
+use Rattle.go_board.specs.declared.colour.Colour.{Colour}
+use Rattle.go_board.specs.Points.{point_at}
+use Rattle.go_game.specs.declared.choice.Trial.{Trial}
+use Rattle.go_game.specs.Choices.{is_better, lead_after, liberties_after, may_play, outranks}
+use Rattle.go_game.specs.Standings.{Standing}
+
+-- the trial of the play on p
+abbrev pub trial_at : Standing → Colour → ℕ → Trial
+trial_at s c p = record { point = point_at s.lines p; lead = lead_after s c p; liberties = liberties_after s c p }
+
+-- the same, where the play is legal
+abbrev pub tried : Standing → Colour → ℕ → Option Trial
+tried s c p = if may_play s c p then Some (trial_at s c p) else None
+
+-- one trial is better than another
+abbrev pub beats : Trial → Trial → Bool
+beats t u = outranks t.lead t.liberties u.lead u.liberties
+
+-- the better one of two, the earlier where neither is
+abbrev pub better_of : Option Trial → Option Trial → Option Trial
+better_of None later = later
+better_of (Some t) None = Some t
+better_of (Some t) (Some u) = if beats u t then Some u else Some t
+
+-- p is a legal play among the first i points: none of them is better, and each before it is worse
+pub record IsBestBelow (s : Standing) (c : Colour) (i p : ℕ) : Type 0 where
+  pub below : p < i
+  pub legal : may_play s c p ≡ true
+  pub best : (q : ℕ) → q < i → may_play s c q ≡ true → is_better s c q p ≡ false
+  pub first : (q : ℕ) → q < p → may_play s c q ≡ true → is_better s c p q ≡ true
+
+-- the trial is of the first of the best plays among the first i points, or none of them is legal
+abbrev pub IsBestTrial : Standing → Colour → ℕ → Option Trial → Type 0
+IsBestTrial s c i None = (p : ℕ) → p < i → may_play s c p ≡ false
+IsBestTrial s c i (Some t) = (p : ℕ) × IsBestBelow s c i p × (t ≡ trial_at s c p)

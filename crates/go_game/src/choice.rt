@@ -1,0 +1,148 @@
+//! What is legal, and the plain choice of a play: by trials on the game itself, each of which is
+//! taken back.
+ghost use Rattle.std.specs.Prelude.{◌≡◌, ◌<◌, ◌*◌, ◌↔◌, ◌-ℤ◌, pos, IfOk, IsTrue, OnErr, if◌then◌else◌};
+ghost use Rattle.go_game.specs.Trials.{better_of};
+
+use crate::{Game, PlayError};
+use go_board::{Colour, Move, Point, Vertex};
+use std::alloc::{AllocError, Allocator};
+
+/// A play, and what it comes to for its colour.
+#[derive(Clone, Copy)]
+pub struct Trial {
+    pub point: Point,
+    /// By how many points the colour is ahead after the play, komi aside.
+    pub lead: i32,
+    /// How many liberties the placed stone's chain has then, and 0 if it is gone.
+    pub liberties: u16,
+}
+
+impl Trial {
+    ghost use Rattle.go_game.specs.Trials.{beats};
+
+    /// Whether it leads by more than another, or by no less and with more liberties.
+    fn beats(self, other: Trial) -> bool
+        ensures { result ≡ beats self other }
+    {
+        self.lead > other.lead || self.lead == other.lead && self.liberties > other.liberties
+    }
+}
+
+/// The better one of two trials, and the earlier where neither is.
+fn better_of(earlier: Option<Trial>, later: Option<Trial>) -> Option<Trial>
+    ensures { result ≡ better_of earlier later }
+{
+    match (earlier, later) {
+        (Some(t), Some(u)) => Some(if u.beats(t) { u } else { t }),
+        (None, later) => later,
+        (earlier, None) => earlier,
+    }
+}
+
+/// By how many points the one area is ahead of the other.
+fn ahead(own: u16, theirs: u16) -> i32
+    ensures { result ≡ pos own -ℤ pos theirs }
+{
+    i32::from(own) - i32::from(theirs)
+}
+
+impl<A: Allocator + Copy> Game<A> {
+    ghost use Rattle.go_game.specs.Choices.{chosen, lead_of, liberties_on};
+    ghost use Rattle.go_game.specs.Legal.{is_legal};
+    ghost use Rattle.go_game.specs.Standings.{IsLegal, board_of, with_move};
+    ghost use Rattle.go_game.specs.Trials.{IsBestTrial, tried};
+
+    /// Whether the rules allow a move; one off the board isn't legal. The game is used for a trial,
+    /// which is taken back also where there was no memory for it.
+    pub fn legal(&mut self, made: Move) -> Result<bool, AllocError>
+        ensures rules { IfOk result
+            (λ legal. IsTrue legal ↔ IsLegal self.old.standing made.colour made.vertex) }
+        ensures test { IfOk result
+            (λ legal. legal ≡ is_legal self.old.standing made.colour made.vertex) }
+        ensures same { self.new ≡ self.old }
+    {
+        let legal = self.try_play(made)?;
+        if legal {
+            self.undo();
+        }
+        Ok(legal)
+    }
+
+    /// Plays a move where that is legal, and says whether it was.
+    fn try_play(&mut self, made: Move) -> Result<bool, AllocError>
+        ensures legal { IfOk result
+            (λ legal. legal ≡ is_legal self.old.standing made.colour made.vertex) }
+        ensures played { IfOk result (λ legal. self.new.standing
+            ≡ (if legal then with_move self.old.standing made else self.old.standing)) }
+        ensures err { OnErr result (self.new ≡ self.old) }
+    {
+        match self.play(made) {
+            Ok(_) => Ok(true),
+            Err(PlayError::Memory) => Err(AllocError),
+            Err(PlayError::OffBoard) => Ok(false),
+            Err(PlayError::Occupied) => Ok(false),
+            Err(PlayError::Repeats(_)) => Ok(false),
+        }
+    }
+
+    /// The plain choice for a colour, whoever is to move: among its legal plays the one after which
+    /// it is ahead by most points, then with most liberties of the placed stone's chain, then the
+    /// first in point order; or a pass where no play puts it further ahead than it is. Each play is
+    /// tried on the game, and taken back also where there was no memory for it.
+    pub fn choose(&mut self, colour: Colour) -> Result<Vertex, AllocError>
+        ensures ok { IfOk result (λ vertex. vertex ≡ chosen self.old.standing colour) }
+        ensures same { self.new ≡ self.old }
+    {
+        let present = self.lead(colour);
+        match self.best_trial(colour)? {
+            Some(best) if best.lead > present => Ok(Vertex::At(best.point)),
+            _ => Ok(Vertex::Pass),
+        }
+    }
+
+    /// The first of the best among a colour's legal plays, or none where it has none.
+    fn best_trial(&mut self, colour: Colour) -> Result<Option<Trial>, AllocError>
+        ensures ok { IfOk result (IsBestTrial self.old.standing colour
+            (self.old.standing.lines * self.old.standing.lines)) }
+        ensures same { self.new ≡ self.old }
+    {
+        let size = self.size();
+        let mut best = None;
+        for number in 0..size.points() {
+            let trial = self.try_at(colour, number)?;
+            best = better_of(best, trial);
+        }
+        Ok(best)
+    }
+
+    /// What the play on the point with this number comes to, or none where it isn't legal.
+    fn try_at(&mut self, colour: Colour, number: u16) -> Result<Option<Trial>, AllocError>
+        requires { number < self.old.standing.lines * self.old.standing.lines }
+        ensures ok { IfOk result (λ trial. trial ≡ tried self.old.standing colour number) }
+        ensures same { self.new ≡ self.old }
+    {
+        let point = Point::numbered(self.size(), number);
+        let vertex = Vertex::At(point);
+        if !self.try_play(Move { colour, vertex })? {
+            return Ok(None);
+        }
+        let trial = Trial {
+            point,
+            lead: self.lead(colour),
+            liberties: self.liberties_of(point),
+        };
+        self.undo();
+        Ok(Some(trial))
+    }
+
+    /// By how many points a colour is ahead, komi aside.
+    fn lead(&self, colour: Colour) -> i32
+        ensures { result ≡ lead_of self.now.standing colour }
+    {
+        let area = self.area();
+        match colour {
+            Colour::Black => ahead(area.black, area.white),
+            Colour::White => ahead(area.white, area.black),
+        }
+    }
+}
