@@ -7,18 +7,21 @@ use go_game::{Game, PlayError, SetupError, hundredths_text, score_text};
 use std::alloc::Allocator;
 use std::process::Abort;
 
-fn size_of(rt: &impl Abort, lines: u8) -> Size
+/// The size of so many lines.
+pub fn size_of(rt: &impl Abort, lines: u8) -> Size
     ensures { lines_of result ≡ lines }
 {
     Size::new(lines).expect(rt, "a size")
 }
 
-fn turn(rt: &impl Abort, size: Size, colour: Colour, word: &[u8]) -> Move {
+/// The move of a colour that a word spells.
+pub fn turn(rt: &impl Abort, size: Size, colour: Colour, word: &[u8]) -> Move {
     let vertex = read_vertex(word, size).expect(rt, "a vertex");
     Move { colour, vertex }
 }
 
-fn play<A: Allocator + Copy>(
+/// Plays the move that a word spells.
+pub fn play<A: Allocator + Copy>(
     rt: &impl Abort,
     game: &mut Game<A>,
     colour: Colour,

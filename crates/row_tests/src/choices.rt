@@ -1,0 +1,235 @@
+use crate::games::{play, size_of, turn};
+use failing::Failing;
+use go_board::{Colour, Move, Point, Taken, Vertex};
+use go_game::{Game, PlayError};
+use std::alloc::{AllocError, Allocator};
+use std::process::Abort;
+
+/// The colour's choice is what the word spells, and it is played.
+fn chooses<A: Allocator + Copy>(
+    rt: &impl Abort,
+    game: &mut Game<A>,
+    colour: Colour,
+    word: &[u8],
+) -> Taken {
+    let made = turn(rt, game.size(), colour, word);
+    assert!(rt; game.choose(colour).expect(rt, "memory") == made.vertex);
+    game.play(made).expect(rt, "a legal move")
+}
+
+/// Whether a colour may play where the word says.
+fn is_legal<A: Allocator + Copy>(
+    rt: &impl Abort,
+    game: &mut Game<A>,
+    colour: Colour,
+    word: &[u8],
+) -> bool {
+    let made = turn(rt, game.size(), colour, word);
+    game.legal(made).expect(rt, "memory")
+}
+
+#[test]
+fn choice_on_tiny_boards(rt: HostRuntime) {
+    let mut game = Game::new(rt.alloc(), size_of(&rt, 1));
+    assert!(rt; game.choose(Colour::Black).expect(&rt, "memory") == Vertex::Pass);
+    assert!(rt; !is_legal(&rt, &mut game, Colour::Black, b"a1"));
+
+    game.resize(size_of(&rt, 3));
+    let centre = turn(&rt, game.size(), Colour::Black, b"B2").vertex;
+    assert!(rt; game.choose(Colour::Black).expect(&rt, "memory") == centre);
+    assert_eq!(rt; game.move_count(), 0);
+    chooses(&rt, &mut game, Colour::Black, b"B2");
+    chooses(&rt, &mut game, Colour::White, b"A1");
+    assert!(rt; game.margin() == 0);
+}
+
+#[test]
+fn choice_on_two_lines(rt: HostRuntime) {
+    let mut game = Game::new(rt.alloc(), size_of(&rt, 2));
+    let none = Taken { theirs: 0, own: 0 };
+    assert!(rt; chooses(&rt, &mut game, Colour::Black, b"A1") == none);
+    assert!(rt; chooses(&rt, &mut game, Colour::White, b"B2") == none);
+    assert!(rt; chooses(&rt, &mut game, Colour::Black, b"B1") == none);
+    assert!(rt; chooses(&rt, &mut game, Colour::White, b"A2") == Taken { theirs: 2, own: 0 });
+    assert!(rt; chooses(&rt, &mut game, Colour::Black, b"A1") == none);
+    for _ in 0..5 {
+        assert!(rt; game.undo().is_some());
+    }
+    assert!(rt; game.undo().is_none());
+}
+
+#[test]
+fn legal_plays_on_two_lines(rt: HostRuntime) {
+    let mut game = Game::new(rt.alloc(), size_of(&rt, 2));
+    for word in [
+        b"A1".as_slice(),
+        b"B1".as_slice(),
+        b"A2".as_slice(),
+        b"B2".as_slice(),
+    ] {
+        assert!(rt; is_legal(&rt, &mut game, Colour::White, word));
+    }
+    assert!(rt; is_legal(&rt, &mut game, Colour::White, b"pass"));
+    let off = Move {
+        colour: Colour::White,
+        vertex: Vertex::At(Point { col: 2, row: 0 }),
+    };
+    assert!(rt; !game.legal(off).expect(&rt, "memory"));
+    assert_eq!(rt; game.move_count(), 0);
+}
+
+#[test]
+fn legal_plays_after_a_capture(rt: HostRuntime) {
+    let mut game = Game::new(rt.alloc(), size_of(&rt, 2));
+    assert!(rt; play(&rt, &mut game, Colour::Black, b"A1").is_ok());
+    assert!(rt; play(&rt, &mut game, Colour::White, b"B1").is_ok());
+    assert!(rt; play(&rt, &mut game, Colour::White, b"A2").is_ok());
+    for word in [
+        b"A1".as_slice(),
+        b"B1".as_slice(),
+        b"A2".as_slice(),
+        b"B2".as_slice(),
+    ] {
+        assert!(rt; !is_legal(&rt, &mut game, Colour::Black, word));
+    }
+    assert!(rt; is_legal(&rt, &mut game, Colour::White, b"A1"));
+    assert!(rt; !is_legal(&rt, &mut game, Colour::White, b"B1"));
+    assert!(rt; !is_legal(&rt, &mut game, Colour::White, b"A2"));
+    assert!(rt; is_legal(&rt, &mut game, Colour::White, b"B2"));
+    assert!(rt; game.choose(Colour::Black).expect(&rt, "memory") == Vertex::Pass);
+    assert_eq!(rt; game.move_count(), 3);
+}
+
+/// Two games answer each question alike.
+fn assert_same<A: Allocator + Copy, B: Allocator + Copy>(
+    rt: &impl Abort,
+    game: &Game<A>,
+    twin: &Game<B>,
+) {
+    let size = twin.size();
+    assert!(rt; game.size() == size && game.komi() == twin.komi());
+    assert!(rt; game.mover() == twin.mover() && game.start_mover() == twin.start_mover());
+    assert!(rt; game.area() == twin.area());
+    for colour in [Colour::Black, Colour::White] {
+        assert!(rt; game.prisoners(colour) == twin.prisoners(colour));
+    }
+    assert_eq!(rt; game.move_count(), twin.move_count());
+    for number in 0..twin.move_count() {
+        assert!(rt; game.move_at(number) == twin.move_at(number));
+    }
+    for number in 0..size.points() {
+        let here = Point::nth(game.size(), number).expect(rt, "a point");
+        let there = Point::nth(size, number).expect(rt, "a point");
+        assert!(rt; game.colour_at(here) == twin.colour_at(there));
+        assert!(rt; game.start_at(here) == twin.start_at(there));
+    }
+}
+
+/// Plays a move, and again where it was refused for want of memory. How many were refused.
+fn plays<A: Allocator + Copy>(rt: &impl Abort, game: &mut Game<A>, made: Move) -> u32 {
+    match game.play(made) {
+        Err(PlayError::Memory) => {
+            assert!(rt; game.play(made).is_ok());
+            1
+        }
+        played => {
+            assert!(rt; played.is_ok());
+            0
+        }
+    }
+}
+
+/// Asks for the choice, which is this move; and again where there was no memory. How many times there
+/// was none. The game answers as its twin does, before and after.
+fn asks_choice<A: Allocator + Copy, B: Allocator + Copy>(
+    rt: &impl Abort,
+    game: &mut Game<A>,
+    twin: &Game<B>,
+    made: Move,
+) -> u32 {
+    let mut refused = 0u32;
+    if game.choose(made.colour) == Err(AllocError) {
+        assert_same(rt, game, twin);
+        refused = 1;
+    }
+    assert!(rt; game.choose(made.colour) == Ok(made.vertex));
+    assert_same(rt, game, twin);
+    refused
+}
+
+/// Asks whether a move is legal, as it is; else as `asks_choice`.
+fn asks_legal<A: Allocator + Copy, B: Allocator + Copy>(
+    rt: &impl Abort,
+    game: &mut Game<A>,
+    twin: &Game<B>,
+    made: Move,
+) -> u32 {
+    let mut refused = 0u32;
+    if game.legal(made) == Err(AllocError) {
+        assert_same(rt, game, twin);
+        refused = 1;
+    }
+    assert!(rt; game.legal(made) == Ok(true));
+    assert_same(rt, game, twin);
+    refused
+}
+
+/// Five moves on two lines, each asked for and then played. How many calls were refused.
+fn five_moves<A: Allocator + Copy, B: Allocator + Copy>(
+    rt: &impl Abort,
+    alloc: B,
+    game: &mut Game<A>,
+    is_chosen: bool,
+) -> u32 {
+    let mut twin = Game::new(alloc, size_of(rt, 2));
+    let mut refused = 0u32;
+    let mut colour = Colour::Black;
+    for word in [
+        b"A1".as_slice(),
+        b"B2".as_slice(),
+        b"B1".as_slice(),
+        b"A2".as_slice(),
+        b"A1".as_slice(),
+    ] {
+        let made = turn(rt, twin.size(), colour, word);
+        let asked = if is_chosen {
+            asks_choice(rt, game, &twin, made)
+        } else {
+            asks_legal(rt, game, &twin, made)
+        };
+        refused = refused
+            .wrapping_add(asked)
+            .wrapping_add(plays(rt, game, made));
+        assert!(rt; twin.play(made).is_ok());
+        assert_same(rt, game, &twin);
+        colour = colour.other();
+    }
+    refused
+}
+
+/// Each request for memory of the five moves is refused in turn, until a run meets no refusal.
+fn refused_in_turn<A: Allocator + Copy>(rt: &impl Abort, alloc: A, is_chosen: bool) {
+    let mut met = 0u32;
+    for number in 1..20u64 {
+        let failing = Failing::new(alloc, number);
+        let mut game = Game::new(&failing, size_of(rt, 2));
+        let refused = five_moves(rt, alloc, &mut game, is_chosen);
+        if failing.waits() {
+            assert!(rt; refused == 0);
+            break;
+        }
+        assert!(rt; refused == 1);
+        met = met.wrapping_add(1);
+    }
+    assert!(rt; met > 0 && met < 19, "{met} requests");
+}
+
+#[test]
+fn each_request_of_a_choice_refused(rt: HostRuntime) {
+    refused_in_turn(&rt, rt.alloc(), true);
+}
+
+#[test]
+fn each_request_of_a_legal_refused(rt: HostRuntime) {
+    refused_in_turn(&rt, rt.alloc(), false);
+}
