@@ -33,9 +33,9 @@ fn better_of(earlier: Option<Trial>, later: Option<Trial>) -> Option<Trial>
     ensures { result ≡ better_of earlier later }
 {
     match (earlier, later) {
-        (Some(t), Some(u)) => Some(if u.beats(t) { u } else { t }),
-        (None, later) => later,
-        (earlier, None) => earlier,
+        (None, _) => later,
+        (Some(best), Some(next)) if next.beats(best) => later,
+        _ => earlier,
     }
 }
 
