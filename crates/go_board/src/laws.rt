@@ -5,7 +5,8 @@ ghost use Rattle.go_board.specs.declared.colour.Colour.{Colour};
 ghost use Rattle.go_board.specs.Colours.{Colouring, colour_at};
 ghost use Rattle.go_board.specs.Paths.{Joined, Reaches};
 ghost use Rattle.go_board.specs.Reaching.{is_dead, is_liberty_of, joined, reaches, vanished};
-ghost use Rattle.go_board.specs.Points.{is_adjacent};
+ghost use Rattle.go_board.specs.declared.point.Point.{Point};
+ghost use Rattle.go_board.specs.Points.{IsOn, is_adjacent, number_of, point_at};
 
 /// The test whether a point reaches a colour holds exactly where a path leads there.
 pub fn reaches_by_a_path()
@@ -35,4 +36,12 @@ pub fn one_colour_lives()
     ensures { (n : ℕ) (g : Colouring) (c : Colour) (e : ℕ) → e < n * n → colour_at g e ≡ None
         → ((k : ℕ) → k < n * n → (colour_at g k ≡ None) ⊎ (colour_at g k ≡ Some c)) → (k : ℕ)
         → k < n * n → is_dead n g k ≡ false }
+{}
+
+/// A point of the board and its number stand for each other.
+pub fn points_by_number()
+    ensures number { (n : ℕ) (p : Point) → IsOn n p → number_of n p < n * n }
+    ensures back { (n : ℕ) (p : Point) → IsOn n p → point_at n (number_of n p) ≡ p }
+    ensures on { (n k : ℕ) → k < n * n → IsOn n (point_at n k) }
+    ensures same { (n k : ℕ) → k < n * n → number_of n (point_at n k) ≡ k }
 {}

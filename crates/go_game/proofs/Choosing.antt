@@ -259,7 +259,7 @@ module _ (s : Standing) (c : Colour) (i : ℕ) where
   }
 
   -- the better one of the best so far and the trial of the next point
-  tried_next : (b : Bool) (best : Option Trial) → may_play s c i ≡ b → IsBestTrial s c i best → IsBestTrial s c (i + 1) (better_of best (cond b (Some (trial_at s c i)) None))
+  pub tried_next : (b : Bool) (best : Option Trial) → may_play s c i ≡ b → IsBestTrial s c i best → IsBestTrial s c (i + 1) (better_of best (cond b (Some (trial_at s c i)) None))
   tried_next true None allowed none = (i, first_found none allowed, refl)
   tried_next false None closed none = none_more none closed
   tried_next false (Some t) closed h = (h.0, best_kept h.0 h.1 (λ allowed. absurd (true≢false (sym allowed ∙ closed))), h.2)

@@ -7,3 +7,4 @@ pub mod Vacant
 pub mod HandicapPlaces
 pub mod Legal
 pub mod Choosing
+pub mod ChoiceRule

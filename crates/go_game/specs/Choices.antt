@@ -1,15 +1,16 @@
 -- The plain choice: a maximum over all legal plays.
-use Rattle.std.specs.Prelude.{◌-ℤ◌, ◌&&◌, ◌||◌, ℕ, ℤ, pos, int_lt, Bool, not, nat_lt, List, [], ◌∷◌, None, filter, if◌then◌else◌, length}
+use Rattle.std.specs.Prelude.{◌≡◌, ◌<◌, ◌⊎◌, ◌-ℤ◌, ◌<ℤ◌, ◌≤ℤ◌, ◌&&◌, ◌||◌, ℕ, ℤ, pos, int_lt, Bool, not, nat_lt, List, [], ◌∷◌, None, filter, if◌then◌else◌, length}
 use Rattle.std.specs.List.{list_any}
 use Rattle.go_board.specs.declared.colour.Colour.{Colour}
 use Rattle.go_board.specs.declared.vertex.Vertex.{Vertex}
 use Rattle.go_board.specs.declared.vertex.Vertex.TheVariants.{Pass, At}
 use Rattle.go_board.specs.Chains.{liberties}
 use Rattle.go_board.specs.Colours.{Colouring, other}
-use Rattle.go_board.specs.Points.{point_at}
+use Rattle.go_board.specs.declared.point.Point.{Point}
+use Rattle.go_board.specs.Points.{number_of, point_at}
 use Rattle.go_board.specs.Reaching.{area, has_colour, moved, points}
 use Rattle.go_game.specs.Legal.{is_legal}
-use Rattle.go_game.specs.Standings.{Standing, board_of}
+use Rattle.go_game.specs.Standings.{IsLegal, Standing, board_of}
 
 -- the colour may play on the point with this number
 abbrev pub may_play : Standing → Colour → ℕ → Bool
@@ -62,3 +63,22 @@ first_or_pass n (p ∷ plays) = At (point_at n p)
 -- first in point order; a pass where there is none
 unfoldable pub chosen : Standing → Colour → Vertex
 chosen s c = first_or_pass s.lines (filter (raises_margin s c) (filter (is_best s c) (legal_plays s c)))
+
+-- the play on p is better than the one on q: a greater lead, or the same with more liberties
+abbrev pub IsBetter : Standing → Colour → Point → Point → Type 0
+IsBetter s c p q =
+    let i = number_of s.lines p in
+    let j = number_of s.lines q in
+    (lead_after s c j <ℤ lead_after s c i) ⊎ ((lead_after s c i ≡ lead_after s c j) × (liberties_after s c j < liberties_after s c i))
+
+-- the play is legal and raises the margin, none is better, and each before it is worse
+pub record IsChosenPlay (s : Standing) (c : Colour) (p : Point) : Type 0 where
+  pub legal : IsLegal s c (At p)
+  pub raises : lead_of s c <ℤ lead_after s c (number_of s.lines p)
+  pub best : (q : Point) → IsLegal s c (At q) → IsBetter s c q p → ⊥
+  pub first : (q : Point) → IsLegal s c (At q) → number_of s.lines q < number_of s.lines p → IsBetter s c p q
+
+-- the rule of the choice: such a play, or a pass where no play raises the margin
+abbrev pub IsChoice : Standing → Colour → Vertex → Type 0
+IsChoice s c Pass = (p : Point) → IsLegal s c (At p) → lead_after s c (number_of s.lines p) ≤ℤ lead_of s c
+IsChoice s c (At p) = IsChosenPlay s c p
