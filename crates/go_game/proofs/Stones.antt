@@ -1,14 +1,26 @@
 -- A board on which black stones alone were placed.
-use Rattle.std.proofs.Common.{arith, ◌≡◌, ◌<◌, ◌≤◌, ◌+◌, ◌*◌, ◌∙◌, ◌⊎◌, ◌&&◌, not, false, inl, inr, ℕ, zero, suc, List, [], ◌∷◌, ◌++◌, Option, Some, None, length, refl, ap, replicate}
+use Rattle.std.proofs.Common.{arith, Bool, true, if◌then◌else◌, ◌||◌, sym, ◌≡◌, ◌<◌, ◌≤◌, ◌+◌, ◌*◌, ◌∙◌, ◌⊎◌, ◌&&◌, not, false, inl, inr, ℕ, zero, suc, List, [], ◌∷◌, ◌++◌, Option, Some, None, length, refl, ap, replicate}
 use Rattle.std.specs.Prelude.{slice_set}
-use Rattle.std.proofs.lemmas.List.{get_or_past, length-set}
+use Rattle.std.proofs.lemmas.Bool.Decides.{eqb_tells}
+use Rattle.std.proofs.lemmas.Grind.{get_or-set_at}
+use Rattle.std.proofs.lemmas.List.{get_or_past, get_or-set_other, length-set}
+use Rattle.std.proofs.lemmas.List.FromFn.{fill_by_all}
 use Rattle.go_board.specs.declared.colour.Colour.{Colour}
 use Rattle.go_board.specs.declared.colour.Colour.TheVariants.{Black}
 use Rattle.go_board.specs.declared.point.Point.{Point}
 use Rattle.go_board.specs.Colours.{Colouring, colour_at}
 use Rattle.go_board.specs.Points.{number_of}
 use Rattle.go_board.specs.Reaching.{is_dead, is_same, reaches}
-use Rattle.go_game.specs.Handicaps.{with_black, stones_on}
+use Rattle.go_game.specs.Handicaps.{is_listed, stones_on}
+
+-- the colouring with a black stone on each of these points
+abbrev pub with_black : ℕ → Colouring → List Point → Colouring
+with_black n g [] = g
+with_black n g (p ∷ points) = with_black n (slice_set g (number_of n p) (Some Black)) points
+
+-- from an empty board
+abbrev pub laid : ℕ → List Point → Colouring
+laid n points = with_black n (replicate (n * n) None) points
 
 -- the stones are placed one after the other
 pub with_black-more : (n : ℕ) (g : Colouring) (points : List Point) (p : Point) → with_black n g (points ++ p ∷ []) ≡ slice_set (with_black n g points) (number_of n p) (Some Black)
@@ -76,20 +88,54 @@ empty_length : (m : ℕ) → length (replicate {A = Option Colour} m None) ≡ m
 empty_length zero = refl
 empty_length (suc m) = ap suc (empty_length m)
 
-pub stones_plain : (n : ℕ) (points : List Point) (k : ℕ) → IsPlain (colour_at (stones_on n points) k)
+pub stones_plain : (n : ℕ) (points : List Point) (k : ℕ) → IsPlain (colour_at (laid n points) k)
 stones_plain n points = with_black-plain n (replicate (n * n) None) points (empty_plain (n * n))
 
-pub stones_leave : (n : ℕ) (points : List Point) → length points < n * n → (k : ℕ) × (k < n * n) × (colour_at (stones_on n points) k ≡ None)
+pub stones_leave : (n : ℕ) (points : List Point) → length points < n * n → (k : ℕ) × (k < n * n) × (colour_at (laid n points) k ≡ None)
 stones_leave n points few =
-    let long : length (stones_on n points) ≡ n * n = with_black-length n (replicate (n * n) None) points ∙ empty_length (n * n) in
+    let long : length (laid n points) ≡ n * n = with_black-length n (replicate (n * n) None) points ∙ empty_length (n * n) in
     let count = with_black-count n (replicate (n * n) None) points in
     let none = empty_count (n * n) in
-    let found = some_empty (stones_on n points) (omega (arith, long, count, none, few)) in
+    let found = some_empty (laid n points) (omega (arith, long, count, none, few)) in
     (found.0, let low = found.1 in omega (arith, low, long), found.2)
 
 -- no point past the board is dead
-pub past_alive : (n : ℕ) (points : List Point) (k : ℕ) → n * n ≤ k → is_dead n (stones_on n points) k ≡ false
+pub past_alive : (n : ℕ) (points : List Point) (k : ℕ) → n * n ≤ k → is_dead n (laid n points) k ≡ false
 past_alive n points k past =
-    let long : length (stones_on n points) ≡ n * n = with_black-length n (replicate (n * n) None) points ∙ empty_length (n * n) in
-    let none : colour_at (stones_on n points) k ≡ None = get_or_past (stones_on n points) k None (omega (arith, long, past)) in
-    ap (λ (c : Option Colour). not (is_same c None) && not (reaches n (stones_on n points) k None)) none
+    let long : length (laid n points) ≡ n * n = with_black-length n (replicate (n * n) None) points ∙ empty_length (n * n) in
+    let none : colour_at (laid n points) k ≡ None = get_or_past (laid n points) k None (omega (arith, long, past)) in
+    ap (λ (c : Option Colour). not (is_same c None) && not (reaches n (laid n points) k None)) none
+
+-- each point is black where it is listed, and else as before
+black_at : (n : ℕ) (g : Colouring) (listed : List Point) (k : ℕ) → k < length g → colour_at (with_black n g listed) k ≡ (if is_listed n listed k then Some Black else colour_at g k)
+black_at n g [] k low = refl
+black_at n g (p ∷ listed) k low =
+    let rest = is_listed n listed k in
+    let placed = slice_set g (number_of n p) (Some Black) in
+    let long = length-set g (number_of n p) (Some Black) in
+    black_at n placed listed k (omega (arith, long, low)) ∙ elim (eqb_tells (number_of n p) k) [
+      | inl here ↦
+          ap (λ c. if rest then Some Black else c) (get_or-set_at g (number_of n p) k (Some Black) None (sym here.1) (omega (arith, here.1, low)))
+          ∙ always rest
+          ∙ ap (λ b. if b || rest then Some Black else colour_at g k) (sym here.0)
+      | inr there ↦
+          ap (λ c. if rest then Some Black else c) (get_or-set_other g (number_of n p) k (Some Black) None (λ e. there.1 (sym e)))
+          ∙ ap (λ b. if b || rest then Some Black else colour_at g k) (sym there.0)
+    ]
+  where
+    always : (b : Bool) → (if b then Some Black else Some Black) ≡ Some Black
+    always true = refl
+    always false = refl
+
+none_at : (m k : ℕ) → colour_at (replicate m None) k ≡ None
+none_at zero k = refl
+none_at (suc m) zero = refl
+none_at (suc m) (suc k) = none_at m k
+
+-- the stones that were laid are those that are listed
+pub laid_is : (n : ℕ) (listed : List Point) → laid n listed ≡ stones_on n listed
+unfolding stones_on
+laid_is n listed =
+    let empty = empty_length (n * n) in
+    fill_by_all (λ k. if is_listed n listed k then Some Black else None) (laid n listed) (n * n) None (with_black-length n (replicate (n * n) None) listed ∙ empty)
+    (λ k low. black_at n (replicate (n * n) None) listed k (omega (arith, low, empty)) ∙ ap (λ c. if is_listed n listed k then Some Black else c) (none_at (n * n) k))

@@ -1,9 +1,11 @@
 -- Where handicap stones stand.
-use Rattle.std.specs.Prelude.{◌-◌, ◌*◌, ◌/◌, ◌%◌, ◌++◌, ◌==◌, ◌&&◌, ◌||◌, ℕ, Bool, List, [], ◌∷◌, Option, Some, None, if◌then◌else◌, nat_le, nat_lt, replicate, slice_set, take}
+use Rattle.std.specs.Prelude.{◌-◌, ◌/◌, ◌%◌, ◌++◌, ◌==◌, ◌&&◌, ◌||◌, ℕ, Bool, List, [], ◌∷◌, Option, Some, None, if◌then◌else◌, map, nat_le, nat_lt, take}
+use Rattle.std.specs.List.{list_any}
 use Rattle.go_board.specs.declared.colour.Colour.TheVariants.{Black}
 use Rattle.go_board.specs.declared.point.Point.{Point}
 use Rattle.go_board.specs.Colours.{Colouring}
 use Rattle.go_board.specs.Points.{number_of}
+use Rattle.go_board.specs.Reaching.{points}
 
 -- the most handicap stones on a board of n lines
 abbrev pub greatest : ℕ → ℕ
@@ -51,11 +53,10 @@ handicap_points n number =
 abbrev pub fixed : ℕ → ℕ → Option (List Point)
 fixed n number = if nat_le 2 number && nat_le number (greatest n) then Some (handicap_points n number) else None
 
--- the colouring with a black stone on each of these points
-abbrev pub with_black : ℕ → Colouring → List Point → Colouring
-with_black n g [] = g
-with_black n g (p ∷ points) = with_black n (slice_set g (number_of n p) (Some Black)) points
+-- a point with this number is among the listed ones
+abbrev pub is_listed : ℕ → List Point → ℕ → Bool
+is_listed n listed k = list_any (λ p. number_of n p == k) listed
 
--- an empty board of n lines with black stones on these points
-abbrev pub stones_on : ℕ → List Point → Colouring
-stones_on n points = with_black n (replicate (n * n) None) points
+-- a board of n lines with a black stone on each listed point, and no other stone
+unfoldable pub stones_on : ℕ → List Point → Colouring
+stones_on n listed = map (λ k. if is_listed n listed k then Some Black else None) (points n)

@@ -1,5 +1,5 @@
 use Rattle.std.proofs.Common.{◌≡◌, take}
-use Rattle.go_game.specs.Handicaps.{with_black}
+use Rattle.go_game.proofs.Stones.{with_black}
 use Rattle.go_game.proofs.handicap.stones_on.Given as goal
 
 abbrev pub invariant-loop-point : goal.invariant-loop-point
