@@ -47,9 +47,9 @@ fn ahead(own: u16, theirs: u16) -> i32
 }
 
 impl<A: Allocator + Copy> Game<A> {
-    ghost use Rattle.go_game.specs.Choices.{chosen, lead_of, liberties_on};
+    ghost use Rattle.go_game.specs.Choices.{chosen, lead_of};
     ghost use Rattle.go_game.specs.Legal.{is_legal};
-    ghost use Rattle.go_game.specs.Standings.{IsLegal, board_of, with_move};
+    ghost use Rattle.go_game.specs.Standings.{IsLegal, with_move};
     ghost use Rattle.go_game.specs.Trials.{IsBestTrial, tried};
 
     /// Whether the rules allow a move; one off the board isn't legal. The game is used for a trial,

@@ -1,4 +1,4 @@
-ghost use Rattle.std.specs.Prelude.{◌≡◌, ◌≢◌, ◌<◌, ◌≤◌, ◌++◌, ◌∷◌, ◌*◌, ◌^◌, [], ◌↔◌, ℕ, ℤ, pos, false, Some, None, Ok, Err, IfOk, IfErr, IfNone, IfSome, MatchOption, OnErr, OnOk, Contains, length, map, slice_get};
+ghost use Rattle.std.specs.Prelude.{◌≡◌, ◌<◌, ◌++◌, ◌∷◌, ◌*◌, ◌^◌, [], ◌↔◌, ℕ, pos, false, Err, IfOk, IfErr, IfNone, IfSome, OnErr, OnOk, Contains, length, slice_get};
 
 use crate::prisoners::Prisoners;
 use crate::step::Step;
@@ -37,7 +37,7 @@ impl<A: Allocator + Copy> Model for Game<A> {
 
 impl<A: Allocator + Copy> Game<A> {
     ghost use Rattle.go_board.specs.Sizes.{lines_of};
-    ghost use Rattle.go_board.specs.Colours.{colour_at, other};
+    ghost use Rattle.go_board.specs.Colours.{colour_at};
     ghost use Rattle.go_board.specs.Points.{IsOn, number_of};
     ghost use Rattle.go_board.specs.Clearing.{IsFirstDead};
     ghost use Rattle.go_board.specs.Reaching.{is_dead, is_liberty_of, joined};
