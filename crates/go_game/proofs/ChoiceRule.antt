@@ -137,3 +137,7 @@ module _ (s : Standing) (c : Colour)
 
   pub choice_rule : (v : Vertex) → (v ≡ chosen s c) ↔ IsChoice s c v
   choice_rule v = ((λ e. let found = best_to (s.lines * s.lines) in subst (IsChoice s c) (sym e) (rule_at found.0 found.1)), only v)
+
+pub rule_legal : (s : Standing) (c : Colour) (v : Vertex) → IsChoice s c v → IsLegal s c v
+rule_legal s c Pass h = tt
+rule_legal s c (At p) h = h.legal

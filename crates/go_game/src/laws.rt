@@ -33,3 +33,10 @@ pub fn choice_by_the_rule()
 {
     points_by_number();
 }
+
+/// And it is legal.
+pub fn choice_is_legal()
+    ensures { (s : Standing) (c : Colour) → IsLegal s c (chosen s c) }
+{
+    choice_by_the_rule();
+}
