@@ -3,6 +3,6 @@ pub mod Conversations
 pub mod Answering
 pub mod Progressing
 pub mod Running
-pub mod Legal
 pub mod Moves
+pub mod Choices
 pub mod Starting

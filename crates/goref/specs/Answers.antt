@@ -4,7 +4,7 @@ use Rattle.std.specs.List.{join_with_byte}
 use Rattle.goref.specs.declared.decision.Decision.{Decision}
 use Rattle.goref.specs.declared.decision.Decision.TheVariants.{Done, Ends, Tells, Refused}
 use Rattle.goref.specs.declared.decision.Fact.{Fact}
-use Rattle.goref.specs.declared.decision.Fact.TheVariants.{Protocol, Program, Release, Commands, Known, Score, Board, Chains, Places}
+use Rattle.goref.specs.declared.decision.Fact.TheVariants.{Protocol, Program, Release, Commands, Known, Score, Board, Chains, Places, Vertex as Chosen, Plays}
 use Rattle.goref.specs.declared.decision.Refusal.{Refusal}
 use Rattle.goref.specs.declared.decision.Refusal.TheVariants.{LineTooLong, UnknownCommand, SyntaxError, UnacceptableSize, IllegalMove, CannotUndo, BoardNotEmpty, InvalidNumber, BadVertexList, OutOfMemory}
 use Rattle.go_game.specs.Standings.{Standing, board_of}
@@ -18,6 +18,8 @@ use Rattle.goref_results.specs.Results.{result_text}
 use Rattle.goref_results.specs.Diagrams.{diagram}
 use Rattle.goref_results.specs.ChainLines.{chain_lines}
 use Rattle.goref_results.specs.Places.{places_text}
+use Rattle.goref_results.specs.Plays.{plays_text}
+use Rattle.go_board.specs.Vertices.{vertex_word}
 use Rattle.goref.specs.Decisions.{Decided, keeps, decided, MayLackMemory}
 
 abbrev pub refusal_text : Refusal → List ℕ
@@ -47,6 +49,8 @@ fact_text Score s = score_word (margin_of s)
 fact_text Board s = diagram s
 fact_text Chains s = chain_lines s.lines (board_of s)
 fact_text (Places number) s = places_text (fixed s.lines number)
+fact_text (Chosen v) s = vertex_word v
+fact_text (Plays marks) s = plays_text s.lines marks
 
 -- the id in front of an answer, without leading zeros
 abbrev pub id_text : Option ℕ → List ℕ

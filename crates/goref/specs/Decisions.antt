@@ -6,7 +6,7 @@ use Rattle.goref.specs.declared.command.Command.{Command}
 use Rattle.goref.specs.declared.command.Command.TheVariants as command
 use Rattle.goref.specs.declared.decision.Decision.{Decision}
 use Rattle.goref.specs.declared.decision.Decision.TheVariants.{Done, Ends, Tells, Refused}
-use Rattle.goref.specs.declared.decision.Fact.TheVariants.{Protocol, Program, Release, Commands, Known, Score, Board, Chains, Places}
+use Rattle.goref.specs.declared.decision.Fact.TheVariants.{Protocol, Program, Release, Commands, Known, Score, Board, Chains, Places, Vertex as Chosen, Plays}
 use Rattle.go_game.specs.declared.errors.PlayError.{PlayError}
 use Rattle.go_game.specs.declared.errors.PlayError.TheVariants.{OffBoard, Occupied, Repeats, Memory}
 use Rattle.goref.specs.declared.decision.Refusal.{Refusal}
@@ -17,13 +17,15 @@ use Rattle.go_board.specs.declared.vertex.Vertex.{Vertex}
 use Rattle.go_board.specs.Vertices.{vertex_of}
 use Rattle.go_board.specs.declared.point.Point.{Point}
 use Rattle.go_game.specs.Handicaps.{fixed, greatest}
-use Rattle.go_game.specs.Standings.{Standing, is_vacant, with_move, without_last}
+use Rattle.go_game.specs.Standings.{IsOccupied, IsOffBoard, Standing, is_vacant, with_move, without_last}
 use Rattle.goref.specs.Starts.{begun}
 use Rattle.goref.specs.Handicaps.{with_stones}
 use Rattle.goref_lines.specs.Stones.{stones_listed}
 use Rattle.goref_lines.specs.declared.stones.ListError.{ListError}
 use Rattle.goref_lines.specs.declared.stones.ListError.TheVariants.{Malformed, Bad}
-use Rattle.goref.specs.Legal.{is_legal, is_open}
+use Rattle.go_game.specs.Choices.{chosen}
+use Rattle.go_game.specs.Legal.{is_legal}
+use Rattle.goref_results.specs.Plays.{marked_plays}
 use Rattle.goref_lines.specs.Words.{int_of, colour_of}
 use Rattle.go_sgf.specs.Numbers.{hundredths_of}
 use Rattle.goref_lines.specs.Requests.{Asked}
@@ -74,6 +76,21 @@ abbrev pub decided_play : Standing → Option Colour → Option Vertex → Decid
 decided_play s None vertex = keeps s (Refused SyntaxError)
 decided_play s (Some c) None = keeps s (Refused SyntaxError)
 decided_play s (Some c) (Some v) = decided_move s c v
+
+-- `genmove`: the plain choice for a colour is played
+abbrev pub decided_genmove : Standing → Option Colour → Decided
+decided_genmove s None = keeps s (Refused SyntaxError)
+decided_genmove s (Some c) = record { decision = Tells (Chosen (chosen s c)); standing = with_move s (record { colour = c; vertex = chosen s c }) }
+
+-- `reg_genmove`: the plain choice for a colour, which isn't played
+abbrev pub decided_choice : Standing → Option Colour → Decided
+decided_choice s None = keeps s (Refused SyntaxError)
+decided_choice s (Some c) = keeps s (Tells (Chosen (chosen s c)))
+
+-- `goref-legal`: the legal plays of a colour
+abbrev pub decided_legal : Standing → Option Colour → Decided
+decided_legal s None = keeps s (Refused SyntaxError)
+decided_legal s (Some c) = keeps s (Tells (Plays (marked_plays s c)))
 
 -- `undo`: the last of these moves is taken back
 abbrev pub decided_undo : Standing → List Move → Decided
@@ -126,7 +143,9 @@ decided_on s command.Boardsize arguments content = decided_size s (option_and_th
 decided_on s command.ClearBoard arguments content = comes_to (begun s.lines s.komi)
 decided_on s command.Komi arguments content = decided_komi s (option_and_then hundredths_of (slice_get arguments 0))
 decided_on s command.Play arguments content = decided_play s (option_and_then colour_of (slice_get arguments 0)) (option_and_then vertex_of (slice_get arguments 1))
+decided_on s command.Genmove arguments content = decided_genmove s (option_and_then colour_of (slice_get arguments 0))
 decided_on s command.Undo arguments content = decided_undo s s.moves
+decided_on s command.RegGenmove arguments content = decided_choice s (option_and_then colour_of (slice_get arguments 0))
 decided_on s command.FixedHandicap arguments content = decided_fixed s (option_and_then int_of (slice_get arguments 0))
 decided_on s command.PlaceFreeHandicap arguments content = decided_free s (option_and_then int_of (slice_get arguments 0))
 decided_on s command.SetFreeHandicap arguments content = decided_stones s (stones_listed s.lines arguments)
@@ -137,6 +156,7 @@ decided_on s command.TimeLeft arguments content =
 decided_on s command.FinalScore arguments content = keeps s (Tells Score)
 decided_on s command.Showboard arguments content = keeps s (Tells Board)
 decided_on s command.Chains arguments content = keeps s (Tells Chains)
+decided_on s command.Legal arguments content = decided_legal s (option_and_then colour_of (slice_get arguments 0))
 
 -- what is decided on a name, which may be that of no command
 abbrev pub decided_if : Standing → Option Command → List (List ℕ) → Content → Decided
@@ -151,7 +171,7 @@ decided s asked content = decided_if s (option_and_then command_of asked.name) a
 abbrev pub LacksMemoryAt : Standing → Option Colour → Option Vertex → Type 0
 LacksMemoryAt s None vertex = ⊥
 LacksMemoryAt s (Some c) None = ⊥
-LacksMemoryAt s (Some c) (Some v) = is_open s v ≡ true
+LacksMemoryAt s (Some c) (Some v) = (IsOffBoard s v → ⊥) × (IsOccupied s v → ⊥)
 
 abbrev pub is_refusal : Decision → Bool
 is_refusal (Refused why) = true
@@ -164,6 +184,9 @@ LacksMemoryFor d = is_refusal d.decision ≡ false
 -- a command that may be refused for want of memory
 abbrev pub LacksMemoryOn : Standing → Command → List (List ℕ) → Content → Type 0
 LacksMemoryOn s command.Play arguments content = LacksMemoryAt s (option_and_then colour_of (slice_get arguments 0)) (option_and_then vertex_of (slice_get arguments 1))
+LacksMemoryOn s command.Genmove arguments content = LacksMemoryFor (decided_genmove s (option_and_then colour_of (slice_get arguments 0)))
+LacksMemoryOn s command.RegGenmove arguments content = LacksMemoryFor (decided_choice s (option_and_then colour_of (slice_get arguments 0)))
+LacksMemoryOn s command.Legal arguments content = LacksMemoryFor (decided_legal s (option_and_then colour_of (slice_get arguments 0)))
 LacksMemoryOn s command.FixedHandicap arguments content = LacksMemoryFor (decided_fixed s (option_and_then int_of (slice_get arguments 0)))
 LacksMemoryOn s command.PlaceFreeHandicap arguments content = LacksMemoryFor (decided_free s (option_and_then int_of (slice_get arguments 0)))
 LacksMemoryOn s command.SetFreeHandicap arguments content = LacksMemoryFor (decided_stones s (stones_listed s.lines arguments))

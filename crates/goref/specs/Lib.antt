@@ -1,6 +1,5 @@
 pub mod Lines
 pub mod Starts
-pub mod Legal
 pub mod Contents
 pub mod Handicaps
 pub mod Commands

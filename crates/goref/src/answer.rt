@@ -2,14 +2,15 @@ ghost use Rattle.std.specs.Prelude.{◌≡◌, ◌++◌, codes};
 ghost use Rattle.go_board.specs.Device.{Adds, Sent, failures_after, place};
 ghost use Rattle.std.specs.List.{join_with_byte};
 ghost use Rattle.goref.specs.Answers.{id_text, refusal_text, fact_text, decision_text};
+ghost use Rattle.go_board.specs.Vertices.{vertex_word};
 ghost use Rattle.goref.specs.Commands.{command_names};
 ghost use Rattle.goref_results.specs.Results.{result_text};
 
 use crate::command::listing;
 use crate::decision::{Decision, Fact, Refusal};
 use crate::session::Session;
-use go_board::{Pen, Sink, WriteFault};
-use goref_results::{put_board, put_chains, put_places, put_score};
+use go_board::{Pen, Sink, Vertex, WriteFault, vertex_text};
+use goref_results::{put_board, put_chains, put_places, put_plays, put_score};
 use itoa::Buffer;
 use std::alloc::Allocator;
 
@@ -124,7 +125,18 @@ fn put_fact<A: Allocator + Copy, W: Sink>(
         Fact::Board => put_board(session.game(), pen, writer),
         Fact::Chains => put_chains(session.game(), pen, writer),
         Fact::Places(number) => put_places(session.game(), number, pen, writer),
+        Fact::Vertex(vertex) => put_vertex(vertex, pen, writer),
+        Fact::Plays(plays) => put_plays(session.game().size(), &plays, pen, writer),
     }
+}
+
+fn put_vertex<W: Sink>(vertex: Vertex, pen: &mut Pen, writer: &mut W)
+    ensures { Adds (place pen.old.has_failed (W.taken writer.old) (W.failures writer.old))
+        (place pen.new.has_failed (W.taken writer.new) (W.failures writer.new))
+        (result_text (vertex_word vertex)) }
+{
+    pen.put(b" ", writer);
+    pen.put(vertex_text(vertex).as_bytes(), writer);
 }
 
 fn put_commands<W: Sink>(pen: &mut Pen, writer: &mut W)

@@ -15,7 +15,9 @@ pub enum Command {
     ClearBoard,
     Komi,
     Play,
+    Genmove,
     Undo,
+    RegGenmove,
     FixedHandicap,
     PlaceFreeHandicap,
     SetFreeHandicap,
@@ -24,11 +26,12 @@ pub enum Command {
     TimeSettings,
     TimeLeft,
     Chains,
+    Legal,
 }
 
 /// The names of all commands, each on a line of its own.
 const LISTING: &[u8] =
-    b"protocol_version\nname\nversion\nknown_command\nlist_commands\nquit\nboardsize\nclear_board\nkomi\nplay\nundo\nfixed_handicap\nplace_free_handicap\nset_free_handicap\nfinal_score\nshowboard\ntime_settings\ntime_left\ngoref-chains";
+    b"protocol_version\nname\nversion\nknown_command\nlist_commands\nquit\nboardsize\nclear_board\nkomi\nplay\ngenmove\nundo\nreg_genmove\nfixed_handicap\nplace_free_handicap\nset_free_handicap\nfinal_score\nshowboard\ntime_settings\ntime_left\ngoref-chains\ngoref-legal";
 
 /// The command of this name.
 pub fn command_named(name: &[u8]) -> Option<Command>
@@ -64,8 +67,14 @@ pub fn command_named(name: &[u8]) -> Option<Command>
     if name == b"play".as_slice() {
         return Some(Command::Play);
     }
+    if name == b"genmove".as_slice() {
+        return Some(Command::Genmove);
+    }
     if name == b"undo".as_slice() {
         return Some(Command::Undo);
+    }
+    if name == b"reg_genmove".as_slice() {
+        return Some(Command::RegGenmove);
     }
     if name == b"fixed_handicap".as_slice() {
         return Some(Command::FixedHandicap);
@@ -90,6 +99,9 @@ pub fn command_named(name: &[u8]) -> Option<Command>
     }
     if name == b"goref-chains".as_slice() {
         return Some(Command::Chains);
+    }
+    if name == b"goref-legal".as_slice() {
+        return Some(Command::Legal);
     }
     None
 }

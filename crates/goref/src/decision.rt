@@ -1,5 +1,8 @@
+use go_board::Vertex;
+use goref_results::Plays;
+
 /// What is decided on a command. Its text is written afterwards.
-#[derive(Clone, Copy, Debug, PartialEq, Eq)]
+#[derive(Clone, Copy)]
 pub enum Decision {
     /// Done, with nothing to tell.
     Done,
@@ -12,7 +15,7 @@ pub enum Decision {
 }
 
 /// What an answer tells.
-#[derive(Clone, Copy, Debug, PartialEq, Eq)]
+#[derive(Clone, Copy)]
 pub enum Fact {
     /// The version of the protocol.
     Protocol,
@@ -32,6 +35,10 @@ pub enum Fact {
     Chains,
     /// The places of so many handicap stones.
     Places(u32),
+    /// A vertex.
+    Vertex(Vertex),
+    /// The plays that are legal.
+    Plays(Plays),
 }
 
 /// Why a command is refused.

@@ -5,7 +5,6 @@ mod answer;
 mod command;
 mod decision;
 mod flow;
-pub mod laws;
 mod runs;
 mod session;
 mod shelf;

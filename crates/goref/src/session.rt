@@ -12,7 +12,7 @@ ghost use Rattle.goref.specs.Commands.{command_of};
 ghost use Rattle.go_board.specs.Device.{failures_after};
 ghost use Rattle.goref.specs.Answers.{DecidesLine, is_end, line_id};
 ghost use Rattle.goref.specs.Replies.{Answered, flow_of};
-ghost use Rattle.goref.specs.Decisions.{Decides, DecidesPlay, MayDecide, decided_fixed, decided_free, decided_handicap, decided_komi, decided_known, decided_left, decided_settings, decided_size, decided_stones, decided_undo, move_refusal};
+ghost use Rattle.goref.specs.Decisions.{Decides, DecidesPlay, MayDecide, decided_choice, decided_fixed, decided_free, decided_genmove, decided_handicap, decided_komi, decided_known, decided_left, decided_legal, decided_settings, decided_size, decided_stones, decided_undo, move_refusal};
 ghost use Rattle.goref.specs.Handicaps.{with_stones};
 ghost use Rattle.goref_lines.specs.Stones.{stones_listed};
 ghost use Rattle.go_board.specs.Points.{IsOn};
@@ -23,9 +23,11 @@ use crate::decision::{Decision, Fact, Refusal};
 use crate::flow::Flow;
 use crate::shelf::Fetched;
 use go_board::{Colour, Move, Point, Sink, Size, Vertex, VertexError, WriteFault, read_vertex};
+use go_game::laws::legal_by_the_rules;
 use go_game::{Game, PlayError, SetupError, fixed_points, greatest_handicap, stones_on};
 use go_sgf::hundredths_of;
 use goref_lines::{Line, ListError, Request, id_of_cut, read_colour, read_int, read_stones};
+use goref_results::legal_plays;
 use std::alloc::Allocator;
 use std::marker::Model;
 
@@ -111,7 +113,9 @@ impl<A: Allocator + Copy> Session<A> {
             Some(Command::ClearBoard) => self.decide_clear(),
             Some(Command::Komi) => self.decide_komi(request),
             Some(Command::Play) => self.decide_play(request),
+            Some(Command::Genmove) => self.decide_genmove(request),
             Some(Command::Undo) => self.decide_undo(),
+            Some(Command::RegGenmove) => self.decide_choice(request),
             Some(Command::FixedHandicap) => self.decide_fixed(request),
             Some(Command::PlaceFreeHandicap) => self.decide_free(request),
             Some(Command::SetFreeHandicap) => self.decide_stones(request),
@@ -120,6 +124,7 @@ impl<A: Allocator + Copy> Session<A> {
             Some(Command::FinalScore) => Decision::Tells(Fact::Score),
             Some(Command::Showboard) => Decision::Tells(Fact::Board),
             Some(Command::Chains) => Decision::Tells(Fact::Chains),
+            Some(Command::Legal) => self.decide_legal(request),
         }
     }
 
@@ -180,9 +185,63 @@ impl<A: Allocator + Copy> Session<A> {
         ensures { DecidesPlay self.old (Some made.colour) (Some made.vertex)
             (record { decision = result; standing = self.new }) }
     {
+        legal_by_the_rules();
         match self.game.play(made) {
             Ok(_) => Decision::Done,
             Err(error) => Decision::Refused(refusal_of(error)),
+        }
+    }
+
+    fn decide_genmove(&mut self, request: &Request) -> Decision
+        ensures { MayDecide self.old
+            (decided_genmove self.old (option_and_then colour_of (slice_get request.now.arguments 0)))
+            (record { decision = result; standing = self.new }) }
+    {
+        match colour_argument(request, 0) {
+            None => Decision::Refused(Refusal::SyntaxError),
+            Some(colour) => self.play_choice(colour),
+        }
+    }
+
+    /// Plays the choice for a colour. It is legal, so want of memory alone can refuse it.
+    fn play_choice(&mut self, colour: Colour) -> Decision
+        ensures { MayDecide self.old (decided_genmove self.old (Some colour))
+            (record { decision = result; standing = self.new }) }
+    {
+        let Ok(vertex) = self.game.choose(colour) else {
+            return Decision::Refused(Refusal::OutOfMemory);
+        };
+        match self.game.play(Move { colour, vertex }) {
+            Ok(_) => Decision::Tells(Fact::Vertex(vertex)),
+            Err(_) => Decision::Refused(Refusal::OutOfMemory),
+        }
+    }
+
+    fn decide_choice(&mut self, request: &Request) -> Decision
+        ensures { MayDecide self.old
+            (decided_choice self.old (option_and_then colour_of (slice_get request.now.arguments 0)))
+            (record { decision = result; standing = self.new }) }
+    {
+        match colour_argument(request, 0) {
+            None => Decision::Refused(Refusal::SyntaxError),
+            Some(colour) => match self.game.choose(colour) {
+                Ok(vertex) => Decision::Tells(Fact::Vertex(vertex)),
+                Err(_) => Decision::Refused(Refusal::OutOfMemory),
+            },
+        }
+    }
+
+    fn decide_legal(&mut self, request: &Request) -> Decision
+        ensures { MayDecide self.old
+            (decided_legal self.old (option_and_then colour_of (slice_get request.now.arguments 0)))
+            (record { decision = result; standing = self.new }) }
+    {
+        match colour_argument(request, 0) {
+            None => Decision::Refused(Refusal::SyntaxError),
+            Some(colour) => match legal_plays(&mut self.game, colour) {
+                Ok(plays) => Decision::Tells(Fact::Plays(plays)),
+                Err(_) => Decision::Refused(Refusal::OutOfMemory),
+            },
         }
     }
 

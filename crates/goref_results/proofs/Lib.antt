@@ -1,2 +1,4 @@
 pub mod Listing
 pub mod Earlier
+pub mod Marking
+pub mod Spaced

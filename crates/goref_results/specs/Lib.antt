@@ -2,3 +2,4 @@ pub mod Results
 pub mod Diagrams
 pub mod ChainLines
 pub mod Places
+pub mod Plays

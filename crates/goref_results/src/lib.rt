@@ -4,7 +4,10 @@
 
 mod chain_lines;
 mod diagram;
+pub mod laws;
+mod plays;
 mod results;
 
 pub use chain_lines::put_chains;
+pub use plays::{Plays, legal_plays, put_plays};
 pub use results::{put_board, put_places, put_score};

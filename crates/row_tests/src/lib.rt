@@ -14,6 +14,10 @@ mod handicaps;
 #[cfg(test)]
 mod lines;
 #[cfg(test)]
+mod matches;
+#[cfg(test)]
+mod plays;
+#[cfg(test)]
 mod records;
 #[cfg(test)]
 mod scripts;

@@ -1,0 +1,64 @@
+ghost use Rattle.std.specs.Prelude.{◌≡◌, ◌<◌, ◌*◌, [], IfOk, false, if◌then◌else◌, replicate, slice_index_or};
+ghost use Rattle.go_board.specs.Device.{Adds, place};
+ghost use Rattle.go_board.specs.Sizes.{lines_of};
+ghost use Rattle.goref_results.specs.ChainLines.{spaced_vertex};
+ghost use Rattle.goref_results.specs.Plays.{marked_plays, plays_text};
+ghost use Rattle.goref_results.specs.Results.{result_text};
+
+use go_board::{Colour, MAX_POINTS, Move, Pen, Point, Sink, Size, Vertex, vertex_text};
+use go_game::Game;
+use std::alloc::{AllocError, Allocator};
+
+/// For the number of each point, whether a play there is legal; not where the board has no such
+/// point.
+pub type Plays = [bool; MAX_POINTS];
+
+fn no_plays() -> Plays
+    ensures { result ≡ replicate MAX_POINTS false }
+{
+    [false; MAX_POINTS]
+}
+
+/// The legal plays of a colour. Each point is tried on the game, which holds afterwards what it
+/// held, also where there was no memory for a trial.
+pub fn legal_plays<A: Allocator + Copy>(
+    game: &mut Game<A>,
+    colour: Colour,
+) -> Result<Plays, AllocError>
+    ensures ok { IfOk result (λ plays. plays ≡ marked_plays game.old.standing colour) }
+    ensures same { game.new ≡ game.old }
+{
+    let size = game.size();
+    let mut plays = no_plays();
+    for number in 0..size.points() {
+        let vertex = Vertex::At(Point::numbered(size, number));
+        plays[usize::from(number)] = game.legal(Move { colour, vertex })?;
+    }
+    Ok(plays)
+}
+
+/// Writes the vertices of plays, each behind a space.
+pub fn put_plays<W: Sink>(size: Size, plays: &Plays, pen: &mut Pen, writer: &mut W)
+    ensures { Adds (place pen.old.has_failed (W.taken writer.old) (W.failures writer.old))
+        (place pen.new.has_failed (W.taken writer.new) (W.failures writer.new))
+        (result_text (plays_text (lines_of size) plays.now)) }
+{
+    for number in 0..size.points() {
+        put_if_play(size, plays, number, pen, writer);
+    }
+}
+
+/// Writes the vertex of a point behind a space, if a play there is legal.
+fn put_if_play<W: Sink>(size: Size, plays: &Plays, number: u16, pen: &mut Pen, writer: &mut W)
+    requires { number < lines_of size * lines_of size }
+    ensures { Adds (place pen.old.has_failed (W.taken writer.old) (W.failures writer.old))
+        (place pen.new.has_failed (W.taken writer.new) (W.failures writer.new))
+        (if slice_index_or plays.now number false
+        then spaced_vertex (lines_of size) number else []) }
+{
+    if plays[usize::from(number)] {
+        let at = Point::numbered(size, number);
+        pen.put(b" ", writer);
+        pen.put(vertex_text(Vertex::At(at)).as_bytes(), writer);
+    }
+}
