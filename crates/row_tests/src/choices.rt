@@ -139,8 +139,8 @@ fn plays<A: Allocator + Copy>(rt: &impl Abort, game: &mut Game<A>, made: Move) -
     }
 }
 
-/// Asks for the choice, which is this move; and again where there was no memory. How many times there
-/// was none. The game answers as its twin does, before and after.
+/// Asks for the choice, which is this move; and again where there was no memory. How many times
+/// there was none. The game answers as its twin does, before and after.
 fn asks_choice<A: Allocator + Copy, B: Allocator + Copy>(
     rt: &impl Abort,
     game: &mut Game<A>,
