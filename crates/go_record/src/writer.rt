@@ -1,0 +1,188 @@
+ghost use Rattle.std.specs.Prelude.{◌≡◌, ◌++◌, ◌∷◌, [], Some, if◌then◌else◌};
+ghost use Rattle.std.specs.List.{flat_map};
+ghost use Rattle.go_board.specs.Device.{Adds, Sent, failures_after, place};
+ghost use Rattle.go_board.specs.Points.{IsOn, number_of};
+ghost use Rattle.go_board.specs.Reaching.{has_colour, is_same};
+ghost use Rattle.go_board.specs.Sizes.{lines_of};
+ghost use Rattle.go_board.specs.Vertices.{IsOnBoard};
+ghost use Rattle.go_record.specs.Records.{colour_letter, point_value, record_body, record_of};
+ghost use Rattle.go_record.specs.Texts.{move_text, numbered_text, setting_text, stones_text, turn_text};
+
+use go_board::{Colour, Move, Pen, Point, Sink, Size, Vertex, WriteFault};
+use go_game::{Game, hundredths_text};
+use itoa::Buffer;
+use std::alloc::Allocator;
+
+/// Writes the record of a game, and LF: its size, komi, start and moves. On a fault the device took
+/// a front of that text. It takes no memory.
+pub fn write_record<A: Allocator + Copy, W: Sink>(
+    game: &Game<A>,
+    writer: &mut W,
+) -> Result<(), WriteFault>
+    ensures sent { Sent result (W.taken writer.old) (W.taken writer.new)
+        (record_of game.now.standing) }
+    ensures failures { W.failures writer.new ≡ failures_after result (W.failures writer.old) }
+{
+    let mut pen = Pen::new();
+    put_record(game, &mut pen, writer);
+    pen.put(b"\n", writer);
+    pen.finish()
+}
+
+/// Writes the record of a game without the LF behind it.
+pub fn put_record<A: Allocator + Copy, W: Sink>(game: &Game<A>, pen: &mut Pen, writer: &mut W)
+    ensures { Adds (place pen.old.has_failed (W.taken writer.old) (W.failures writer.old))
+        (place pen.new.has_failed (W.taken writer.new) (W.failures writer.new))
+        (record_body game.now.standing) }
+{
+    put_setting(game, pen, writer);
+    put_turn(game, pen, writer);
+    put_stones(game, b"AB", Colour::Black, pen, writer);
+    put_stones(game, b"AW", Colour::White, pen, writer);
+    put_moves(game, pen, writer);
+    pen.put(b")", writer);
+}
+
+fn put_setting<A: Allocator + Copy, W: Sink>(game: &Game<A>, pen: &mut Pen, writer: &mut W)
+    ensures { Adds (place pen.old.has_failed (W.taken writer.old) (W.failures writer.old))
+        (place pen.new.has_failed (W.taken writer.new) (W.failures writer.new))
+        (setting_text game.now.standing) }
+{
+    pen.put(b"(;GM[1]FF[4]SZ[", writer);
+    let mut digits = Buffer::new();
+    pen.put(digits.format(game.size().lines()).as_bytes(), writer);
+    pen.put(b"]KM[", writer);
+    pen.put(hundredths_text(game.komi()).as_bytes(), writer);
+}
+
+fn put_turn<A: Allocator + Copy, W: Sink>(game: &Game<A>, pen: &mut Pen, writer: &mut W)
+    ensures { Adds (place pen.old.has_failed (W.taken writer.old) (W.failures writer.old))
+        (place pen.new.has_failed (W.taken writer.new) (W.failures writer.new))
+        (turn_text game.now.standing) }
+{
+    pen.put(b"]PL[", writer);
+    pen.put(letter(game.start_mover()), writer);
+    pen.put(b"]", writer);
+}
+
+/// The letter of a colour, which is the name of its moves too.
+fn letter(colour: Colour) -> &'static [u8]
+    ensures { result.now ≡ colour_letter colour }
+{
+    match colour {
+        Colour::Black => b"B",
+        Colour::White => b"W",
+    }
+}
+
+/// Writes the stones of a colour at the start, if there are any, behind their property's name.
+fn put_stones<A: Allocator + Copy, W: Sink>(
+    game: &Game<A>,
+    name: &[u8],
+    colour: Colour,
+    pen: &mut Pen,
+    writer: &mut W,
+)
+    ensures { Adds (place pen.old.has_failed (W.taken writer.old) (W.failures writer.old))
+        (place pen.new.has_failed (W.taken writer.new) (W.failures writer.new))
+        (stones_text game.now.standing name.now colour) }
+{
+    let size = game.size();
+    let mut front = name;
+    for number in 0..size.points() {
+        front = put_if_coloured(
+            game,
+            Point::numbered(size, number),
+            colour,
+            front,
+            pen,
+            writer,
+        );
+    }
+}
+
+/// Writes a point that has a stone of this colour at the start, behind what is to stand in front of
+/// it, and gives what is to stand in front of the next.
+fn put_if_coloured<'a, A: Allocator + Copy, W: Sink>(
+    game: &Game<A>,
+    at: Point,
+    colour: Colour,
+    front: &'a [u8],
+    pen: &mut Pen,
+    writer: &mut W,
+) -> &'a [u8]
+    requires { IsOn game.now.standing.lines at }
+    ensures stone { Adds (place pen.old.has_failed (W.taken writer.old) (W.failures writer.old))
+        (place pen.new.has_failed (W.taken writer.new) (W.failures writer.new))
+        (if has_colour game.now.standing.start (number_of game.now.standing.lines at) (Some colour)
+        then front.now ++ (91 ∷ (point_value game.now.standing.lines at ++ 93 ∷ [])) else []) }
+    ensures next { result.now ≡ (if has_colour game.now.standing.start
+        (number_of game.now.standing.lines at) (Some colour) then [] else front.now) }
+{
+    if is_of(game.start_at(at), colour) {
+        pen.put(front, writer);
+        put_point(at, game.size(), pen, writer);
+        return b"";
+    }
+    front
+}
+
+/// Whether a point with this colour has a stone of that one.
+fn is_of(point: Option<Colour>, colour: Colour) -> bool
+    ensures { result ≡ is_same point (Some colour) }
+{
+    match point {
+        Some(stone) => stone == colour,
+        None => false,
+    }
+}
+
+fn put_point<W: Sink>(at: Point, size: Size, pen: &mut Pen, writer: &mut W)
+    requires { IsOn (lines_of size) at }
+    ensures { Adds (place pen.old.has_failed (W.taken writer.old) (W.failures writer.old))
+        (place pen.new.has_failed (W.taken writer.new) (W.failures writer.new))
+        (91 ∷ (point_value (lines_of size) at ++ 93 ∷ [])) }
+{
+    let row = size.lines() - 1 - at.row;
+    pen.put(&[b'[', b'a' + at.col, b'a' + row, b']'], writer);
+}
+
+fn put_moves<A: Allocator + Copy, W: Sink>(game: &Game<A>, pen: &mut Pen, writer: &mut W)
+    ensures { Adds (place pen.old.has_failed (W.taken writer.old) (W.failures writer.old))
+        (place pen.new.has_failed (W.taken writer.new) (W.failures writer.new))
+        (flat_map (move_text game.now.standing.lines) game.now.standing.moves) }
+{
+    for number in 0..game.move_count() {
+        put_numbered(game, number, pen, writer);
+    }
+}
+
+/// Writes the move with this number, if there is one.
+fn put_numbered<A: Allocator + Copy, W: Sink>(
+    game: &Game<A>,
+    number: usize,
+    pen: &mut Pen,
+    writer: &mut W,
+)
+    ensures { Adds (place pen.old.has_failed (W.taken writer.old) (W.failures writer.old))
+        (place pen.new.has_failed (W.taken writer.new) (W.failures writer.new))
+        (numbered_text game.now.standing number) }
+{
+    if let Some(made) = game.move_at(number) {
+        put_move(made, game.size(), pen, writer);
+    }
+}
+
+fn put_move<W: Sink>(made: Move, size: Size, pen: &mut Pen, writer: &mut W)
+    requires { IsOnBoard (lines_of size) made.vertex }
+    ensures { Adds (place pen.old.has_failed (W.taken writer.old) (W.failures writer.old))
+        (place pen.new.has_failed (W.taken writer.new) (W.failures writer.new))
+        (move_text (lines_of size) made) }
+{
+    pen.put(b";", writer);
+    pen.put(letter(made.colour), writer);
+    match made.vertex {
+        Vertex::Pass => pen.put(b"[]", writer),
+        Vertex::At(p) => put_point(p, size, pen, writer),
+    }
+}
