@@ -1,1 +1,4 @@
 pub mod Writes
+pub mod Searches
+pub mod Walking
+pub mod Lines

@@ -2,12 +2,13 @@ ghost use Rattle.std.specs.Prelude.{◌≡◌, ◌++◌, ◌∷◌, [], Some, if
 ghost use Rattle.std.specs.List.{flat_map};
 ghost use Rattle.go_board.specs.Device.{Adds, Sent, failures_after, place};
 ghost use Rattle.go_board.specs.Points.{IsOn, number_of};
-ghost use Rattle.go_board.specs.Reaching.{has_colour, is_same};
+ghost use Rattle.go_board.specs.Reaching.{has_colour};
 ghost use Rattle.go_board.specs.Sizes.{lines_of};
 ghost use Rattle.go_board.specs.Vertices.{IsOnBoard};
 ghost use Rattle.go_record.specs.Records.{colour_letter, point_value, record_body, record_of};
 ghost use Rattle.go_record.specs.Texts.{move_text, numbered_text, setting_text, stones_text, turn_text};
 
+use crate::start::is_of;
 use go_board::{Colour, Move, Pen, Point, Sink, Size, Vertex, WriteFault};
 use go_game::{Game, hundredths_text};
 use itoa::Buffer;
@@ -125,16 +126,6 @@ fn put_if_coloured<'a, A: Allocator + Copy, W: Sink>(
         return b"";
     }
     front
-}
-
-/// Whether a point with this colour has a stone of that one.
-fn is_of(point: Option<Colour>, colour: Colour) -> bool
-    ensures { result ≡ is_same point (Some colour) }
-{
-    match point {
-        Some(stone) => stone == colour,
-        None => false,
-    }
 }
 
 fn put_point<W: Sink>(at: Point, size: Size, pen: &mut Pen, writer: &mut W)

@@ -18,7 +18,7 @@ pub use cooking::{cook_simple, cook_text, escape};
 pub use error::SgfError;
 pub use hundredths::{MOST_HUNDREDTHS, hundredths_of};
 pub use limits::{MAX_DEPTH, MAX_RECORD};
-pub use numbers::{MAX_NUMBER, number_of};
+pub use numbers::{MAX_NUMBER, number_of, trim};
 pub use points::{point_of, points_of};
 pub use reader::read;
 pub use record::{Collection, Node, Property, Tree};

@@ -66,8 +66,8 @@ pub(crate) fn with_digit(value: u64, digit: u8, most: u64) -> u64
     (10 * value + u64::from(digit)).min(most)
 }
 
-/// The bytes between the white space at both ends.
-pub(crate) fn trim(bytes: &[u8]) -> &[u8]
+/// A value without the white space at both ends: space, HT, LF, VT, FF and CR.
+pub fn trim(bytes: &[u8]) -> &[u8]
     ensures { result.now ≡ trimmed bytes.now }
 {
     trim_end(after_space(bytes))

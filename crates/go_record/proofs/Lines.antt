@@ -1,0 +1,109 @@
+-- The events of a main line, node by node, and the game that they come to.
+use Rattle.std.proofs.Common.{◌≡◌, ◌∙◌, ◌<◌, ◌+◌, ◌*◌, ℕ, ℤ, true, false, List, [], ◌∷◌, ◌++◌, refl, sym, ap, subst, append_assoc, arith, length, get_or, take, drop, map}
+use Rattle.std.specs.Prelude.{Option, Some, None, Result, Ok, Err, IfOk, IfErr, ◌≢◌, codes, option_copied, replicate, slice_get, unwrap_or}
+use Rattle.std.specs.Borrow.{Bor}
+use Rattle.go_sgf.specs.View.{tree_of, trees_of}
+use Rattle.go_sgf.specs.declared.record.Tree.{Tree}
+use Rattle.go_game.specs.Standings.{GameValue}
+use Rattle.go_record.specs.declared.error.RecordError.{RecordError}
+use Rattle.std.proofs.lemmas.List.{append-nil, map-append, take-append-drop, take_more}
+use Rattle.std.proofs.lemmas.Grind.{common_steps}
+use Rattle.go_board.specs.Colours.{Colouring}
+use Rattle.go_sgf.specs.Record.{Property, Trees}
+use Rattle.go_record.specs.declared.error.RecordError.TheVariants.{BadKomi, BadSize, Memory, NotGo}
+use Rattle.go_record.specs.declared.state.Left.{Left}
+use Rattle.go_record.specs.Games.{IsGameOf, is_go, komi_in, lines_in, root_value}
+use Rattle.go_record.specs.MainLine.{Event, events_from, events_of, looked_at, main_line}
+use Rattle.go_record.specs.Progress.{left_by, line_from, seen}
+use Rattle.go_record.specs.Walks.{Outcome, SetsUp}
+
+pub events_append : (first : ℕ) (xs ys : List (List Property)) → events_from first (xs ++ ys) ≡ events_from first xs ++ events_from (first + length xs) ys
+events_append first [] ys = ap (λ n. events_from n ys) (let e : first ≡ first + 0 = omega arith in e)
+events_append first (x ∷ xs) ys =
+    ap (λ es. events_of first x ++ es) (events_append (first + 1) xs ys
+    ∙ ap (λ n. events_from (first + 1) xs ++ events_from n ys) (let e : (first + 1) + length xs ≡ first + length (x ∷ xs) = omega arith in e))
+    ∙ sym (append_assoc (events_of first x) (events_from (first + 1) xs) (events_from (first + length (x ∷ xs)) ys))
+
+module _ {X : Type 0} (v : X → List Property) (first : ℕ) (xs : List X) (i : ℕ) where
+  count_taken : i < length xs → length (map v (take i xs)) ≡ i
+  count_taken low = grind (arith, common_steps, low)
+
+  -- one more node
+  pub nodes_more : (x : X) → i < length xs → x ≡ get_or xs i x → events_from first (map v (take i xs)) ++ events_of (first + i) (v x) ≡ events_from first (map v (take (i + 1) xs))
+  nodes_more x low is =
+      let split : take (i + 1) xs ≡ take i xs ++ x ∷ [] = take_more xs i x low ∙ ap (λ y. take i xs ++ y ∷ []) (sym is) in
+      ap (λ es. events_from first (map v (take i xs)) ++ es) (sym (append-nil (events_of (first + i) (v x))))
+      ∙ ap (λ n. events_from first (map v (take i xs)) ++ events_from (first + n) (v x ∷ [])) (sym (count_taken low))
+      ∙ sym (ap (λ ys. events_from first (map v ys)) split ∙ ap (events_from first) (map-append v (take i xs) (x ∷ [])) ∙ events_append first (map v (take i xs)) (v x ∷ []))
+
+  -- and those behind it
+  pub nodes_around : (x : X) → i < length xs → x ≡ get_or xs i x →
+      (events_from first (map v (take i xs)) ++ events_of (first + i) (v x)) ++ events_from (first + length (map v (take (i + 1) xs))) (map v (drop (i + 1) xs)) ≡ events_from first (map v xs)
+  nodes_around x low is =
+      ap (λ es. es ++ events_from (first + length (map v (take (i + 1) xs))) (map v (drop (i + 1) xs))) (nodes_more x low is)
+      ∙ sym (events_append first (map v (take (i + 1) xs)) (map v (drop (i + 1) xs)))
+      ∙ ap (events_from first) (sym (map-append v (take (i + 1) xs) (drop (i + 1) xs)))
+      ∙ ap (λ ys. events_from first (map v ys)) (take-append-drop (i + 1) xs)
+
+seen_by : (number : Option ℕ) (events : List Event) → seen (left_by number) events ≡ looked_at number events
+seen_by None events = refl
+seen_by (Some n) events = refl
+
+module _ (c : Trees) (number : Option ℕ) where
+  pub not_go : is_go (root_value (codes "GM") c) ≡ false → IsGameOf c number (Err NotGo)
+  unfolding IsGameOf
+  not_go e = rw e refl
+
+  pub bad_size : is_go (root_value (codes "GM") c) ≡ true → lines_in (root_value (codes "SZ") c) ≡ None → IsGameOf c number (Err BadSize)
+  unfolding IsGameOf
+  bad_size e f = rw (e, f) refl
+
+  pub bad_komi : (n : ℕ) → is_go (root_value (codes "GM") c) ≡ true → lines_in (root_value (codes "SZ") c) ≡ Some n → komi_in (root_value (codes "KM") c) ≡ None →
+      IsGameOf c number (Err BadKomi)
+  unfolding IsGameOf
+  bad_komi n e f h = rw (e, f, h) refl
+
+  pub game_walks : (n : ℕ) (komi : ℤ) (outcome : Outcome) → is_go (root_value (codes "GM") c) ≡ true → lines_in (root_value (codes "SZ") c) ≡ Some n →
+      komi_in (root_value (codes "KM") c) ≡ Some komi → SetsUp n komi (replicate (n * n) None) None (looked_at number (events_from 0 (main_line c))) outcome →
+      IsGameOf c number outcome
+  unfolding IsGameOf
+  game_walks n komi outcome e f h walk = rw (e, f, h) walk
+
+  -- the game of a walk from its begin
+  pub game_walked : (n m : ℕ) (komi komi' : ℤ) (g : Colouring) (left : Left) (outcome : Outcome) → is_go (root_value (codes "GM") c) ≡ true → lines_in (root_value (codes "SZ") c) ≡ Some n →
+      komi_in (root_value (codes "KM") c) ≡ Some komi → m ≡ n → komi' ≡ komi → g ≡ replicate (n * n) None → left ≡ left_by number →
+      SetsUp m komi' g None (seen left (events_from 0 (main_line c) ++ [])) outcome → IsGameOf c number outcome
+  game_walked n m komi komi' g left outcome e f h is same empty by walk =
+      game_walks n komi outcome e f h
+      (subst (λ (es : List Event). SetsUp n komi (replicate (n * n) None) None es outcome)
+      (ap (λ l. seen l (events_from 0 (main_line c) ++ [])) by ∙ seen_by number (events_from 0 (main_line c) ++ []) ∙ ap (looked_at number) (append-nil (events_from 0 (main_line c))))
+      (rw (is, same, empty) at walk))
+
+  -- what is found at the end of a walk
+  pub game_found : {P : GameValue → Type 0} (r : Result GameValue RecordError) → ((game : GameValue) → P game → IsGameOf c number (Ok game.standing)) →
+      IfOk r P → IfOk r (λ game. IsGameOf c number (Ok game.standing))
+  game_found (Ok game) f h = f game h
+  game_found (Err e) f h = h
+
+  pub game_refused : {P : RecordError → Type 0} (r : Result GameValue RecordError) → ((e : RecordError) → P e → IsGameOf c number (Err e)) →
+      IfErr r (λ e. e ≢ Memory → P e) → IfErr r (λ e. e ≢ Memory → IsGameOf c number (Err e))
+  game_refused (Ok game) f h = h
+  game_refused (Err e) f h = λ some. f e (h some)
+
+module _ {A : Type 0} where
+  -- the line from the first of trees on
+  pub first_line : (ts : List (Tree A)) (o : Option (Bor (Tree A))) → option_copied o ≡ slice_get ts 0 → main_line (line_from o) ≡ main_line (trees_of ts)
+  first_line [] None e = refl
+  first_line (t ∷ ts) None e = cc e
+  first_line [] (Some b) e = cc e
+  first_line (t ∷ ts) (Some b) e = ap (λ (u : Tree A). (tree_of u).0 ++ main_line (tree_of u).1) (ap (λ (q : Option (Tree A)). unwrap_or q b.now) e)
+
+  -- a tree's nodes, and what comes behind them
+  pub line_split : (count after : ℕ) (o : Option (Bor (Tree A))) (t : Bor (Tree A)) (nodes rest : List (List Property)) (later : List Event) → o ≡ Some t →
+      nodes ≡ (tree_of t.now).0 → rest ≡ main_line (tree_of t.now).1 → after ≡ count + length nodes →
+      events_from count nodes ++ (events_from after rest ++ later) ≡ events_from count (main_line (line_from o)) ++ later
+  line_split count after o t nodes rest later e is behind at =
+      let line : main_line (line_from o) ≡ nodes ++ rest = ap (λ (q : Option (Bor (Tree A))). main_line (line_from q)) e ∙ sym (ap (λ ns. ns ++ rest) is ∙ ap (λ ns. (tree_of t.now).0 ++ ns) behind) in
+      sym (append_assoc (events_from count nodes) (events_from after rest) later)
+      ∙ ap (λ n. (events_from count nodes ++ events_from n rest) ++ later) at
+      ∙ ap (λ es. es ++ later) (sym (events_append count nodes rest) ∙ ap (events_from count) (sym line))

@@ -1,0 +1,82 @@
+-- The game of a record: that of the main line of its first tree.
+use Rattle.std.specs.Prelude.{◌≡◌, ◌*◌, ℕ, ℤ, pos, Bool, true, false, ◌==◌, ◌&&◌, ◌||◌, nat_le, if◌then◌else◌, List, [], ◌∷◌, Option, Some, None, Err, codes, drop, position, replicate, take}
+use Rattle.std.specs.List.{list_all}
+use Rattle.std.specs.Option.{option_and_then}
+use Rattle.go_board.specs.declared.size.TheConstants.{MAX_LINES}
+use Rattle.go_sgf.specs.Numbers.{hundredths_of, number_of}
+use Rattle.go_sgf.specs.Record.{Property, Trees, none, tree}
+use Rattle.go_sgf.specs.Spelling.{is_space}
+use Rattle.go_record.specs.declared.error.RecordError.{RecordError}
+use Rattle.go_record.specs.declared.error.RecordError.TheVariants.{BadKomi, BadSize, NotGo}
+use Rattle.go_record.specs.declared.root.TheConstants.{USUAL_LINES}
+use Rattle.go_record.specs.MainLine.{events_from, first_value, is_named, looked_at, main_line}
+use Rattle.go_record.specs.Walks.{Outcome, SetsUp}
+
+-- the properties of the first node of the first tree
+abbrev pub first_of : List (List Property) → List Property
+first_of [] = []
+first_of (ps ∷ nodes) = ps
+
+abbrev pub first_node : Trees → List Property
+first_node none = []
+first_node (tree nodes children later) = first_of nodes
+
+-- the first value of the first property with this name, or nothing
+abbrev pub value_in : List ℕ → List Property → List ℕ
+value_in name [] = []
+value_in name (p ∷ ps) = if is_named name p then first_value p.values else value_in name ps
+
+abbrev pub root_value : List ℕ → Trees → List ℕ
+root_value name c = value_in name (first_node c)
+
+-- nothing but white space
+abbrev pub is_blank : List ℕ → Bool
+is_blank value = list_all is_space value
+
+abbrev pub is_one : Option ℕ → Bool
+is_one None = false
+is_one (Some n) = n == 1
+
+-- the game is Go where nothing else is said
+abbrev pub is_go : List ℕ → Bool
+is_go value = is_blank value || is_one (number_of value)
+
+-- the lines of a board, where there is one with so many
+abbrev pub lines_within : ℕ → Option ℕ
+lines_within n = if nat_le 1 n && nat_le n MAX_LINES then Some n else None
+
+-- columns and rows, where they are as many
+abbrev pub same_number : Option ℕ → Option ℕ → Option ℕ
+same_number (Some m) (Some n) = if m == n then Some m else None
+same_number _ _ = None
+
+-- one number, or two with a `:` between them
+abbrev pub number_by : List ℕ → Option ℕ → Option ℕ
+number_by value None = number_of value
+number_by value (Some k) = same_number (number_of (take k value)) (number_of (drop 1 (drop k value)))
+
+abbrev pub lines_in : List ℕ → Option ℕ
+lines_in value =
+    if is_blank value then Some USUAL_LINES else option_and_then lines_within (number_by value (position (λ b. b == 58) value))
+
+abbrev pub komi_in : List ℕ → Option ℤ
+komi_in value = if is_blank value then Some (pos 0) else hundredths_of value
+
+-- what a value gives, or this refusal
+abbrev pub OrElse : {X : Type 0} → RecordError → Option X → Outcome → (X → Type 0) → Type 0
+OrElse error None outcome Later = outcome ≡ Err error
+OrElse error (Some x) outcome Later = Later x
+
+-- a test that is needed, or this refusal
+abbrev pub Needs : RecordError → Bool → Outcome → Type 0 → Type 0
+Needs error false outcome Later = outcome ≡ Err error
+Needs error true outcome Later = Later
+
+-- The outcome of a record, up to the move of a number where one is given: first its game, its size
+-- and its komi are judged, and then the main line over an empty board.
+unfoldable pub IsGameOf : Trees → Option ℕ → Outcome → Type 0
+IsGameOf c number outcome =
+    Needs NotGo (is_go (root_value (codes "GM") c)) outcome
+    (OrElse BadSize (lines_in (root_value (codes "SZ") c)) outcome (λ n.
+    OrElse BadKomi (komi_in (root_value (codes "KM") c)) outcome (λ komi.
+    SetsUp n komi (replicate (n * n) None) None (looked_at number (events_from 0 (main_line c))) outcome)))

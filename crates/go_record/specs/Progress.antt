@@ -1,0 +1,62 @@
+-- How far the walk along a main line is. It serves the contracts of private functions alone.
+use Rattle.std.specs.Borrow.{Bor}
+use Rattle.go_sgf.specs.Record.{Trees, none, tree}
+use Rattle.go_sgf.specs.View.{tree_of}
+use Rattle.go_sgf.specs.declared.record.Tree.{Tree}
+use Rattle.std.specs.Prelude.{◌≢◌, ◌-◌, ◌++◌, ℕ, ℤ, Bool, true, false, List, [], Option, Some, None, Result, Err, MatchResult}
+use Rattle.go_board.specs.declared.colour.Colour.{Colour}
+use Rattle.go_board.specs.Colours.{Colouring}
+use Rattle.go_game.specs.Standings.{GameValue}
+use Rattle.go_record.specs.declared.error.RecordError.{RecordError}
+use Rattle.go_record.specs.declared.error.RecordError.TheVariants.{Memory}
+use Rattle.go_record.specs.declared.state.Left.{Left}
+use Rattle.go_record.specs.declared.state.Left.TheVariants.{All, Moves, Nothing}
+use Rattle.go_record.specs.declared.state.Walk.{Walk}
+use Rattle.go_record.specs.MainLine.{Event, before_move}
+use Rattle.go_record.specs.Walks.{Outcome, Plays, SetsUp}
+
+-- what is still looked at
+abbrev pub seen : Left → List Event → List Event
+seen All events = events
+seen (Moves k) events = before_move k events
+seen Nothing events = []
+
+-- nothing more is looked at
+abbrev pub is_nothing : Left → Bool
+is_nothing All = false
+is_nothing (Moves k) = false
+is_nothing Nothing = true
+
+-- what comes of events before the first move, or behind one
+abbrev pub From : ℕ → ℤ → Colouring → Option Colour → Option GameValue → List Event → Outcome → Type 0
+From n komi g given None events outcome = SetsUp n komi g given events outcome
+From n komi g given (Some game) events outcome = Plays game.standing events outcome
+
+-- where this game stands, all of these events come to the outcome
+abbrev pub GoesFrom : {A : Type 0} → Walk A → Option GameValue → List Event → Outcome → Type 0
+GoesFrom w game events outcome = From w.grid.lines w.komi w.grid.colours w.turn game events outcome
+
+-- from here on these events come to the outcome
+abbrev pub Goes : {A : Type 0} → Walk A → List Event → Outcome → Type 0
+Goes w events outcome = GoesFrom w w.game (seen w.left events) outcome
+
+-- Between the two the walk passed these events.
+pub record Passes {A : Type 0} (old : Walk A) (events : List Event) (new : Walk A) : Type 0 where
+  pub passed : (later : List Event) (outcome : Outcome) → Goes new later outcome → Goes old (events ++ later) outcome
+
+-- Among these events the walk ends with this refusal. Memory may run out anywhere.
+pub record Stops {A : Type 0} (old : Walk A) (events : List Event) (error : RecordError) : Type 0 where
+  pub stopped : error ≢ Memory → (later : List Event) → Goes old (events ++ later) (Err error)
+
+abbrev pub Walked : {A T : Type 0} → Result T RecordError → Walk A → List Event → Walk A → Type 0
+Walked result old events new = MatchResult result (λ _. Passes old events new) (Stops old events)
+
+-- what a walk looks at that ends before the move of a number
+abbrev pub left_by : Option ℕ → Left
+left_by None = All
+left_by (Some n) = Moves (n - 1)
+
+-- what is left of a main line from a tree on
+abbrev pub line_from : {A : Type 0} → Option (Bor (Tree A)) → Trees
+line_from None = none
+line_from (Some t) = tree (tree_of t.now).0 (tree_of t.now).1 none

@@ -1,0 +1,106 @@
+-- What comes of the events of a main line: a standing, or why it has none.
+use Rattle.std.specs.Prelude.{◌≡◌, ◌<◌, ◌+◌, ◌*◌, ℕ, ℤ, Bool, false, not, ◌&&◌, ◌||◌, ◌⊎◌, if◌then◌else◌, List, [], ◌∷◌, Option, Some, None, Result, Ok, Err, codes, length, slice_set}
+use Rattle.std.specs.List.{list_any}
+use Rattle.std.specs.Str.{str_eq_ignore_ascii_case}
+use Rattle.go_board.specs.declared.colour.Colour.{Colour}
+use Rattle.go_board.specs.declared.colour.Colour.TheVariants.{Black, White}
+use Rattle.go_board.specs.declared.point.Point.{Point}
+use Rattle.go_board.specs.declared.vertex.Vertex.{Vertex}
+use Rattle.go_board.specs.Clearing.{IsFirstDead}
+use Rattle.go_board.specs.Colours.{Colouring}
+use Rattle.go_board.specs.Points.{number_of}
+use Rattle.go_board.specs.Reaching.{has_colour, is_dead, points}
+use Rattle.go_game.specs.declared.errors.PlayError.{PlayError}
+use Rattle.go_game.specs.declared.errors.PlayError.TheVariants.{Occupied, OffBoard, Repeats, Memory}
+use Rattle.go_game.specs.Standings.{IsLegal, IsOccupied, IsOffBoard, Standing, with_move}
+use Rattle.go_game.specs.Standings.{Repeats as IsRepeat}
+use Rattle.go_sgf.specs.BoardValues.{point_of, points_of}
+use Rattle.go_sgf.specs.Numbers.{trimmed}
+use Rattle.go_record.specs.declared.error.RecordError.{RecordError}
+use Rattle.go_record.specs.declared.error.RecordError.TheVariants.{BadValue, DeadSetup, Illegal, SetupAfterMove}
+use Rattle.go_record.specs.MainLine.{Event, stones, turn, move}
+
+-- a standing, or a refusal
+abbrev pub Outcome : Type 0
+Outcome = Result Standing RecordError
+
+-- what a value gives, or a refusal at its node where it is malformed
+abbrev pub OrBad : {X : Type 0} → ℕ → Option X → Outcome → (X → Type 0) → Type 0
+OrBad node None outcome Later = outcome ≡ Err (BadValue node)
+OrBad node (Some x) outcome Later = Later x
+
+-- why a move isn't legal
+abbrev pub IsReason : Standing → Colour → Vertex → PlayError → Type 0
+IsReason s c v OffBoard = IsOffBoard s v
+IsReason s c v Occupied = IsOccupied s v
+IsReason s c v (Repeats k) = (IsOffBoard s v → ⊥) × (IsOccupied s v → ⊥) × IsRepeat s c v k
+IsReason s c v Memory = ⊥
+
+-- The next move, counted from 1, is refused.
+pub record IsRefused (s : Standing) (c : Colour) (v : Vertex) (outcome : Outcome) : Type 0 where
+  pub why : PlayError
+  pub reason : IsReason s c v why
+  pub refusal : outcome ≡ Err (Illegal (length s.moves + 1) why)
+
+-- Once a move was played: moves are judged by the rules, set-up of stones is refused, and the colour
+-- to move is skipped.
+unfoldable pub Plays : Standing → List Event → Outcome → Type 0
+Plays s [] outcome = outcome ≡ Ok s
+Plays s (stones node colour values ∷ events) outcome = outcome ≡ Err (SetupAfterMove node)
+Plays s (turn node value ∷ events) outcome = Plays s events outcome
+Plays s (move node colour value ∷ events) outcome =
+    OrBad node (point_of s.lines value) outcome (λ v.
+    (IsLegal s colour v × Plays (with_move s (record { colour = colour; vertex = v })) events outcome) ⊎ IsRefused s colour v outcome)
+
+-- these points get the colour, or are emptied
+abbrev pub with_points : ℕ → Option Colour → Colouring → List Point → Colouring
+with_points n c g [] = g
+with_points n c g (p ∷ ps) = with_points n c (slice_set g (number_of n p) c) ps
+
+abbrev pub is_colour_word : List ℕ → List ℕ → Bool
+is_colour_word word name = str_eq_ignore_ascii_case word name
+
+-- the colour that a word names in any case
+abbrev pub colour_named : List ℕ → Option Colour
+colour_named word =
+    if is_colour_word word (codes "b") || is_colour_word word (codes "black") then Some Black
+    else (if is_colour_word word (codes "w") || is_colour_word word (codes "white") then Some White else None)
+
+-- with white space at both ends skipped
+abbrev pub colour_of : List ℕ → Option Colour
+colour_of value = colour_named (trimmed value)
+
+abbrev pub has_stones : ℕ → Colouring → Colour → Bool
+has_stones n g c = list_any (λ k. has_colour g k (Some c)) (points n)
+
+-- the colour that was given, else White over black stones alone, else Black
+abbrev pub first_mover : ℕ → Colouring → Option Colour → Colour
+first_mover n g (Some c) = c
+first_mover n g None = if has_stones n g Black && not (has_stones n g White) then White else Black
+
+abbrev pub start_of : ℕ → ℤ → Colouring → Option Colour → Standing
+start_of n komi g given = record { lines = n; komi = komi; start = g; first = first_mover n g given; moves = [] }
+
+-- every stone reaches empty
+abbrev pub IsAlive : ℕ → Colouring → Type 0
+IsAlive n g = (k : ℕ) → k < n * n → is_dead n g k ≡ false
+
+-- The start has a stone that doesn't reach empty.
+pub record IsDeadSetup (n : ℕ) (g : Colouring) (outcome : Outcome) : Type 0 where
+  pub point : Point
+  pub first : IsFirstDead n g point
+  pub refusal : outcome ≡ Err (DeadSetup point)
+
+-- the start is judged, and then the moves
+abbrev pub Begins : ℕ → ℤ → Colouring → Option Colour → List Event → Outcome → Type 0
+Begins n komi g given events outcome = (IsAlive n g × Plays (start_of n komi g given) events outcome) ⊎ IsDeadSetup n g outcome
+
+-- Before the first move: stones are set up, and the colour to move is given.
+unfoldable pub SetsUp : ℕ → ℤ → Colouring → Option Colour → List Event → Outcome → Type 0
+SetsUp n komi g given [] outcome = Begins n komi g given [] outcome
+SetsUp n komi g given (stones node colour values ∷ events) outcome =
+    OrBad node (points_of n values) outcome (λ ps. SetsUp n komi (with_points n colour g ps) given events outcome)
+SetsUp n komi g given (turn node value ∷ events) outcome =
+    OrBad node (colour_of value) outcome (λ c. SetsUp n komi g (Some c) events outcome)
+SetsUp n komi g given (move node colour value ∷ events) outcome =
+    Begins n komi g given (move node colour value ∷ events) outcome

@@ -1,0 +1,127 @@
+ghost use Rattle.std.specs.Prelude.{◌≡◌, ◌==◌, ◌<◌, ◌≤ℤ◌, IfSome, length, map, negsuc, option_map, pos, position};
+ghost use Rattle.go_board.specs.Sizes.{lines_of};
+ghost use Rattle.go_game.specs.Standings.{IsKomi};
+ghost use Rattle.go_sgf.specs.View.{collection_of, property_of};
+ghost use Rattle.go_record.specs.Games.{is_blank as is_white, is_go as is_go_by, is_one as is_one_of, komi_in, lines_in, lines_within, number_by, root_value as value_by, same_number as number_same, value_in as value_by_name};
+
+use crate::kind::first_value;
+use go_board::Size;
+use go_sgf::{Collection, Property, hundredths_of, number_of};
+use std::alloc::Allocator;
+
+/// The lines of a board whose record says nothing of them.
+pub const USUAL_LINES: u8 = 19;
+
+/// The first value of the first property with this name in the first node, or an empty one.
+pub(crate) fn root_value<'a, A: Allocator + Copy>(
+    collection: &Collection<'a, A>,
+    name: &[u8],
+) -> &'a [u8]
+    ensures { result.now ≡ value_by name.now (collection_of collection.now) }
+{
+    let Some(tree) = collection.trees().first() else {
+        return b"";
+    };
+    match tree.nodes().first() {
+        Some(node) => value_in(name, node.properties()),
+        None => b"",
+    }
+}
+
+fn value_in<'a, A: Allocator + Copy>(name: &[u8], properties: &[Property<'a, A>]) -> &'a [u8]
+    ensures { result.now ≡ value_by_name name.now (map property_of properties.now) }
+{
+    for property in properties {
+        if property.is(name) {
+            return first_value(property);
+        }
+    }
+    b""
+}
+
+/// Whether a GM value says that the game is Go, which goes without saying.
+pub(crate) fn is_go(value: &[u8]) -> bool
+    ensures { result ≡ is_go_by value.now }
+{
+    is_blank(value) || is_one(number_of(value))
+}
+
+fn is_one(number: Option<u32>) -> bool
+    ensures { result ≡ is_one_of number }
+{
+    match number {
+        Some(number) => number == 1,
+        None => false,
+    }
+}
+
+/// Whether a value has nothing but white space.
+fn is_blank(value: &[u8]) -> bool
+    ensures { result ≡ is_white value.now }
+{
+    value
+        .iter()
+        .all(|byte| matches!(*byte, b' ' | b'\t'..=b'\r'))
+}
+
+/// The size that an SZ value says: one number, or two that are equal.
+pub(crate) fn size_of(value: &[u8]) -> Option<Size>
+    ensures { option_map lines_of result ≡ lines_in value.now }
+{
+    if is_blank(value) {
+        return size_within(u32::from(USUAL_LINES));
+    }
+    match lines_number(value) {
+        Some(number) => size_within(number),
+        None => None,
+    }
+}
+
+fn size_within(number: u32) -> Option<Size>
+    ensures { option_map lines_of result ≡ lines_within number }
+{
+    if number > 255 {
+        return None;
+    }
+    Size::new(number as u8)
+}
+
+fn lines_number(value: &[u8]) -> Option<u32>
+    ensures { result ≡ number_by value.now (position (λ b. b == 58) value.now) }
+{
+    match colon_in(value) {
+        Some(place) => {
+            let (columns, rows) = value.split_at(place);
+            same_number(number_of(columns), number_of(rows.split_at(1).1))
+        }
+        None => number_of(value),
+    }
+}
+
+fn colon_in(value: &[u8]) -> Option<usize>
+    ensures value { result ≡ position (λ b. b == 58) value.now }
+    ensures bound { IfSome result (λ place. place < length value.now) }
+{
+    value.iter().position(|byte| *byte == b':')
+}
+
+fn same_number(columns: Option<u32>, rows: Option<u32>) -> Option<u32>
+    ensures { result ≡ number_same columns rows }
+{
+    match (columns, rows) {
+        (Some(columns), Some(rows)) if columns == rows => Some(columns),
+        _ => None,
+    }
+}
+
+/// The komi that a KM value says, in hundredths of a point.
+pub(crate) fn komi_of(value: &[u8]) -> Option<i64>
+    ensures value { result ≡ komi_in value.now }
+    ensures range { IfSome result IsKomi }
+{
+    if is_blank(value) {
+        Some(0)
+    } else {
+        hundredths_of(value)
+    }
+}

@@ -1,0 +1,79 @@
+ghost use Rattle.std.specs.Prelude.{◌≡◌, Some, All};
+ghost use Rattle.go_board.specs.Points.{IsOn};
+ghost use Rattle.go_board.specs.Reaching.{is_same};
+ghost use Rattle.go_record.specs.Walks.{colour_named, colour_of as colour_by, first_mover as mover_first, has_stones as has_stones_of, is_colour_word, with_points};
+
+use go_board::{Colour, Grid, Point};
+use go_sgf::trim;
+
+/// Gives points a colour, or empties them.
+pub(crate) fn set_points(grid: &mut Grid, colour: Option<Colour>, points: &[Point])
+    requires { All (IsOn grid.old.lines) points.now }
+    ensures lines { grid.new.lines ≡ grid.old.lines }
+    ensures colours { grid.new.colours
+        ≡ with_points grid.old.lines colour grid.old.colours points.now }
+{
+    for point in points {
+        grid.set(*point, colour);
+    }
+}
+
+/// The colour that a value names in any case, with white space at both ends skipped.
+pub(crate) fn colour_of(value: &[u8]) -> Option<Colour>
+    ensures { result ≡ colour_by value.now }
+{
+    colour_named(trim(value))
+}
+
+fn colour_named(word: &[u8]) -> Option<Colour>
+    ensures { result ≡ colour_named word.now }
+{
+    if is_word(word, b"b") || is_word(word, b"black") {
+        return Some(Colour::Black);
+    }
+    if is_word(word, b"w") || is_word(word, b"white") {
+        return Some(Colour::White);
+    }
+    None
+}
+
+fn is_word(word: &[u8], name: &[u8]) -> bool
+    ensures { result ≡ is_colour_word word.now name.now }
+{
+    word.eq_ignore_ascii_case(name)
+}
+
+/// The colour that moves first: the one given, else White over black stones alone, else Black.
+pub(crate) fn first_mover(grid: &Grid, given: Option<Colour>) -> Colour
+    ensures { result ≡ mover_first grid.now.lines grid.now.colours given }
+{
+    match given {
+        Some(colour) => colour,
+        None if has_stones(grid, Colour::Black) && !has_stones(grid, Colour::White) => {
+            Colour::White
+        }
+        None => Colour::Black,
+    }
+}
+
+fn has_stones(grid: &Grid, colour: Colour) -> bool
+    ensures { result ≡ has_stones_of grid.now.lines grid.now.colours colour }
+{
+    let size = grid.size();
+    for number in 0..size.points() {
+        if is_of(grid.get(Point::numbered(size, number)), colour) {
+            return true;
+        }
+    }
+    false
+}
+
+/// Whether a point with this colour has a stone of that one.
+pub(crate) fn is_of(point: Option<Colour>, colour: Colour) -> bool
+    ensures { result ≡ is_same point (Some colour) }
+{
+    match point {
+        Some(stone) => stone == colour,
+        None => false,
+    }
+}
