@@ -1,5 +1,9 @@
+ghost use Rattle.std.specs.Prelude.{◌≡◌};
+ghost use Rattle.go_record.specs.declared.error.RecordError.TheVariants.{Memory};
+
 use go_board::{Point, Vertex, vertex_text};
 use go_game::PlayError;
+use std::alloc::AllocError;
 use std::fmt;
 use thiserror::Error;
 
@@ -30,6 +34,14 @@ pub enum RecordError {
     /// There was no memory for the game.
     #[error("out of memory")]
     Memory,
+}
+
+impl From<AllocError> for RecordError {
+    ghost from_gives = { λ _ error. error ≡ Memory };
+
+    fn from(_: AllocError) -> RecordError {
+        RecordError::Memory
+    }
 }
 
 /// Why a move isn't legal, as a text that goes on behind the move.

@@ -2,6 +2,7 @@
 #![tactic(auto)]
 
 mod error;
+mod judging;
 mod kind;
 mod replaying;
 mod root;
@@ -12,6 +13,7 @@ mod walk;
 mod writer;
 
 pub use error::RecordError;
+pub use judging::judge;
 pub use replaying::replay;
 pub use root::USUAL_LINES;
 pub use verdict::{Stated, Verdict};

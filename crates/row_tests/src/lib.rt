@@ -20,6 +20,8 @@ mod plays;
 #[cfg(test)]
 mod records;
 #[cfg(test)]
+mod replays;
+#[cfg(test)]
 mod scripts;
 #[cfg(test)]
 mod tidying;

@@ -1,0 +1,110 @@
+ghost use Rattle.std.specs.Prelude.{◌≡◌, ◌≢◌, ◌≤ℤ◌, ◌-ℤ◌, Err, IfErr, IfOk, IfSome, bytes_eq, negsuc, option_map, pos};
+ghost use Rattle.go_sgf.specs.View.{collection_of};
+ghost use Rattle.go_record.specs.declared.error.RecordError.TheVariants.{Memory};
+ghost use Rattle.go_record.specs.Games.{IsGameOf};
+ghost use Rattle.go_record.specs.Verdicts.{IsStated, IsVerdict, begins_number as begins_number_by, margin_in as margin_by, margin_stated as margin_stated_by, size_stated as size_by};
+
+use crate::error::RecordError;
+use crate::replaying::replay;
+use crate::root::root_value;
+use crate::verdict::{Stated, Verdict};
+use go_sgf::{Collection, cook_simple, hundredths_of, trim};
+use std::alloc::{AllocError, Allocator};
+
+/// The verdict on a record: its game's moves and margin, and whether that is the margin that its RE
+/// states. `0` and `Draw` state none, `B+` and `W+` before a number with at most two decimals that
+/// much, and anything else states nothing. It refuses what [`replay`] without a number refuses.
+pub fn judge<A: Allocator + Copy>(
+    alloc: A,
+    collection: &Collection<'_, A>,
+) -> Result<Verdict, RecordError>
+    ensures ok { IfOk result (IsVerdict (collection_of collection.now)) }
+    ensures err { IfErr result
+        (λ e. e ≢ Memory → IsGameOf (collection_of collection.now) None (Err e)) }
+{
+    let game = replay(alloc, collection, None)?;
+    let stated = margin_stated(alloc, collection)?;
+    let margin = game.margin();
+    Ok(Verdict {
+        moves: game.move_count(),
+        margin,
+        stated: compared(stated, margin),
+    })
+}
+
+fn compared(stated: Option<i64>, margin: i64) -> Stated
+    ensures { IsStated stated margin result }
+{
+    match stated {
+        None => Stated::None,
+        Some(stated) if stated == margin => Stated::Agrees,
+        Some(_) => Stated::Differs,
+    }
+}
+
+/// The margin that a record states, on Black's side.
+fn margin_stated<A: Allocator + Copy>(
+    alloc: A,
+    collection: &Collection<'_, A>,
+) -> Result<Option<i64>, AllocError>
+    ensures { IfOk result (λ stated. stated ≡ margin_stated_by (collection_of collection.now)) }
+{
+    let text = cook_simple(alloc, root_value(collection, b"RE"))?;
+    Ok(margin_in(trim(&text)))
+}
+
+fn margin_in(word: &[u8]) -> Option<i64>
+    ensures { result ≡ margin_by word.now }
+{
+    if is_text(word, b"0") || is_text(word, b"Draw") {
+        return Some(0);
+    }
+    if word.len() < 2 {
+        return None;
+    }
+    let (front, size) = word.split_at(2);
+    if is_text(front, b"B+") {
+        size_stated(size)
+    } else if is_text(front, b"W+") {
+        negated(size_stated(size))
+    } else {
+        None
+    }
+}
+
+fn is_text(word: &[u8], text: &[u8]) -> bool
+    ensures { result ≡ bytes_eq word.now text.now }
+{
+    word == text
+}
+
+/// The margin of a number that begins with a digit or a point.
+fn size_stated(text: &[u8]) -> Option<i64>
+    ensures value { result ≡ size_by text.now }
+    ensures low { IfSome result (λ size. negsuc 99999999998 ≤ℤ size) }
+{
+    if begins_number(text) {
+        hundredths_of(text)
+    } else {
+        None
+    }
+}
+
+fn begins_number(text: &[u8]) -> bool
+    ensures { result ≡ begins_number_by text.now }
+{
+    match text.first() {
+        Some(byte) => byte.is_ascii_digit() || *byte == b'.',
+        None => false,
+    }
+}
+
+fn negated(size: Option<i64>) -> Option<i64>
+    requires { IfSome size (λ n. negsuc 99999999998 ≤ℤ n) }
+    ensures { result ≡ option_map (λ n. pos 0 -ℤ n) size }
+{
+    match size {
+        Some(size) => Some(0 - size),
+        None => None,
+    }
+}

@@ -1,0 +1,199 @@
+use failing::Failing;
+use go_board::{Colour, Point, Size, Vertex, WriteFault, read_vertex};
+use go_game::{Game, PlayError, hundredths_text, score_text};
+use go_record::{RecordError, Stated, Verdict, judge, put_record, replay, write_record};
+use go_sgf::{read, trim};
+use memory_devices::Writer;
+use std::alloc::{Allocator, Global};
+use std::process::Abort;
+
+/// A record whose fourth move repeats the position after the third.
+const REPEATING: &[u8] = b"(;SZ[2];B[aa];W[ba];W[ab];B[aa])";
+
+/// A record with two stones set up and two moves.
+const SET_UP: &[u8] = b"(;GM[1]SZ[9]KM[5.5]AB[cc][gg];W[ee];B[])";
+
+fn replayed<A: Allocator + Copy>(
+    rt: &impl Abort,
+    alloc: A,
+    source: &[u8],
+    number: Option<u32>,
+) -> Result<Game<A>, RecordError> {
+    let collection = read(alloc, source).expect(rt, "a record");
+    replay(alloc, &collection, number)
+}
+
+/// Asserts what the replay of a source is refused with, and the text of that.
+fn refused(rt: &impl Abort, alloc: Global, source: &[u8], why: RecordError, text: &str) {
+    let error = replayed(rt, alloc, source, None).err().expect(rt, "a refusal");
+    assert!(rt; error == why, "{error}");
+    let told = format!(in alloc; "{error}").expect(rt, "a text");
+    assert!(rt; told.as_str() == text, "{told}");
+}
+
+fn stone(rt: &impl Abort, game: &Game<Global>, word: &[u8]) -> Option<Colour> {
+    match read_vertex(word, game.size()) {
+        Ok(Vertex::At(point)) => game.colour_at(point),
+        _ => {
+            assert!(rt; false, "no point");
+            None
+        }
+    }
+}
+
+#[test]
+fn refusals_of_replay(rt: HostRuntime) {
+    let alloc = rt.alloc();
+    refused(&rt, alloc, b"(;GM[2])", RecordError::NotGo, "not a Go record");
+    refused(&rt, alloc, b"(;SZ[0])", RecordError::BadSize, "bad board size");
+    refused(&rt, alloc, b"(;SZ[9:8])", RecordError::BadSize, "bad board size");
+    refused(&rt, alloc, b"(;KM[x])", RecordError::BadKomi, "bad komi");
+    refused(&rt, alloc, b"(;B[zz])", RecordError::BadValue(0), "bad value in node 0");
+    refused(
+        &rt,
+        alloc,
+        b"(;SZ[2];B[aa:ab])",
+        RecordError::BadValue(1),
+        "bad value in node 1",
+    );
+    refused(
+        &rt,
+        alloc,
+        b"(;SZ[9];B[aa];AB[bb])",
+        RecordError::SetupAfterMove(2),
+        "set-up after a move in node 2",
+    );
+    refused(
+        &rt,
+        alloc,
+        b"(;SZ[9];B[aa];W[aa])",
+        RecordError::Illegal(2, PlayError::Occupied),
+        "move 2 is on a stone",
+    );
+}
+
+#[test]
+fn records_refused(rt: HostRuntime) {
+    let alloc = rt.alloc();
+    let corner = Point { col: 0, row: 8 };
+    refused(
+        &rt,
+        alloc,
+        b"(;SZ[9]AB[aa]AW[ab][ba])",
+        RecordError::DeadSetup(corner),
+        "set-up without liberty at A9",
+    );
+    refused(
+        &rt,
+        alloc,
+        REPEATING,
+        RecordError::Illegal(4, PlayError::Repeats(3)),
+        "move 4 repeats the position after 3 moves",
+    );
+    let first = Point { col: 0, row: 0 };
+    for source in [b"(;SZ[1]AB[aa])".as_slice(), b"(;SZ[2]AB[aa:bb])".as_slice()] {
+        refused(
+            &rt,
+            alloc,
+            source,
+            RecordError::DeadSetup(first),
+            "set-up without liberty at A1",
+        );
+    }
+}
+
+#[test]
+fn texts_of_other_refusals(rt: HostRuntime) {
+    let off = RecordError::Illegal(7, PlayError::OffBoard);
+    let told = format!(in rt.alloc(); "{off}").expect(&rt, "a text");
+    assert!(rt; told.as_str() == "move 7 is off the board");
+    let memory = format!(in rt.alloc(); "{}", RecordError::Memory).expect(&rt, "a text");
+    assert!(rt; memory.as_str() == "out of memory");
+}
+
+#[test]
+fn numbers_end_the_walk(rt: HostRuntime) {
+    let alloc = rt.alloc();
+    let one = replayed(&rt, alloc, b"(;SZ[9];B[aa];W[aa])", Some(2)).expect(&rt, "a game");
+    assert_eq!(rt; one.move_count(), 1);
+    let square = replayed(&rt, alloc, b"(;SZ[9:9]AB[])", None).expect(&rt, "a game");
+    assert_eq!(rt; square.size().lines(), 9);
+    assert!(rt; square.is_vacant());
+}
+
+/// Asserts what stands after so much of the record with stones set up.
+fn set_up(rt: &impl Abort, alloc: Global, number: Option<u32>, moves: usize, next: Colour) {
+    let game = replayed(rt, alloc, SET_UP, number).expect(rt, "a game");
+    assert_eq!(rt; game.size().lines(), 9);
+    assert!(rt; hundredths_text(game.komi()).as_str() == "5.5");
+    assert_eq!(rt; game.move_count(), moves);
+    assert!(rt; game.mover() == next);
+    assert!(rt; game.prisoners(Colour::Black) == 0 && game.prisoners(Colour::White) == 0);
+    assert!(rt; stone(rt, &game, b"c7") == Some(Colour::Black));
+    assert!(rt; stone(rt, &game, b"g3") == Some(Colour::Black));
+    let centre = if moves > 0 { Some(Colour::White) } else { None };
+    assert!(rt; stone(rt, &game, b"e5") == centre);
+}
+
+#[test]
+fn load_a_record(rt: HostRuntime) {
+    let alloc = rt.alloc();
+    set_up(&rt, alloc, Some(2), 1, Colour::Black);
+    set_up(&rt, alloc, Some(0), 0, Colour::White);
+    set_up(&rt, alloc, Some(99), 2, Colour::White);
+    set_up(&rt, alloc, None, 2, Colour::White);
+    let mut game = replayed(&rt, alloc, SET_UP, Some(2)).expect(&rt, "a game");
+    assert!(rt; game.undo().is_some());
+    assert!(rt; game.undo().is_none());
+}
+
+/// The text that is written of a record's game, if the record has one.
+fn is_written_as(rt: &impl Abort, alloc: Global, source: &[u8], text: &[u8]) {
+    let game = replayed(rt, alloc, source, None).expect(rt, "a game");
+    for most in [1, 3, 4_096] {
+        let mut writer = Writer::new(alloc).in_pieces_of(most);
+        assert!(rt; write_record(&game, &mut writer) == Ok(()));
+        assert!(rt; writer.bytes() == text);
+    }
+}
+
+#[test]
+fn print_the_record(rt: HostRuntime) {
+    let text = b"(;GM[1]FF[4]SZ[9]KM[6.5]PL[W]AB[cg][gc];W[ee];B[])\n";
+    is_written_as(
+        &rt,
+        rt.alloc(),
+        b"(;SZ[9]KM[6.5]AB[cg][gc];W[ee];B[])",
+        text,
+    );
+    is_written_as(&rt, rt.alloc(), text, text);
+}
+
+fn judged<A: Allocator + Copy>(
+    rt: &impl Abort,
+    alloc: A,
+    source: &[u8],
+) -> Result<Verdict, RecordError> {
+    let collection = read(alloc, source).expect(rt, "a record");
+    judge(alloc, &collection)
+}
+
+fn has_verdict(rt: &impl Abort, alloc: Global, source: &[u8], moves: usize, score: &str, stated: Stated) {
+    let verdict = judged(rt, alloc, source).expect(rt, "a verdict");
+    assert_eq!(rt; verdict.moves, moves);
+    assert!(rt; score_text(verdict.margin).as_str() == score);
+    assert!(rt; verdict.stated == stated);
+}
+
+#[test]
+fn judge_a_record(rt: HostRuntime) {
+    let alloc = rt.alloc();
+    has_verdict(&rt, alloc, b"(;GM[1]SZ[9]KM[6.5]RE[B+74.5];B[ee])", 1, "B+74.5", Stated::Agrees);
+    let why = RecordError::Illegal(4, PlayError::Repeats(3));
+    assert!(rt; judged(&rt, alloc, REPEATING) == Err(why));
+    has_verdict(&rt, alloc, b"(;SZ[9]KM[0.5]RE[W+0.5])", 0, "W+0.5", Stated::Agrees);
+    has_verdict(&rt, alloc, b"(;SZ[9]KM[0.5]RE[ Draw ])", 0, "W+0.5", Stated::Differs);
+    has_verdict(&rt, alloc, b"(;SZ[9]KM[0.5]RE[B+R])", 0, "W+0.5", Stated::None);
+    has_verdict(&rt, alloc, b"(;SZ[2]AB[aa:bb]AE[ab])", 0, "B+4", Stated::None);
+    has_verdict(&rt, alloc, b"(;SZ[2]AB[aa:bb]AE[ab];W[ab])", 1, "W+4", Stated::None);
+}
