@@ -1,5 +1,5 @@
 use failing::Failing;
-use go_board::{Colour, Point, Size, Vertex, WriteFault, read_vertex};
+use go_board::{Colour, Pen, Point, Vertex, WriteFault, read_vertex};
 use go_game::{Game, PlayError, hundredths_text, score_text};
 use go_record::{RecordError, Stated, Verdict, judge, put_record, replay, write_record};
 use go_sgf::{read, trim};
@@ -196,4 +196,77 @@ fn judge_a_record(rt: HostRuntime) {
     has_verdict(&rt, alloc, b"(;SZ[9]KM[0.5]RE[B+R])", 0, "W+0.5", Stated::None);
     has_verdict(&rt, alloc, b"(;SZ[2]AB[aa:bb]AE[ab])", 0, "B+4", Stated::None);
     has_verdict(&rt, alloc, b"(;SZ[2]AB[aa:bb]AE[ab];W[ab])", 1, "W+4", Stated::None);
+}
+
+/// What a replay and a verdict tell of the record with stones set up, where there is memory.
+fn told<A: Allocator + Copy>(rt: &impl Abort, alloc: A, is_judged: bool) -> Option<(usize, i64)> {
+    let collection = read(alloc, SET_UP).ok()?;
+    let answer = if is_judged {
+        match judge(alloc, &collection) {
+            Ok(verdict) => Ok((verdict.moves, verdict.margin)),
+            Err(why) => Err(why),
+        }
+    } else {
+        match replay(alloc, &collection, None) {
+            Ok(game) => Ok((game.move_count(), game.margin())),
+            Err(why) => Err(why),
+        }
+    };
+    match answer {
+        Ok(told) => Some(told),
+        Err(why) => {
+            assert!(rt; why == RecordError::Memory);
+            None
+        }
+    }
+}
+
+#[test]
+fn each_request_for_memory_refused(rt: HostRuntime) {
+    let alloc = rt.alloc();
+    for is_judged in [false, true] {
+        let ample = told(&rt, alloc, is_judged);
+        assert!(rt; ample == Some((2, 200 - 100 - 550)));
+        let mut requests = 0u64;
+        for number in 1..200u64 {
+            let failing = Failing::new(alloc, number);
+            let answer = told(&rt, &failing, is_judged);
+            if failing.waits() {
+                assert!(rt; answer == ample);
+                requests = number - 1;
+                break;
+            }
+            assert!(rt; answer.is_none(), "request {number}");
+        }
+        assert!(rt; requests > 0, "{requests} requests");
+    }
+}
+
+#[test]
+fn a_pen_writes_no_line_end(rt: HostRuntime) {
+    let alloc = rt.alloc();
+    let game = replayed(&rt, alloc, b"(;SZ[9])", None).expect(&rt, "a game");
+    let mut writer = Writer::new(alloc);
+    let mut pen = Pen::new();
+    put_record(&game, &mut pen, &mut writer);
+    assert!(rt; pen.finish() == Ok(()));
+    assert!(rt; writer.bytes() == b"(;GM[1]FF[4]SZ[9]KM[0]PL[B])".as_slice());
+}
+
+#[test]
+fn a_writer_fails(rt: HostRuntime) {
+    let alloc = rt.alloc();
+    let game = replayed(&rt, alloc, b"(;SZ[9];B[ee])", None).expect(&rt, "a game");
+    let text = b"(;GM[1]FF[4]SZ[9]KM[0]PL[B];B[ee])\n";
+    for put in 1..12u64 {
+        let mut writer = Writer::new(alloc).in_pieces_of(3).failing_at_put(put);
+        assert!(rt; write_record(&game, &mut writer) == Err(WriteFault));
+        assert!(rt; text.starts_with(writer.bytes()));
+    }
+}
+
+#[test]
+fn white_space_at_both_ends(rt: HostRuntime) {
+    assert!(rt; trim(b" \x0b a b\t\n") == b"a b".as_slice());
+    assert!(rt; trim(b" \r ").is_empty());
 }
