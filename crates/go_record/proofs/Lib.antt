@@ -2,3 +2,8 @@ pub mod Writes
 pub mod Searches
 pub mod Walking
 pub mod Lines
+pub mod Unique
+pub mod Spelled
+pub mod Painting
+pub mod Recorded
+pub mod Fitting

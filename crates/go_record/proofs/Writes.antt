@@ -35,7 +35,7 @@ numbers_more k =
     ∙ ap (λ xs. xs ++ k ∷ []) (map_same (range_with_len 0 k))
 
 -- one more point, where it has the colour
-chosen_more : (test : ℕ → Bool) (k : ℕ) → filter test (range_with_len 0 (k + 1)) ≡ filter test (range_with_len 0 k) ++ (if test k then k ∷ [] else [])
+pub chosen_more : (test : ℕ → Bool) (k : ℕ) → filter test (range_with_len 0 (k + 1)) ≡ filter test (range_with_len 0 k) ++ (if test k then k ∷ [] else [])
 chosen_more test k = ap (filter test) (numbers_more k) ∙ filter-append test (range_with_len 0 k) (k ∷ [])
 
 named_push : (name : List ℕ) (n : ℕ) (ks : List ℕ) (k : ℕ) → named_stones name n ks ++ (in_front name ks ++ stone_text n k) ≡ named_stones name n (ks ++ k ∷ [])

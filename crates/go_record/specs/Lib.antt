@@ -5,3 +5,4 @@ pub mod Verdicts
 pub mod Progress
 pub mod Records
 pub mod Texts
+pub mod Laws

@@ -4,6 +4,7 @@
 mod error;
 mod judging;
 mod kind;
+pub mod laws;
 mod replaying;
 mod root;
 mod start;

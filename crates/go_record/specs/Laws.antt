@@ -1,0 +1,23 @@
+-- Laws of records and of their games.
+use Rattle.std.specs.Prelude.{◌≡◌, ℕ, Option, None, Ok}
+use Rattle.go_game.specs.Standings.{IsSound, Standing}
+use Rattle.go_sgf.specs.Record.{IsFit, Trees}
+use Rattle.go_sgf.specs.Spelling.{Spells}
+use Rattle.go_record.specs.Games.{IsGameOf}
+use Rattle.go_record.specs.Records.{record_of, tree_of}
+use Rattle.go_record.specs.Walks.{Outcome}
+
+-- no record has two outcomes
+abbrev pub OneOutcome : Type 0
+OneOutcome = (c : Trees) (number : Option ℕ) (a b : Outcome) → IsGameOf c number a → IsGameOf c number b → a ≡ b
+
+-- A standing's record can be spelled, its text spells it and nothing else, and its game is the standing.
+pub record Records (s : Standing) : Type 0 where
+  pub fit : IsFit (tree_of s)
+  pub spelled : Spells (record_of s) (tree_of s)
+  pub alone : (c : Trees) → Spells (record_of s) c → c ≡ tree_of s
+  pub game : IsGameOf (tree_of s) None (Ok s)
+
+-- so for every standing that play can come to
+abbrev pub RecordLaw : Type 0
+RecordLaw = (s : Standing) → IsSound s → Records s
