@@ -9,22 +9,20 @@ use Rattle.go_game.specs.Standings.{Standing}
 use Rattle.goref_lines.specs.Kept.{Kept, has_bytes}
 use Rattle.goref.specs.Contents.{Content}
 use Rattle.goref.specs.Decisions.{Decided}
-use Rattle.goref.specs.Answers.{silent, spoken, line_id, decided_line, Reply, DecidesLine, is_end, decision_text}
+use Rattle.goref.specs.Answers.{silent, spoken, line_id, Reply, DecidesLine, is_end, decision_text}
 use Rattle.goref.specs.Replies.{Answered, flow_of}
 
 -- a line without words
 pub answered_silent : (s : Standing) (k : Kept) (content : Content) (taken : Option (List ℕ)) → has_bytes k.text ≡ false → Answered s s k content (Ok More) taken taken
 answered_silent s k content taken none = record {
   reply = silent s;
-  is_reply = inl (sym (ap (λ b. if b then spoken (line_id k) (decided_line s k content) else silent s) none));
+  is_reply = inl (none, refl);
   stands = refl;
   sent = (refl, sym (then_bytes-nil taken));
 }
 
 pub reply_of : (s : Standing) (k : Kept) (content : Content) (d : Decided) → has_bytes k.text ≡ true → DecidesLine s k content d → Reply s k content (spoken (line_id k) d)
-reply_of s k content d some (inl e) =
-    inl (ap (spoken (line_id k)) e ∙ sym (ap (λ b. if b then spoken (line_id k) (decided_line s k content) else silent s) some))
-reply_of s k content d some (inr h) = inr (record { has_words = some; fits = h.0; marked = h.1 }, ap (spoken (line_id k)) h.2)
+reply_of s k content d some decides = inr (some, (d, decides, refl))
 
 -- a line with words, its answer written whole
 pub answered_whole : (s : Standing) (k : Kept) (content : Content) (d : Decided) (flow : Flow) {taken taken' : Option (List ℕ)} → has_bytes k.text ≡ true → DecidesLine s k content d →

@@ -4,9 +4,10 @@ use Rattle.std.proofs.lemmas.List.{append-nil}
 use Rattle.go_game.specs.Standings.{Standing}
 use Rattle.goref_lines.specs.Kept.{kept}
 use Rattle.goref.specs.Contents.{Content, nothing, missing, Pair}
-use Rattle.goref.specs.Answers.{Said, said, Reply, wants}
+use Rattle.goref.specs.Answers.{Said, Reply, wants}
 use Rattle.goref.specs.Conversation.{Asks, Conversation, ends, quits, goes_on}
 use Rattle.goref.specs.Progress.{Reaches}
+use Rattle.goref.proofs.Possible.{some_reply}
 
 -- the same session, told in other words
 pub retold : {s : Standing} {lines lines' : List (List ℕ)} {asked asked' : List Pair} {text text' : List ℕ} →
@@ -39,8 +40,9 @@ pub some_conversation : (lines : List (List ℕ)) (s : Standing) → SomeConvers
 some_conversation [] s = ([], [], ends s)
 some_conversation (line ∷ lines) s =
     let f = some_content (wants (kept line)) in
-    let reply : Said = said s (kept line) f.0 in
-    let c = some_more s line lines f.0 f.1 reply reply.ends f.2 (inl refl) refl (some_conversation lines reply.standing) in
+    let r = some_reply s (kept line) f.0 in
+    let reply : Said = r.0 in
+    let c = some_more s line lines f.0 f.1 reply reply.ends f.2 r.1 refl (some_conversation lines reply.standing) in
     (f.1 ++ c.0, reply.text ++ c.1, c.2)
 
 -- before the first line

@@ -1,4 +1,5 @@
 pub mod Lines
+pub mod Possible
 pub mod Conversations
 pub mod Answering
 pub mod Progressing

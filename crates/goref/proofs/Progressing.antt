@@ -134,8 +134,8 @@ settled P read front line rest chunk e h more = subst P (cut_again read front li
 -- the end of the input: a last line, or none
 silent_reply : (s : Standing) (content : Content) (reply : Said) → Reply s (kept []) content reply → reply.text ≡ []
 unfolding kept
-silent_reply s content reply (inl e) = ap (λ (x : Said). x.text) e
-silent_reply s content reply (inr h) = let words = h.0.has_words in cc
+silent_reply s content reply (inl e) = ap (λ (x : Said). x.text) e.1
+silent_reply s content reply (inr h) = let words = h.0 in cc
 
 silent_asks : (content : Content) (asked : List Pair) → Asks (wants (kept [])) content asked → asked ≡ []
 unfolding kept

@@ -1,12 +1,12 @@
 -- The texts of answers.
-use Rattle.std.specs.Prelude.{◌≡◌, ℕ, ◌⊎◌, Bool, true, false, if◌then◌else◌, List, [], ◌++◌, Option, Some, None, codes, decimal}
+use Rattle.std.specs.Prelude.{◌≡◌, ℕ, ◌⊎◌, Bool, true, false, if◌then◌else◌, List, [], ◌++◌, Option, Some, None, codes, decimal, option_map}
 use Rattle.std.specs.List.{join_with_byte}
 use Rattle.goref.specs.declared.decision.Decision.{Decision}
 use Rattle.goref.specs.declared.decision.Decision.TheVariants.{Done, Ends, Tells, Refused}
 use Rattle.goref.specs.declared.decision.Fact.{Fact}
-use Rattle.goref.specs.declared.decision.Fact.TheVariants.{Protocol, Program, Release, Commands, Known, Score, Board, Chains, Places, Vertex as Chosen, Plays}
+use Rattle.goref.specs.declared.decision.Fact.TheVariants.{Protocol, Program, Release, Commands, Known, Score, Board, Chains, Places, Vertex as Chosen, Plays, Record}
 use Rattle.goref.specs.declared.decision.Refusal.{Refusal}
-use Rattle.goref.specs.declared.decision.Refusal.TheVariants.{LineTooLong, UnknownCommand, SyntaxError, UnacceptableSize, IllegalMove, CannotUndo, BoardNotEmpty, InvalidNumber, BadVertexList, OutOfMemory}
+use Rattle.goref.specs.declared.decision.Refusal.TheVariants.{LineTooLong, UnknownCommand, SyntaxError, UnacceptableSize, IllegalMove, CannotUndo, BoardNotEmpty, InvalidNumber, BadVertexList, CannotLoad, OutOfMemory}
 use Rattle.go_game.specs.Standings.{Standing, board_of}
 use Rattle.go_game.specs.Handicaps.{fixed}
 use Rattle.go_game.specs.Scores.{margin_of, score_word}
@@ -20,7 +20,9 @@ use Rattle.goref_results.specs.ChainLines.{chain_lines}
 use Rattle.goref_results.specs.Places.{places_text}
 use Rattle.goref_results.specs.Plays.{plays_text}
 use Rattle.go_board.specs.Vertices.{vertex_word}
-use Rattle.goref.specs.Decisions.{Decided, keeps, decided, MayLackMemory}
+use Rattle.goref.specs.Decisions.{Decided, Decides, keeps}
+use Rattle.goref.specs.Loads.{load_asked}
+use Rattle.go_record.specs.Records.{record_body}
 
 abbrev pub refusal_text : Refusal → List ℕ
 refusal_text LineTooLong = codes "line too long"
@@ -32,6 +34,7 @@ refusal_text CannotUndo = codes "cannot undo"
 refusal_text BoardNotEmpty = codes "board not empty"
 refusal_text InvalidNumber = codes "invalid number of stones"
 refusal_text BadVertexList = codes "bad vertex list"
+refusal_text CannotLoad = codes "cannot load file"
 refusal_text OutOfMemory = codes "out of memory"
 
 abbrev pub truth_text : Bool → List ℕ
@@ -51,6 +54,7 @@ fact_text Chains s = chain_lines s.lines (board_of s)
 fact_text (Places number) s = places_text (fixed s.lines number)
 fact_text (Chosen v) s = vertex_word v
 fact_text (Plays marks) s = plays_text s.lines marks
+fact_text Record s = record_body s
 
 -- the id in front of an answer, without leading zeros
 abbrev pub id_text : Option ℕ → List ℕ
@@ -86,33 +90,20 @@ spoken id d = record { text = decision_text id d.decision d.standing; standing =
 abbrev pub line_id : Kept → Option ℕ
 line_id k = if k.is_long then id_of_cut k.text else (asked_by (words k.text)).id
 
--- what is decided on a line with words, the content being what was fetched for it
-abbrev pub decided_line : Standing → Kept → Content → Decided
-decided_line s k content = if k.is_long then keeps s (Refused LineTooLong) else decided s (asked_by (words k.text)) content
+-- what may be decided on a line with words, the content being what was fetched for it
+abbrev pub DecidesLine : Standing → Kept → Content → Decided → Type 0
+DecidesLine s k content d = ((k.is_long ≡ true) × (d ≡ keeps s (Refused LineTooLong)))
+    ⊎ ((k.is_long ≡ false) × Decides s (asked_by (words k.text)) content d)
 
--- what is said to a line
-abbrev pub said : Standing → Kept → Content → Said
-said s k content = if has_bytes k.text then spoken (line_id k) (decided_line s k content) else silent s
-
--- a line that may be refused for want of memory: it has words, is not too long, and its command is so marked
-pub record MayBeRefused (s : Standing) (k : Kept) (content : Content) : Type 0 where
-  pub has_words : has_bytes k.text ≡ true
-  pub fits : k.is_long ≡ false
-  pub marked : MayLackMemory s (asked_by (words k.text)) content
-
--- the answer where memory is wanting
-abbrev pub without_memory : Standing → Kept → Said
-without_memory s k = spoken (line_id k) (keeps s (Refused OutOfMemory))
+-- what may be said to a line with words: the answer by a decision
+abbrev pub Answers : Standing → Kept → Content → Said → Type 0
+Answers s k content reply = (d : Decided) × DecidesLine s k content d × (reply ≡ spoken (line_id k) d)
 
 -- what may be said to a line
 abbrev pub Reply : Standing → Kept → Content → Said → Type 0
-Reply s k content reply = (reply ≡ said s k content) ⊎ (MayBeRefused s k content × (reply ≡ without_memory s k))
-
--- what may be decided on a line with words
-abbrev pub DecidesLine : Standing → Kept → Content → Decided → Type 0
-DecidesLine s k content d = (d ≡ decided_line s k content)
-    ⊎ ((k.is_long ≡ false) × MayLackMemory s (asked_by (words k.text)) content × (d ≡ keeps s (Refused OutOfMemory)))
+Reply s k content reply = ((has_bytes k.text ≡ false) × (reply ≡ silent s))
+    ⊎ ((has_bytes k.text ≡ true) × Answers s k content reply)
 
 -- the name of the file that a line wants fetched
 abbrev pub wants : Kept → Option (List ℕ)
-wants k = None
+wants k = if k.is_long then None else option_map (λ load. load.name) (load_asked (asked_by (words k.text)))

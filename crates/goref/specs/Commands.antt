@@ -2,7 +2,7 @@
 use Rattle.std.specs.Prelude.{ℕ, List, [], ◌∷◌, Option, codes, find, map}
 use Rattle.std.specs.Str.{bytes_eq}
 use Rattle.goref.specs.declared.command.Command.{Command}
-use Rattle.goref.specs.declared.command.Command.TheVariants.{ProtocolVersion, Name, Version, KnownCommand, ListCommands, Quit, Boardsize, ClearBoard, Komi, Play, Genmove, Undo, RegGenmove, FixedHandicap, PlaceFreeHandicap, SetFreeHandicap, FinalScore, Showboard, TimeSettings, TimeLeft, Chains, Legal}
+use Rattle.goref.specs.declared.command.Command.TheVariants.{ProtocolVersion, Name, Version, KnownCommand, ListCommands, Quit, Boardsize, ClearBoard, Komi, Play, Genmove, Undo, RegGenmove, Loadsgf, FixedHandicap, PlaceFreeHandicap, SetFreeHandicap, FinalScore, Showboard, TimeSettings, TimeLeft, Chains, Legal, Printsgf}
 
 -- the name by which a line asks for a command
 abbrev pub name_of : Command → List ℕ
@@ -19,6 +19,7 @@ name_of Play = codes "play"
 name_of Genmove = codes "genmove"
 name_of Undo = codes "undo"
 name_of RegGenmove = codes "reg_genmove"
+name_of Loadsgf = codes "loadsgf"
 name_of FixedHandicap = codes "fixed_handicap"
 name_of PlaceFreeHandicap = codes "place_free_handicap"
 name_of SetFreeHandicap = codes "set_free_handicap"
@@ -28,11 +29,12 @@ name_of TimeSettings = codes "time_settings"
 name_of TimeLeft = codes "time_left"
 name_of Chains = codes "goref-chains"
 name_of Legal = codes "goref-legal"
+name_of Printsgf = codes "goref-printsgf"
 
 -- all commands, in the order in which they are listed
 abbrev pub commands : List Command
-commands = ProtocolVersion ∷ Name ∷ Version ∷ KnownCommand ∷ ListCommands ∷ Quit ∷ Boardsize ∷ ClearBoard ∷ Komi ∷ Play ∷ Genmove ∷ Undo ∷ RegGenmove ∷ FixedHandicap ∷ PlaceFreeHandicap
-    ∷ SetFreeHandicap ∷ FinalScore ∷ Showboard ∷ TimeSettings ∷ TimeLeft ∷ Chains ∷ Legal ∷ []
+commands = ProtocolVersion ∷ Name ∷ Version ∷ KnownCommand ∷ ListCommands ∷ Quit ∷ Boardsize ∷ ClearBoard ∷ Komi ∷ Play ∷ Genmove ∷ Undo ∷ RegGenmove ∷ Loadsgf ∷ FixedHandicap ∷ PlaceFreeHandicap
+    ∷ SetFreeHandicap ∷ FinalScore ∷ Showboard ∷ TimeSettings ∷ TimeLeft ∷ Chains ∷ Legal ∷ Printsgf ∷ []
 
 abbrev pub command_names : List (List ℕ)
 command_names = map name_of commands

@@ -6,11 +6,11 @@ use Rattle.goref.specs.declared.command.Command.{Command}
 use Rattle.goref.specs.declared.command.Command.TheVariants as command
 use Rattle.goref.specs.declared.decision.Decision.{Decision}
 use Rattle.goref.specs.declared.decision.Decision.TheVariants.{Done, Ends, Tells, Refused}
-use Rattle.goref.specs.declared.decision.Fact.TheVariants.{Protocol, Program, Release, Commands, Known, Score, Board, Chains, Places, Vertex as Chosen, Plays}
+use Rattle.goref.specs.declared.decision.Fact.TheVariants.{Protocol, Program, Release, Commands, Known, Score, Board, Chains, Places, Vertex as Chosen, Plays, Record}
 use Rattle.go_game.specs.declared.errors.PlayError.{PlayError}
 use Rattle.go_game.specs.declared.errors.PlayError.TheVariants.{OffBoard, Occupied, Repeats, Memory}
 use Rattle.goref.specs.declared.decision.Refusal.{Refusal}
-use Rattle.goref.specs.declared.decision.Refusal.TheVariants.{UnknownCommand, SyntaxError, UnacceptableSize, IllegalMove, CannotUndo, BoardNotEmpty, InvalidNumber, BadVertexList, OutOfMemory}
+use Rattle.goref.specs.declared.decision.Refusal.TheVariants.{UnknownCommand, SyntaxError, UnacceptableSize, IllegalMove, CannotUndo, BoardNotEmpty, InvalidNumber, BadVertexList, CannotLoad, OutOfMemory}
 use Rattle.go_board.specs.declared.colour.Colour.{Colour}
 use Rattle.go_board.specs.declared.vertex.Move.{Move}
 use Rattle.go_board.specs.declared.vertex.Vertex.{Vertex}
@@ -29,8 +29,9 @@ use Rattle.goref_results.specs.Plays.{marked_plays}
 use Rattle.goref_lines.specs.Words.{int_of, colour_of}
 use Rattle.go_sgf.specs.Numbers.{hundredths_of}
 use Rattle.goref_lines.specs.Requests.{Asked}
-use Rattle.goref.specs.Contents.{Content}
+use Rattle.goref.specs.Contents.{Content, bytes, missing, no_memory, nothing, too_large}
 use Rattle.goref.specs.Commands.{command_of}
+use Rattle.goref.specs.Loads.{Load, Loads, LoadsNone, load_of}
 
 -- a decision, and the standing after it
 pub record Decided : Type 0 where
@@ -131,42 +132,6 @@ abbrev pub decided_left : Standing → Option Colour → Option ℕ → Option �
 decided_left s (Some colour) (Some time) (Some stones) = comes_to s
 decided_left s _ _ _ = keeps s (Refused SyntaxError)
 
--- what is decided on a command with these arguments, the content being what was fetched for it
-abbrev pub decided_on : Standing → Command → List (List ℕ) → Content → Decided
-decided_on s command.ProtocolVersion arguments content = keeps s (Tells Protocol)
-decided_on s command.Name arguments content = keeps s (Tells Program)
-decided_on s command.Version arguments content = keeps s (Tells Release)
-decided_on s command.KnownCommand arguments content = decided_known s (slice_get arguments 0)
-decided_on s command.ListCommands arguments content = keeps s (Tells Commands)
-decided_on s command.Quit arguments content = keeps s Ends
-decided_on s command.Boardsize arguments content = decided_size s (option_and_then int_of (slice_get arguments 0))
-decided_on s command.ClearBoard arguments content = comes_to (begun s.lines s.komi)
-decided_on s command.Komi arguments content = decided_komi s (option_and_then hundredths_of (slice_get arguments 0))
-decided_on s command.Play arguments content = decided_play s (option_and_then colour_of (slice_get arguments 0)) (option_and_then vertex_of (slice_get arguments 1))
-decided_on s command.Genmove arguments content = decided_genmove s (option_and_then colour_of (slice_get arguments 0))
-decided_on s command.Undo arguments content = decided_undo s s.moves
-decided_on s command.RegGenmove arguments content = decided_choice s (option_and_then colour_of (slice_get arguments 0))
-decided_on s command.FixedHandicap arguments content = decided_fixed s (option_and_then int_of (slice_get arguments 0))
-decided_on s command.PlaceFreeHandicap arguments content = decided_free s (option_and_then int_of (slice_get arguments 0))
-decided_on s command.SetFreeHandicap arguments content = decided_stones s (stones_listed s.lines arguments)
-decided_on s command.TimeSettings arguments content =
-    decided_settings s (option_and_then int_of (slice_get arguments 0)) (option_and_then int_of (slice_get arguments 1)) (option_and_then int_of (slice_get arguments 2))
-decided_on s command.TimeLeft arguments content =
-    decided_left s (option_and_then colour_of (slice_get arguments 0)) (option_and_then int_of (slice_get arguments 1)) (option_and_then int_of (slice_get arguments 2))
-decided_on s command.FinalScore arguments content = keeps s (Tells Score)
-decided_on s command.Showboard arguments content = keeps s (Tells Board)
-decided_on s command.Chains arguments content = keeps s (Tells Chains)
-decided_on s command.Legal arguments content = decided_legal s (option_and_then colour_of (slice_get arguments 0))
-
--- what is decided on a name, which may be that of no command
-abbrev pub decided_if : Standing → Option Command → List (List ℕ) → Content → Decided
-decided_if s None arguments content = keeps s (Refused UnknownCommand)
-decided_if s (Some command) arguments content = decided_on s command arguments content
-
--- what is decided on what the words of a line ask
-abbrev pub decided : Standing → Asked → Content → Decided
-decided s asked content = decided_if s (option_and_then command_of asked.name) asked.arguments content
-
 -- a move for which memory may be wanting: one that is neither off the board nor on a stone
 abbrev pub LacksMemoryAt : Standing → Option Colour → Option Vertex → Type 0
 LacksMemoryAt s None vertex = ⊥
@@ -181,24 +146,6 @@ is_refusal _ = false
 abbrev pub LacksMemoryFor : Decided → Type 0
 LacksMemoryFor d = is_refusal d.decision ≡ false
 
--- a command that may be refused for want of memory
-abbrev pub LacksMemoryOn : Standing → Command → List (List ℕ) → Content → Type 0
-LacksMemoryOn s command.Play arguments content = LacksMemoryAt s (option_and_then colour_of (slice_get arguments 0)) (option_and_then vertex_of (slice_get arguments 1))
-LacksMemoryOn s command.Genmove arguments content = LacksMemoryFor (decided_genmove s (option_and_then colour_of (slice_get arguments 0)))
-LacksMemoryOn s command.RegGenmove arguments content = LacksMemoryFor (decided_choice s (option_and_then colour_of (slice_get arguments 0)))
-LacksMemoryOn s command.Legal arguments content = LacksMemoryFor (decided_legal s (option_and_then colour_of (slice_get arguments 0)))
-LacksMemoryOn s command.FixedHandicap arguments content = LacksMemoryFor (decided_fixed s (option_and_then int_of (slice_get arguments 0)))
-LacksMemoryOn s command.PlaceFreeHandicap arguments content = LacksMemoryFor (decided_free s (option_and_then int_of (slice_get arguments 0)))
-LacksMemoryOn s command.SetFreeHandicap arguments content = LacksMemoryFor (decided_stones s (stones_listed s.lines arguments))
-LacksMemoryOn s _ arguments content = ⊥
-
-abbrev pub LacksMemoryIf : Standing → Option Command → List (List ℕ) → Content → Type 0
-LacksMemoryIf s None arguments content = ⊥
-LacksMemoryIf s (Some command) arguments content = LacksMemoryOn s command arguments content
-
-abbrev pub MayLackMemory : Standing → Asked → Content → Type 0
-MayLackMemory s asked content = LacksMemoryIf s (option_and_then command_of asked.name) asked.arguments content
-
 -- what may be decided on a move: what the rules say, or a refusal for want of memory where that is allowed
 abbrev pub DecidesPlay : Standing → Option Colour → Option Vertex → Decided → Type 0
 DecidesPlay s c v d = (d ≡ decided_play s c v) ⊎ (LacksMemoryAt s c v × (d ≡ keeps s (Refused OutOfMemory)))
@@ -207,6 +154,60 @@ DecidesPlay s c v d = (d ≡ decided_play s c v) ⊎ (LacksMemoryAt s c v × (d 
 abbrev pub MayDecide : Standing → Decided → Decided → Type 0
 MayDecide s stated d = (d ≡ stated) ⊎ (LacksMemoryFor stated × (d ≡ keeps s (Refused OutOfMemory)))
 
--- what may be decided: what the table says, or a refusal for want of memory where that is allowed
+-- what may be decided on the bytes of a file: its record's game is gone on with, or there is none,
+-- or memory is wanting
+abbrev pub DecidesBytes : Standing → List ℕ → Option ℕ → Decided → Type 0
+DecidesBytes s b number d = ((game : Standing) × Loads b number game × (d ≡ comes_to game))
+    ⊎ (LoadsNone b number × (d ≡ keeps s (Refused CannotLoad)))
+    ⊎ (d ≡ keeps s (Refused OutOfMemory))
+
+abbrev pub DecidesContent : Standing → Content → Option ℕ → Decided → Type 0
+DecidesContent s (bytes b) number d = DecidesBytes s b number d
+DecidesContent s no_memory number d = d ≡ keeps s (Refused OutOfMemory)
+DecidesContent s nothing number d = d ≡ keeps s (Refused CannotLoad)
+DecidesContent s missing number d = d ≡ keeps s (Refused CannotLoad)
+DecidesContent s too_large number d = d ≡ keeps s (Refused CannotLoad)
+
+-- `loadsgf`: what was fetched for it decides
+abbrev pub DecidesLoad : Standing → Option Load → Content → Decided → Type 0
+DecidesLoad s None content d = d ≡ keeps s (Refused SyntaxError)
+DecidesLoad s (Some load) content d = DecidesContent s content load.number d
+
+-- what may be decided on a command with these arguments, the content being what was fetched for it
+abbrev pub DecidesOn : Standing → Command → List (List ℕ) → Content → Decided → Type 0
+DecidesOn s command.ProtocolVersion arguments content d = d ≡ keeps s (Tells Protocol)
+DecidesOn s command.Name arguments content d = d ≡ keeps s (Tells Program)
+DecidesOn s command.Version arguments content d = d ≡ keeps s (Tells Release)
+DecidesOn s command.KnownCommand arguments content d = d ≡ decided_known s (slice_get arguments 0)
+DecidesOn s command.ListCommands arguments content d = d ≡ keeps s (Tells Commands)
+DecidesOn s command.Quit arguments content d = d ≡ keeps s Ends
+DecidesOn s command.Boardsize arguments content d = d ≡ decided_size s (option_and_then int_of (slice_get arguments 0))
+DecidesOn s command.ClearBoard arguments content d = d ≡ comes_to (begun s.lines s.komi)
+DecidesOn s command.Komi arguments content d = d ≡ decided_komi s (option_and_then hundredths_of (slice_get arguments 0))
+DecidesOn s command.Play arguments content d =
+    DecidesPlay s (option_and_then colour_of (slice_get arguments 0)) (option_and_then vertex_of (slice_get arguments 1)) d
+DecidesOn s command.Genmove arguments content d = MayDecide s (decided_genmove s (option_and_then colour_of (slice_get arguments 0))) d
+DecidesOn s command.Undo arguments content d = d ≡ decided_undo s s.moves
+DecidesOn s command.RegGenmove arguments content d = MayDecide s (decided_choice s (option_and_then colour_of (slice_get arguments 0))) d
+DecidesOn s command.Loadsgf arguments content d = DecidesLoad s (load_of arguments) content d
+DecidesOn s command.FixedHandicap arguments content d = MayDecide s (decided_fixed s (option_and_then int_of (slice_get arguments 0))) d
+DecidesOn s command.PlaceFreeHandicap arguments content d = MayDecide s (decided_free s (option_and_then int_of (slice_get arguments 0))) d
+DecidesOn s command.SetFreeHandicap arguments content d = MayDecide s (decided_stones s (stones_listed s.lines arguments)) d
+DecidesOn s command.FinalScore arguments content d = d ≡ keeps s (Tells Score)
+DecidesOn s command.Showboard arguments content d = d ≡ keeps s (Tells Board)
+DecidesOn s command.TimeSettings arguments content d =
+    d ≡ decided_settings s (option_and_then int_of (slice_get arguments 0)) (option_and_then int_of (slice_get arguments 1)) (option_and_then int_of (slice_get arguments 2))
+DecidesOn s command.TimeLeft arguments content d =
+    d ≡ decided_left s (option_and_then colour_of (slice_get arguments 0)) (option_and_then int_of (slice_get arguments 1)) (option_and_then int_of (slice_get arguments 2))
+DecidesOn s command.Chains arguments content d = d ≡ keeps s (Tells Chains)
+DecidesOn s command.Legal arguments content d = MayDecide s (decided_legal s (option_and_then colour_of (slice_get arguments 0))) d
+DecidesOn s command.Printsgf arguments content d = d ≡ keeps s (Tells Record)
+
+-- what may be decided on a name, which may be that of no command
+abbrev pub DecidesIf : Standing → Option Command → List (List ℕ) → Content → Decided → Type 0
+DecidesIf s None arguments content d = d ≡ keeps s (Refused UnknownCommand)
+DecidesIf s (Some command) arguments content d = DecidesOn s command arguments content d
+
+-- what may be decided on what the words of a line ask
 abbrev pub Decides : Standing → Asked → Content → Decided → Type 0
-Decides s asked content d = (d ≡ decided s asked content) ⊎ (MayLackMemory s asked content × (d ≡ keeps s (Refused OutOfMemory)))
+Decides s asked content d = DecidesIf s (option_and_then command_of asked.name) asked.arguments content d

@@ -3,6 +3,7 @@ pub mod Starts
 pub mod Contents
 pub mod Handicaps
 pub mod Commands
+pub mod Loads
 pub mod Decisions
 pub mod Answers
 pub mod Replies

@@ -3,6 +3,7 @@ ghost use Rattle.go_board.specs.Device.{Adds, Sent, failures_after, place};
 ghost use Rattle.std.specs.List.{join_with_byte};
 ghost use Rattle.goref.specs.Answers.{id_text, refusal_text, fact_text, decision_text};
 ghost use Rattle.go_board.specs.Vertices.{vertex_word};
+ghost use Rattle.go_record.specs.Records.{record_body};
 ghost use Rattle.goref.specs.Commands.{command_names};
 ghost use Rattle.goref_results.specs.Results.{result_text};
 
@@ -10,6 +11,8 @@ use crate::command::listing;
 use crate::decision::{Decision, Fact, Refusal};
 use crate::session::Session;
 use go_board::{Pen, Sink, Vertex, WriteFault, vertex_text};
+use go_game::Game;
+use go_record::put_record;
 use goref_results::{put_board, put_chains, put_places, put_plays, put_score};
 use itoa::Buffer;
 use std::alloc::Allocator;
@@ -127,7 +130,18 @@ fn put_fact<A: Allocator + Copy, W: Sink>(
         Fact::Places(number) => put_places(session.game(), number, pen, writer),
         Fact::Vertex(vertex) => put_vertex(vertex, pen, writer),
         Fact::Plays(plays) => put_plays(session.game().size(), &plays, pen, writer),
+        Fact::Record => put_game(session.game(), pen, writer),
     }
+}
+
+/// Writes the record of a game, on one line.
+fn put_game<A: Allocator + Copy, W: Sink>(game: &Game<A>, pen: &mut Pen, writer: &mut W)
+    ensures { Adds (place pen.old.has_failed (W.taken writer.old) (W.failures writer.old))
+        (place pen.new.has_failed (W.taken writer.new) (W.failures writer.new))
+        (result_text (record_body game.now.standing)) }
+{
+    pen.put(b" ", writer);
+    put_record(game, pen, writer);
 }
 
 fn put_vertex<W: Sink>(vertex: Vertex, pen: &mut Pen, writer: &mut W)
@@ -162,6 +176,7 @@ fn refusal_word(why: Refusal) -> &'static [u8]
         Refusal::BoardNotEmpty => b"board not empty",
         Refusal::InvalidNumber => b"invalid number of stones",
         Refusal::BadVertexList => b"bad vertex list",
+        Refusal::CannotLoad => b"cannot load file",
         Refusal::OutOfMemory => b"out of memory",
     }
 }

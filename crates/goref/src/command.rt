@@ -18,6 +18,7 @@ pub enum Command {
     Genmove,
     Undo,
     RegGenmove,
+    Loadsgf,
     FixedHandicap,
     PlaceFreeHandicap,
     SetFreeHandicap,
@@ -27,11 +28,12 @@ pub enum Command {
     TimeLeft,
     Chains,
     Legal,
+    Printsgf,
 }
 
 /// The names of all commands, each on a line of its own.
 const LISTING: &[u8] =
-    b"protocol_version\nname\nversion\nknown_command\nlist_commands\nquit\nboardsize\nclear_board\nkomi\nplay\ngenmove\nundo\nreg_genmove\nfixed_handicap\nplace_free_handicap\nset_free_handicap\nfinal_score\nshowboard\ntime_settings\ntime_left\ngoref-chains\ngoref-legal";
+    b"protocol_version\nname\nversion\nknown_command\nlist_commands\nquit\nboardsize\nclear_board\nkomi\nplay\ngenmove\nundo\nreg_genmove\nloadsgf\nfixed_handicap\nplace_free_handicap\nset_free_handicap\nfinal_score\nshowboard\ntime_settings\ntime_left\ngoref-chains\ngoref-legal\ngoref-printsgf";
 
 /// The command of this name.
 pub fn command_named(name: &[u8]) -> Option<Command>
@@ -76,6 +78,9 @@ pub fn command_named(name: &[u8]) -> Option<Command>
     if name == b"reg_genmove".as_slice() {
         return Some(Command::RegGenmove);
     }
+    if name == b"loadsgf".as_slice() {
+        return Some(Command::Loadsgf);
+    }
     if name == b"fixed_handicap".as_slice() {
         return Some(Command::FixedHandicap);
     }
@@ -102,6 +107,9 @@ pub fn command_named(name: &[u8]) -> Option<Command>
     }
     if name == b"goref-legal".as_slice() {
         return Some(Command::Legal);
+    }
+    if name == b"goref-printsgf".as_slice() {
+        return Some(Command::Printsgf);
     }
     None
 }

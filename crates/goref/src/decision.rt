@@ -39,6 +39,8 @@ pub enum Fact {
     Vertex(Vertex),
     /// The plays that are legal.
     Plays(Plays),
+    /// The record of the game.
+    Record,
 }
 
 /// Why a command is refused.
@@ -53,5 +55,6 @@ pub enum Refusal {
     BoardNotEmpty,
     InvalidNumber,
     BadVertexList,
+    CannotLoad,
     OutOfMemory,
 }

@@ -5,6 +5,7 @@ mod answer;
 mod command;
 mod decision;
 mod flow;
+mod load;
 mod runs;
 mod session;
 mod shelf;

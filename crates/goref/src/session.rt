@@ -12,7 +12,8 @@ ghost use Rattle.goref.specs.Commands.{command_of};
 ghost use Rattle.go_board.specs.Device.{failures_after};
 ghost use Rattle.goref.specs.Answers.{DecidesLine, is_end, line_id};
 ghost use Rattle.goref.specs.Replies.{Answered, flow_of};
-ghost use Rattle.goref.specs.Decisions.{Decides, DecidesPlay, MayDecide, decided_choice, decided_fixed, decided_free, decided_genmove, decided_handicap, decided_komi, decided_known, decided_left, decided_legal, decided_settings, decided_size, decided_stones, decided_undo, move_refusal};
+ghost use Rattle.goref.specs.Loads.{load_of};
+ghost use Rattle.goref.specs.Decisions.{Decides, DecidesBytes, DecidesContent, DecidesLoad, DecidesPlay, MayDecide, decided_choice, decided_fixed, decided_free, decided_genmove, decided_handicap, decided_komi, decided_known, decided_left, decided_legal, decided_settings, decided_size, decided_stones, decided_undo, move_refusal};
 ghost use Rattle.goref.specs.Handicaps.{with_stones};
 ghost use Rattle.goref_lines.specs.Stones.{stones_listed};
 ghost use Rattle.go_board.specs.Points.{IsOn};
@@ -21,6 +22,7 @@ use crate::answer::write_answer;
 use crate::command::{Command, command_named};
 use crate::decision::{Decision, Fact, Refusal};
 use crate::flow::Flow;
+use crate::load::{LoadError, command_asked, load_asked, loaded};
 use crate::shelf::Fetched;
 use go_board::{Colour, Move, Point, Sink, Size, Vertex, VertexError, WriteFault, read_vertex};
 use go_game::laws::legal_by_the_rules;
@@ -116,6 +118,7 @@ impl<A: Allocator + Copy> Session<A> {
             Some(Command::Genmove) => self.decide_genmove(request),
             Some(Command::Undo) => self.decide_undo(),
             Some(Command::RegGenmove) => self.decide_choice(request),
+            Some(Command::Loadsgf) => self.decide_load(request, fetched),
             Some(Command::FixedHandicap) => self.decide_fixed(request),
             Some(Command::PlaceFreeHandicap) => self.decide_free(request),
             Some(Command::SetFreeHandicap) => self.decide_stones(request),
@@ -125,6 +128,7 @@ impl<A: Allocator + Copy> Session<A> {
             Some(Command::Showboard) => Decision::Tells(Fact::Board),
             Some(Command::Chains) => Decision::Tells(Fact::Chains),
             Some(Command::Legal) => self.decide_legal(request),
+            Some(Command::Printsgf) => Decision::Tells(Fact::Record),
         }
     }
 
@@ -242,6 +246,44 @@ impl<A: Allocator + Copy> Session<A> {
                 Ok(plays) => Decision::Tells(Fact::Plays(plays)),
                 Err(_) => Decision::Refused(Refusal::OutOfMemory),
             },
+        }
+    }
+
+    fn decide_load(&mut self, request: &Request, fetched: Fetched<A>) -> Decision
+        ensures { DecidesLoad self.old (load_of request.now.arguments) (content_of fetched)
+            (record { decision = result; standing = self.new }) }
+    {
+        match load_asked(request) {
+            None => Decision::Refused(Refusal::SyntaxError),
+            Some(load) => self.decide_fetched(fetched, load.number),
+        }
+    }
+
+    /// Goes on with the game of what was fetched.
+    fn decide_fetched(&mut self, fetched: Fetched<A>, number: Option<u32>) -> Decision
+        ensures { DecidesContent self.old (content_of fetched) number
+            (record { decision = result; standing = self.new }) }
+    {
+        match fetched {
+            Fetched::Bytes(bytes) => self.decide_bytes(bytes.as_slice(), number),
+            Fetched::Memory => Decision::Refused(Refusal::OutOfMemory),
+            Fetched::None => Decision::Refused(Refusal::CannotLoad),
+            Fetched::Missing => Decision::Refused(Refusal::CannotLoad),
+            Fetched::TooLarge => Decision::Refused(Refusal::CannotLoad),
+        }
+    }
+
+    fn decide_bytes(&mut self, bytes: &[u8], number: Option<u32>) -> Decision
+        ensures { DecidesBytes self.old bytes.now number
+            (record { decision = result; standing = self.new }) }
+    {
+        match loaded(self.alloc, bytes, number) {
+            Ok(next) => {
+                self.game = next;
+                Decision::Done
+            }
+            Err(LoadError::Cannot) => Decision::Refused(Refusal::CannotLoad),
+            Err(LoadError::Memory) => Decision::Refused(Refusal::OutOfMemory),
         }
     }
 
@@ -373,15 +415,6 @@ fn flow_after(decision: Decision) -> Flow
     match decision {
         Decision::Ends => Flow::Quit,
         _ => Flow::More,
-    }
-}
-
-fn command_asked(request: &Request) -> Option<Command>
-    ensures { result ≡ option_and_then command_of request.now.name }
-{
-    match request.name() {
-        Some(name) => command_named(name),
-        None => None,
     }
 }
 

@@ -2,7 +2,9 @@ ghost use Rattle.std.specs.Prelude.{◌≡◌, ◌∷◌, [], List, Option, opti
 ghost use Rattle.goref.specs.Contents.{Pair, content_of, then_pairs};
 ghost use Rattle.goref.specs.Answers.{wants as wants_of};
 
-use goref_lines::Line;
+use crate::command::Command;
+use crate::load::{command_asked, load_asked};
+use goref_lines::{Line, Request};
 use std::alloc::Allocator;
 
 /// What was fetched for a line.
@@ -31,9 +33,20 @@ pub trait Shelf<A: Allocator> {
             ((name.now, content_of result) ∷ []) };
 }
 
-/// The name of the file that a line wants fetched.
-pub fn wants(_line: &Line) -> Option<&[u8]>
-    ensures { option_copied result ≡ wants_of _line.now }
+/// The name of the file that a line wants fetched: that of a `loadsgf` whose arguments are as they
+/// are to be.
+pub fn wants(line: &Line) -> Option<&[u8]>
+    ensures { option_copied result ≡ wants_of line.now }
 {
-    None
+    if line.is_long() {
+        return None;
+    }
+    let request = Request::of(line.text());
+    match command_asked(&request) {
+        Some(Command::Loadsgf) => match load_asked(&request) {
+            Some(load) => Some(load.name),
+            None => None,
+        },
+        _ => None,
+    }
 }

@@ -14,6 +14,8 @@ mod handicaps;
 #[cfg(test)]
 mod lines;
 #[cfg(test)]
+mod loads;
+#[cfg(test)]
 mod matches;
 #[cfg(test)]
 mod plays;

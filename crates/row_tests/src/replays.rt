@@ -25,7 +25,9 @@ fn replayed<A: Allocator + Copy>(
 
 /// Asserts what the replay of a source is refused with, and the text of that.
 fn refused(rt: &impl Abort, alloc: Global, source: &[u8], why: RecordError, text: &str) {
-    let error = replayed(rt, alloc, source, None).err().expect(rt, "a refusal");
+    let error = replayed(rt, alloc, source, None)
+        .err()
+        .expect(rt, "a refusal");
     assert!(rt; error == why, "{error}");
     let told = format!(in alloc; "{error}").expect(rt, "a text");
     assert!(rt; told.as_str() == text, "{told}");
@@ -44,11 +46,35 @@ fn stone(rt: &impl Abort, game: &Game<Global>, word: &[u8]) -> Option<Colour> {
 #[test]
 fn refusals_of_replay(rt: HostRuntime) {
     let alloc = rt.alloc();
-    refused(&rt, alloc, b"(;GM[2])", RecordError::NotGo, "not a Go record");
-    refused(&rt, alloc, b"(;SZ[0])", RecordError::BadSize, "bad board size");
-    refused(&rt, alloc, b"(;SZ[9:8])", RecordError::BadSize, "bad board size");
+    refused(
+        &rt,
+        alloc,
+        b"(;GM[2])",
+        RecordError::NotGo,
+        "not a Go record",
+    );
+    refused(
+        &rt,
+        alloc,
+        b"(;SZ[0])",
+        RecordError::BadSize,
+        "bad board size",
+    );
+    refused(
+        &rt,
+        alloc,
+        b"(;SZ[9:8])",
+        RecordError::BadSize,
+        "bad board size",
+    );
     refused(&rt, alloc, b"(;KM[x])", RecordError::BadKomi, "bad komi");
-    refused(&rt, alloc, b"(;B[zz])", RecordError::BadValue(0), "bad value in node 0");
+    refused(
+        &rt,
+        alloc,
+        b"(;B[zz])",
+        RecordError::BadValue(0),
+        "bad value in node 0",
+    );
     refused(
         &rt,
         alloc,
@@ -91,7 +117,10 @@ fn records_refused(rt: HostRuntime) {
         "move 4 repeats the position after 3 moves",
     );
     let first = Point { col: 0, row: 0 };
-    for source in [b"(;SZ[1]AB[aa])".as_slice(), b"(;SZ[2]AB[aa:bb])".as_slice()] {
+    for source in [
+        b"(;SZ[1]AB[aa])".as_slice(),
+        b"(;SZ[2]AB[aa:bb])".as_slice(),
+    ] {
         refused(
             &rt,
             alloc,
@@ -178,7 +207,14 @@ fn judged<A: Allocator + Copy>(
     judge(alloc, &collection)
 }
 
-fn has_verdict(rt: &impl Abort, alloc: Global, source: &[u8], moves: usize, score: &str, stated: Stated) {
+fn has_verdict(
+    rt: &impl Abort,
+    alloc: Global,
+    source: &[u8],
+    moves: usize,
+    score: &str,
+    stated: Stated,
+) {
     let verdict = judged(rt, alloc, source).expect(rt, "a verdict");
     assert_eq!(rt; verdict.moves, moves);
     assert!(rt; score_text(verdict.margin).as_str() == score);
@@ -188,14 +224,56 @@ fn has_verdict(rt: &impl Abort, alloc: Global, source: &[u8], moves: usize, scor
 #[test]
 fn judge_a_record(rt: HostRuntime) {
     let alloc = rt.alloc();
-    has_verdict(&rt, alloc, b"(;GM[1]SZ[9]KM[6.5]RE[B+74.5];B[ee])", 1, "B+74.5", Stated::Agrees);
+    has_verdict(
+        &rt,
+        alloc,
+        b"(;GM[1]SZ[9]KM[6.5]RE[B+74.5];B[ee])",
+        1,
+        "B+74.5",
+        Stated::Agrees,
+    );
     let why = RecordError::Illegal(4, PlayError::Repeats(3));
     assert!(rt; judged(&rt, alloc, REPEATING) == Err(why));
-    has_verdict(&rt, alloc, b"(;SZ[9]KM[0.5]RE[W+0.5])", 0, "W+0.5", Stated::Agrees);
-    has_verdict(&rt, alloc, b"(;SZ[9]KM[0.5]RE[ Draw ])", 0, "W+0.5", Stated::Differs);
-    has_verdict(&rt, alloc, b"(;SZ[9]KM[0.5]RE[B+R])", 0, "W+0.5", Stated::None);
-    has_verdict(&rt, alloc, b"(;SZ[2]AB[aa:bb]AE[ab])", 0, "B+4", Stated::None);
-    has_verdict(&rt, alloc, b"(;SZ[2]AB[aa:bb]AE[ab];W[ab])", 1, "W+4", Stated::None);
+    has_verdict(
+        &rt,
+        alloc,
+        b"(;SZ[9]KM[0.5]RE[W+0.5])",
+        0,
+        "W+0.5",
+        Stated::Agrees,
+    );
+    has_verdict(
+        &rt,
+        alloc,
+        b"(;SZ[9]KM[0.5]RE[ Draw ])",
+        0,
+        "W+0.5",
+        Stated::Differs,
+    );
+    has_verdict(
+        &rt,
+        alloc,
+        b"(;SZ[9]KM[0.5]RE[B+R])",
+        0,
+        "W+0.5",
+        Stated::None,
+    );
+    has_verdict(
+        &rt,
+        alloc,
+        b"(;SZ[2]AB[aa:bb]AE[ab])",
+        0,
+        "B+4",
+        Stated::None,
+    );
+    has_verdict(
+        &rt,
+        alloc,
+        b"(;SZ[2]AB[aa:bb]AE[ab];W[ab])",
+        1,
+        "W+4",
+        Stated::None,
+    );
 }
 
 /// What a replay and a verdict tell of the record with stones set up, where there is memory.

@@ -94,7 +94,7 @@ fn commands_are_listed(rt: HostRuntime) {
         &rt,
         rt.alloc(),
         b"list_commands\n",
-        b"= protocol_version\nname\nversion\nknown_command\nlist_commands\nquit\nboardsize\nclear_board\nkomi\nplay\ngenmove\nundo\nreg_genmove\nfixed_handicap\nplace_free_handicap\nset_free_handicap\nfinal_score\nshowboard\ntime_settings\ntime_left\ngoref-chains\ngoref-legal\n\n",
+        b"= protocol_version\nname\nversion\nknown_command\nlist_commands\nquit\nboardsize\nclear_board\nkomi\nplay\ngenmove\nundo\nreg_genmove\nloadsgf\nfixed_handicap\nplace_free_handicap\nset_free_handicap\nfinal_score\nshowboard\ntime_settings\ntime_left\ngoref-chains\ngoref-legal\ngoref-printsgf\n\n",
     );
 }
 

@@ -1,0 +1,73 @@
+-- Something can be decided on each line.
+use Rattle.std.proofs.Common.{◌≡◌, inl, inr, Bool, true, false, List, ℕ, Option, Some, None, refl}
+use Rattle.std.specs.Option.{option_and_then}
+use Rattle.go_game.specs.Standings.{Standing}
+use Rattle.goref_lines.specs.Kept.{Kept, has_bytes, words}
+use Rattle.goref_lines.specs.Requests.{Asked, asked_by}
+use Rattle.goref.specs.Answers.{DecidesLine, Reply, Said, line_id, silent, spoken}
+use Rattle.goref.specs.Commands.{command_of}
+use Rattle.goref.specs.Contents.{Content, bytes, missing, no_memory, nothing, too_large}
+use Rattle.goref.specs.Decisions.{Decided, Decides, DecidesContent, DecidesIf, DecidesLoad, DecidesOn, keeps}
+use Rattle.goref.specs.Loads.{Load, load_of}
+use Rattle.goref.specs.declared.command.Command.{Command}
+use Rattle.goref.specs.declared.command.Command.TheVariants as command
+use Rattle.goref.specs.declared.decision.Decision.TheVariants.{Refused}
+use Rattle.goref.specs.declared.decision.Refusal.TheVariants.{LineTooLong}
+
+on_content : (s : Standing) (content : Content) (number : Option ℕ) → (d : Decided) × DecidesContent s content number d
+on_content s (bytes b) number = (_, inr (inr refl))
+on_content s no_memory number = (_, refl)
+on_content s nothing number = (_, refl)
+on_content s missing number = (_, refl)
+on_content s too_large number = (_, refl)
+
+on_load : (s : Standing) (load : Option Load) (content : Content) → (d : Decided) × DecidesLoad s load content d
+on_load s None content = (_, refl)
+on_load s (Some load) content = on_content s content load.number
+
+on_command : (s : Standing) (c : Command) (arguments : List (List ℕ)) (content : Content) → (d : Decided) × DecidesOn s c arguments content d
+on_command s command.ProtocolVersion arguments content = (_, refl)
+on_command s command.Name arguments content = (_, refl)
+on_command s command.Version arguments content = (_, refl)
+on_command s command.KnownCommand arguments content = (_, refl)
+on_command s command.ListCommands arguments content = (_, refl)
+on_command s command.Quit arguments content = (_, refl)
+on_command s command.Boardsize arguments content = (_, refl)
+on_command s command.ClearBoard arguments content = (_, refl)
+on_command s command.Komi arguments content = (_, refl)
+on_command s command.Play arguments content = (_, inl refl)
+on_command s command.Genmove arguments content = (_, inl refl)
+on_command s command.Undo arguments content = (_, refl)
+on_command s command.RegGenmove arguments content = (_, inl refl)
+on_command s command.Loadsgf arguments content = on_load s (load_of arguments) content
+on_command s command.FixedHandicap arguments content = (_, inl refl)
+on_command s command.PlaceFreeHandicap arguments content = (_, inl refl)
+on_command s command.SetFreeHandicap arguments content = (_, inl refl)
+on_command s command.FinalScore arguments content = (_, refl)
+on_command s command.Showboard arguments content = (_, refl)
+on_command s command.TimeSettings arguments content = (_, refl)
+on_command s command.TimeLeft arguments content = (_, refl)
+on_command s command.Chains arguments content = (_, refl)
+on_command s command.Legal arguments content = (_, inl refl)
+on_command s command.Printsgf arguments content = (_, refl)
+
+on_name : (s : Standing) (c : Option Command) (arguments : List (List ℕ)) (content : Content) → (d : Decided) × DecidesIf s c arguments content d
+on_name s None arguments content = (_, refl)
+on_name s (Some c) arguments content = on_command s c arguments content
+
+on_line : (s : Standing) (k : Kept) (content : Content) (long : Bool) → k.is_long ≡ long → (d : Decided) × DecidesLine s k content d
+on_line s k content true e = (keeps s (Refused LineTooLong), inl (e, refl))
+on_line s k content false e =
+    let asked = asked_by (words k.text) in
+    let d = on_name s (option_and_then command_of asked.name) asked.arguments content in
+    (d.0, inr (e, d.1))
+
+reply_by : (s : Standing) (k : Kept) (content : Content) (words : Bool) → has_bytes k.text ≡ words → (reply : Said) × Reply s k content reply
+reply_by s k content false e = (silent s, inl (e, refl))
+reply_by s k content true e =
+    let d = on_line s k content k.is_long refl in
+    (spoken (line_id k) d.0, inr (e, (d.0, d.1, refl)))
+
+-- each line can be replied to
+pub some_reply : (s : Standing) (k : Kept) (content : Content) → (reply : Said) × Reply s k content reply
+some_reply s k content = reply_by s k content (has_bytes k.text) refl

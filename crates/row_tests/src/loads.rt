@@ -1,0 +1,177 @@
+use go_board::{MAX_LINES, Size};
+use goref::{Fetched, Flow, Line, Session, Shelf, run};
+use memory_devices::{Reader, Writer};
+use std::alloc::{Allocator, Global};
+use std::process::Abort;
+
+const HANDICAP_GAME: &[u8] = b"(;GM[1]SZ[9]KM[5.5]AB[cc][gg];W[ee];B[])";
+
+/// What a shelf gives for each name.
+#[derive(Clone, Copy)]
+enum Gift<'a> {
+    Bytes(&'a [u8]),
+    Missing,
+    TooLarge,
+    Memory,
+}
+
+/// A shelf that gives the same for each name, and counts how often it is asked for `f`.
+#[derive(Drop)]
+struct OneFile<'a, A: Allocator + Copy> {
+    alloc: A,
+    gift: Gift<'a>,
+    asked: usize,
+}
+
+impl<'a, A: Allocator + Copy> OneFile<'a, A> {
+    fn given(&self) -> Fetched<A> {
+        match self.gift {
+            Gift::Bytes(bytes) => match bytes.to_vec(self.alloc) {
+                Ok(copy) => Fetched::Bytes(copy),
+                Err(_) => Fetched::Memory,
+            },
+            Gift::Missing => Fetched::Missing,
+            Gift::TooLarge => Fetched::TooLarge,
+            Gift::Memory => Fetched::Memory,
+        }
+    }
+}
+
+impl<A: Allocator + Copy> Shelf<A> for OneFile<'_, A> {
+    ghost use Rattle.std.specs.Prelude.{None};
+
+    ghost given = { λ _. None };
+
+    fn fetch(&mut self, name: &[u8]) -> Fetched<A> {
+        if name == b"f".as_slice() {
+            self.asked = self.asked.wrapping_add(1);
+        }
+        self.given()
+    }
+}
+
+/// Asserts what a script is answered over such a shelf, and how often `f` is asked for.
+fn says(
+    rt: &impl Abort,
+    alloc: Global,
+    gift: Gift<'_>,
+    script: &[u8],
+    answers: &[u8],
+    asked: usize,
+) {
+    for most in [1, 4_096] {
+        let size = Size::new(MAX_LINES).expect(rt, "a size");
+        let mut shelf = OneFile {
+            alloc,
+            gift,
+            asked: 0,
+        };
+        let mut reader = Reader::new(script).in_pieces_of(most);
+        let mut writer = Writer::new(alloc);
+        let end = run(alloc, size, &mut reader, &mut writer, &mut shelf);
+        assert!(rt; end == Ok(()));
+        assert!(rt; writer.bytes() == answers);
+        assert_eq!(rt; shelf.asked, asked);
+    }
+}
+
+#[test]
+fn load_a_record(rt: HostRuntime) {
+    let alloc = rt.alloc();
+    says(
+        &rt,
+        alloc,
+        Gift::Bytes(HANDICAP_GAME),
+        b"loadsgf f 2\nshowboard\nundo\nundo\n",
+        b"=\n\n= size 9 komi 5.5 prisoners B 0 W 0 moves 1 next B\n 9 . . . . . . . . .\n 8 . . . . . . . . .\n 7 . . X . . . . . .\n 6 . . . . . . . . .\n 5 . . . . O . . . .\n 4 . . . . . . . . .\n 3 . . . . . . X . .\n 2 . . . . . . . . .\n 1 . . . . . . . . .\n   A B C D E F G H J\n\n=\n\n? cannot undo\n\n",
+        1,
+    );
+    says(
+        &rt,
+        alloc,
+        Gift::Bytes(HANDICAP_GAME),
+        b"loadsgf f x\nloadsgf\nloadsgf f 2147483648\n# loadsgf f\n",
+        b"? syntax error\n\n? syntax error\n\n? syntax error\n\n",
+        0,
+    );
+    for (script, heading) in [
+        (
+            b"loadsgf f 0\nshowboard\n".as_slice(),
+            b"=\n\n= size 9 komi 5.5 prisoners B 0 W 0 moves 0 next W\n".as_slice(),
+        ),
+        (
+            b"loadsgf f 99\nshowboard\n".as_slice(),
+            b"=\n\n= size 9 komi 5.5 prisoners B 0 W 0 moves 2 next W\n".as_slice(),
+        ),
+    ] {
+        let size = Size::new(MAX_LINES).expect(&rt, "a size");
+        let mut shelf = OneFile {
+            alloc,
+            gift: Gift::Bytes(HANDICAP_GAME),
+            asked: 0,
+        };
+        let mut writer = Writer::new(alloc);
+        let end = run(
+            alloc,
+            size,
+            &mut Reader::new(script),
+            &mut writer,
+            &mut shelf,
+        );
+        assert!(rt; end == Ok(()));
+        assert!(rt; writer.bytes().starts_with(heading));
+    }
+}
+
+#[test]
+fn records_refused(rt: HostRuntime) {
+    let script = b"boardsize 2\nplay b a1\nloadsgf f\ngoref-chains\nundo\n".as_slice();
+    let answers = b"=\n\n=\n\n? cannot load file\n\n= B A1 : B1 A2\n\n=\n\n".as_slice();
+    for gift in [
+        Gift::Bytes(b"(;SZ[9]AB[aa]AW[ab][ba])"),
+        Gift::Bytes(b"(;SZ[2];B[aa];W[ba];W[ab];B[aa])"),
+        Gift::Bytes(b"no record"),
+        Gift::Missing,
+        Gift::TooLarge,
+    ] {
+        says(&rt, rt.alloc(), gift, script, answers, 1);
+    }
+    says(
+        &rt,
+        rt.alloc(),
+        Gift::Memory,
+        script,
+        b"=\n\n=\n\n? out of memory\n\n= B A1 : B1 A2\n\n=\n\n",
+        1,
+    );
+}
+
+#[test]
+fn nothing_fetched(rt: HostRuntime) {
+    let size = Size::new(MAX_LINES).expect(&rt, "a size");
+    let mut session = Session::new(rt.alloc(), size);
+    let mut writer = Writer::new(rt.alloc());
+    let line = Line::of(b"loadsgf f");
+    assert!(rt; session.answer(&line, Fetched::None, &mut writer) == Ok(Flow::More));
+    assert!(rt; writer.bytes() == b"? cannot load file\n\n".as_slice());
+}
+
+#[test]
+fn print_the_record(rt: HostRuntime) {
+    says(
+        &rt,
+        rt.alloc(),
+        Gift::Missing,
+        b"boardsize 9\nkomi 6.5\nfixed_handicap 2\nplay w e5\nplay b pass\ngoref-printsgf\n",
+        b"=\n\n=\n\n= C3 G7\n\n=\n\n=\n\n= (;GM[1]FF[4]SZ[9]KM[6.5]PL[W]AB[cg][gc];W[ee];B[])\n\n",
+        0,
+    );
+    says(
+        &rt,
+        rt.alloc(),
+        Gift::Bytes(HANDICAP_GAME),
+        b"7 loadsgf f\n8 goref-printsgf\n",
+        b"=7\n\n=8 (;GM[1]FF[4]SZ[9]KM[5.5]PL[W]AB[gg][cc];W[ee];B[])\n\n",
+        1,
+    );
+}
