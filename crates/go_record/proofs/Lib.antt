@@ -7,3 +7,5 @@ pub mod Spelled
 pub mod Painting
 pub mod Recorded
 pub mod Fitting
+pub mod SoundGames
+pub mod Decided

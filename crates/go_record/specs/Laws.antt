@@ -7,9 +7,14 @@ use Rattle.go_record.specs.Games.{IsGameOf}
 use Rattle.go_record.specs.Records.{record_of, tree_of}
 use Rattle.go_record.specs.Walks.{Outcome}
 
--- no record has two outcomes
+-- a record comes to one outcome, and to no other
 abbrev pub OneOutcome : Type 0
-OneOutcome = (c : Trees) (number : Option ℕ) (a b : Outcome) → IsGameOf c number a → IsGameOf c number b → a ≡ b
+OneOutcome = (c : Trees) (number : Option ℕ) →
+    (outcome : Outcome) × IsGameOf c number outcome × ((other : Outcome) → IsGameOf c number other → other ≡ outcome)
+
+-- what a record comes to is a standing that play can come to
+abbrev pub SoundGames : Type 0
+SoundGames = (c : Trees) (number : Option ℕ) (s : Standing) → IsGameOf c number (Ok s) → IsSound s
 
 -- A standing's record can be spelled, its text spells it and nothing else, and its game is the standing.
 pub record Records (s : Standing) : Type 0 where

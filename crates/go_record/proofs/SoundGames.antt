@@ -1,0 +1,167 @@
+-- What a record comes to is a standing that play can come to.
+use Rattle.std.proofs.Common.{◌≡◌, ◌≢◌, ◌∙◌, ◌<◌, ◌≤◌, ◌*◌, ℕ, ℤ, Bool, true, false, true≢false, List, [], ◌∷◌, ◌++◌, refl, sym, ap, subst, inl, inr, arith, length, length-append, take, get_or, replicate}
+use Rattle.std.specs.Prelude.{Option, Some, None, Ok, ◌&&◌, not, option_map, position, ◌==◌, nat_le, pos, codes, IsTrue}
+use Rattle.std.proofs.lemmas.Bool.{and_parts, cases_Bool, cases_lt, leb-true}
+use Rattle.std.specs.Option.{option_and_then}
+use Rattle.std.proofs.lemmas.Int.{ints}
+use Rattle.std.proofs.lemmas.List.{get_or_append_left, length-replicate, length-set, take-append-le, take_all}
+use Rattle.std.proofs.Math.Seq.{get_or-append_seam}
+use Rattle.go_board.specs.declared.colour.Colour.{Colour}
+use Rattle.go_board.specs.declared.colour.Colour.TheVariants.{Black, White}
+use Rattle.go_board.specs.declared.point.Point.{Point}
+use Rattle.go_board.specs.declared.size.TheConstants.{MAX_LINES}
+use Rattle.go_board.specs.declared.vertex.Move.{Move}
+use Rattle.go_board.specs.Colours.{Colouring, colour_at}
+use Rattle.go_board.specs.Points.{number_of}
+use Rattle.go_board.specs.Reaching.{is_same, reaches}
+use Rattle.go_game.specs.Standings.{IsKomi, IsLegal, IsSound, Standing, with_move}
+use Rattle.go_sgf.specs.BoardValues.{point_of, points_of}
+use Rattle.go_sgf.specs.Numbers.{behind_sign, has_minus, hundredths_in, hundredths_of, is_decimal, size_by, size_of_number, trimmed, with_sign, whole_part, decimals_in}
+use Rattle.go_sgf.specs.Record.{Trees}
+use Rattle.go_sgf.specs.declared.hundredths.TheConstants.{MOST_HUNDREDTHS}
+use Rattle.go_record.specs.declared.error.RecordError.{RecordError}
+use Rattle.go_record.specs.Games.{IsGameOf, Needs, OrElse, is_blank, is_go, komi_in, lines_in, lines_within, number_by, root_value}
+use Rattle.go_record.specs.declared.root.TheConstants.{USUAL_LINES}
+use Rattle.go_record.specs.MainLine.{Event, stones, turn, move}
+use Rattle.go_record.specs.Walks.{Begins, IsAlive, OrBad, Outcome, Plays, SetsUp, colour_of, start_of, with_points}
+
+-- the standing with these moves
+abbrev pub moved_to : Standing → List Move → Standing
+moved_to s moves = record s { moves = moves }
+
+-- one more legal move
+sound_more : (s : Standing) (m : Move) → IsSound s → IsLegal s m.colour m.vertex → IsSound (with_move s m)
+sound_more s m sound legal = record {
+  size = sound.size;
+  whole = sound.whole;
+  komi = sound.komi;
+  alive = sound.alive;
+  legal = λ k x low at.
+      let longer = length-append s.moves (m ∷ []) in
+      elim (cases_lt k (length s.moves)) [
+        | inl before ↦
+            let same : get_or s.moves k x ≡ x = sym (get_or_append_left s.moves (m ∷ []) x k before) ∙ at in
+            let moves : take k (s.moves ++ m ∷ []) ≡ take k s.moves = take-append-le k s.moves (m ∷ []) (omega arith) in
+            subst (λ (ms : List Move). IsLegal (moved_to s ms) x.colour x.vertex) (sym moves) (sound.legal k x before same)
+        | inr last ↦
+            let k_is : k ≡ length s.moves = omega (arith, longer) in
+            let x_is : m ≡ x = sym (ap (λ (j : ℕ). get_or (s.moves ++ m ∷ []) j x) k_is ∙ get_or-append_seam s.moves m [] x) ∙ at in
+            let moves : take k (s.moves ++ m ∷ []) ≡ s.moves = take-append-le k s.moves (m ∷ []) (omega arith) ∙ take_all k s.moves (omega arith) in
+            subst (λ (y : Move). IsLegal (moved_to s (take k (s.moves ++ m ∷ []))) y.colour y.vertex) x_is (subst (λ (ms : List Move). IsLegal (moved_to s ms) m.colour m.vertex) (sym moves) legal)
+      ];
+}
+
+from_bad : {X : Type 0} (node : ℕ) (o : Option X) (s : Standing) (Later : X → Type 0) (P : Type 0) → ((x : X) → o ≡ Some x → Later x → P) → OrBad node o (Ok s) Later → P
+from_bad node None s Later P f h = cc h
+from_bad node (Some x) s Later P f h = f x refl h
+
+from_else : {X : Type 0} (e : RecordError) (o : Option X) (s : Standing) (Later : X → Type 0) (P : Type 0) → ((x : X) → o ≡ Some x → Later x → P) → OrElse e o (Ok s) Later → P
+from_else e None s Later P f h = cc h
+from_else e (Some x) s Later P f h = f x refl h
+
+from_needs : (e : RecordError) (t : Bool) (s : Standing) (Later P : Type 0) → (Later → P) → Needs e t (Ok s) Later → P
+from_needs e false s Later P f h = cc h
+from_needs e true s Later P f h = f h
+
+same_standing : (s t : Standing) → (let r : Outcome = Ok s in r) ≡ Ok t → s ≡ t
+same_standing s t h = cc h
+
+sound_play : (events : List Event) (s t : Standing) → IsSound s → Plays s events (Ok t) → IsSound t
+unfolding Plays
+sound_play [] s t sound h = subst IsSound (sym (same_standing t s h)) sound
+sound_play (stones node c values ∷ events) s t sound h = cc h
+sound_play (turn node value ∷ events) s t sound h = sound_play events s t sound h
+sound_play (move node c value ∷ events) s t sound h =
+    from_bad node (point_of s.lines value) t _ (IsSound t) (λ v e k. elim k [
+      | inl p ↦ sound_play events (with_move s (record { colour = c; vertex = v })) t (sound_more s (record { colour = c; vertex = v }) sound p.0) p.1
+      | inr q ↦ let f = q.refusal in cc f
+    ]) h
+
+lives_by : (o : Option Colour) (r : Bool) → (not (is_same o None) && not r) ≡ false → o ≢ None → IsTrue r
+lives_by None r e some = absurd (some refl)
+lives_by (Some c) true e some = refl
+lives_by (Some Black) false e some = absurd (true≢false e)
+lives_by (Some White) false e some = absurd (true≢false e)
+
+sound_start : (n : ℕ) (komi : ℤ) (g : Colouring) (given : Option Colour) → (0 < n) × (n ≤ MAX_LINES) → IsKomi komi → length g ≡ n * n → IsAlive n g → IsSound (start_of n komi g given)
+sound_start n komi g given size kept whole alive = record {
+  size = size;
+  whole = whole;
+  komi = kept;
+  alive = λ p low some. lives_by (colour_at g p) (reaches n g p None) (alive p low) some;
+  legal = λ k m low at. absurd (let e : ⊥ = omega (arith, low) in e);
+}
+
+sound_begin : (n : ℕ) (komi : ℤ) (g : Colouring) (given : Option Colour) (events : List Event) (t : Standing) → (0 < n) × (n ≤ MAX_LINES) → IsKomi komi → length g ≡ n * n →
+    Begins n komi g given events (Ok t) → IsSound t
+sound_begin n komi g given events t size kept whole (inl p) = sound_play events (start_of n komi g given) t (sound_start n komi g given size kept whole p.0) p.1
+sound_begin n komi g given events t size kept whole (inr q) = let f = q.refusal in cc f
+
+points_length : (n : ℕ) (c : Option Colour) (ps : List Point) (g : Colouring) → length (with_points n c g ps) ≡ length g
+points_length n c [] g = refl
+points_length n c (p ∷ ps) g = points_length n c ps _ ∙ length-set g (number_of n p) c
+
+sound_setup : (events : List Event) (n : ℕ) (komi : ℤ) (g : Colouring) (given : Option Colour) (t : Standing) → (0 < n) × (n ≤ MAX_LINES) → IsKomi komi → length g ≡ n * n →
+    SetsUp n komi g given events (Ok t) → IsSound t
+unfolding SetsUp
+sound_setup [] n komi g given t size kept whole h = sound_begin n komi g given [] t size kept whole h
+sound_setup (stones node c values ∷ events) n komi g given t size kept whole h =
+    from_bad node (points_of n values) t _ (IsSound t) (λ ps e k. sound_setup events n komi (with_points n c g ps) given t size kept (points_length n c ps g ∙ whole) k) h
+sound_setup (turn node value ∷ events) n komi g given t size kept whole h =
+    from_bad node (colour_of value) t _ (IsSound t) (λ c e k. sound_setup events n komi g (Some c) t size kept whole k) h
+sound_setup (move node c value ∷ events) n komi g given t size kept whole h = sound_begin n komi g given (move node c value ∷ events) t size kept whole h
+
+-- ---- what the first node says
+
+some_is : {X : Type 0} (x y : X) → (let o : Option X = Some x in o) ≡ Some y → x ≡ y
+some_is x y h = cc h
+
+within_range : (o : Option ℕ) (n : ℕ) → option_and_then lines_within o ≡ Some n → (0 < n) × (n ≤ MAX_LINES)
+within_range None n h = cc h
+within_range (Some m) n h = elim (cases_Bool (nat_le 1 m && nat_le m MAX_LINES)) [
+  | inl on ↦
+      let both = and_parts (nat_le 1 m) (nat_le m MAX_LINES) on in
+      let is : m ≡ n = some_is m n (rw on at h) in
+      subst (λ (k : ℕ). (0 < k) × (k ≤ MAX_LINES)) is (leb-true 1 m both.0, leb-true m MAX_LINES both.1)
+  | inr off ↦ let e : (let o : Option ℕ = None in o) ≡ Some n = rw off at h in cc e
+]
+
+lines_range : (value : List ℕ) (n : ℕ) → lines_in value ≡ Some n → (0 < n) × (n ≤ MAX_LINES)
+lines_range value n h = elim (cases_Bool (is_blank value)) [
+  | inl blank ↦ let is : USUAL_LINES ≡ n = some_is USUAL_LINES n (rw blank at h) in subst (λ (k : ℕ). (0 < k) × (k ≤ MAX_LINES)) is (omega arith, omega arith)
+  | inr some ↦ within_range (number_by value (position (λ b. b == 58) value)) n (rw some at h)
+]
+
+size_few : (w d : List ℕ) (n : ℕ) → size_by w d ≡ Some n → n ≤ MOST_HUNDREDTHS
+size_few w d n h = elim (cases_Bool (is_decimal w d && nat_le (hundredths_in w d) MOST_HUNDREDTHS)) [
+  | inl on ↦
+      let is : hundredths_in w d ≡ n = some_is (hundredths_in w d) n (rw on at h) in
+      subst (λ (k : ℕ). k ≤ MOST_HUNDREDTHS) is (leb-true (hundredths_in w d) MOST_HUNDREDTHS (and_parts (is_decimal w d) (nat_le (hundredths_in w d) MOST_HUNDREDTHS) on).1)
+  | inr off ↦ let e : (let o : Option ℕ = None in o) ≡ Some n = rw off at h in cc e
+]
+
+signed_range : (minus : Bool) (n : ℕ) → n ≤ MOST_HUNDREDTHS → IsKomi (with_sign minus n)
+signed_range false n few = (omega (arith, ints, few), omega (arith, ints, few))
+signed_range true n few = (omega (arith, ints, few), omega (arith, ints, few))
+
+mapped_range : (minus : Bool) (o : Option ℕ) (k : ℤ) → ((n : ℕ) → o ≡ Some n → n ≤ MOST_HUNDREDTHS) → option_map (with_sign minus) o ≡ Some k → IsKomi k
+mapped_range minus None k few h = cc h
+mapped_range minus (Some n) k few h = subst IsKomi (some_is (with_sign minus n) k h) (signed_range minus n (few n refl))
+
+komi_range : (value : List ℕ) (k : ℤ) → komi_in value ≡ Some k → IsKomi k
+komi_range value k h = elim (cases_Bool (is_blank value)) [
+  | inl blank ↦ subst IsKomi (some_is (pos 0) k (rw blank at h)) (omega (arith, ints), omega (arith, ints))
+  | inr some ↦
+      let word = trimmed value in
+      let told : hundredths_of value ≡ Some k = rw some at h in
+      mapped_range (has_minus word) (size_of_number (behind_sign word)) k (λ n e. size_few (whole_part (behind_sign word)) (decimals_in (behind_sign word)) n e) told
+]
+
+pub games_sound : (c : Trees) (number : Option ℕ) (t : Standing) → IsGameOf c number (Ok t) → IsSound t
+unfolding IsGameOf
+games_sound c number t h =
+    from_needs _ (is_go (root_value (codes "GM") c)) t _ (IsSound t) (λ rest.
+    from_else _ (lines_in (root_value (codes "SZ") c)) t _ (IsSound t) (λ n en more.
+    from_else _ (komi_in (root_value (codes "KM") c)) t _ (IsSound t) (λ komi ek walk.
+    sound_setup _ n komi (replicate (n * n) None) None t (lines_range (root_value (codes "SZ") c) n en) (komi_range (root_value (codes "KM") c) komi ek) (length-replicate (n * n) None) walk)
+    more) rest) h
