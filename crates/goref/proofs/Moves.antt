@@ -15,7 +15,7 @@ use Rattle.go_game.specs.Standings as standings
 use Rattle.go_game.specs.Standings.{IsLegal, IsOccupied, IsOffBoard, Standing, board_of, positions_of, with_move}
 use Rattle.goref.specs.declared.decision.Decision.TheVariants.{Done, Refused}
 use Rattle.goref.specs.declared.decision.Refusal.TheVariants.{IllegalMove, OutOfMemory}
-use Rattle.goref.specs.Decisions.{keeps, comes_to, decided_move, DecidesPlay, move_refusal}
+use Rattle.goref.specs.Decisions.{keeps, comes_to, DecidesPlay, move_refusal}
 
 -- the law of the game's crate that its test decides what is legal
 abbrev pub LegalByTheRules : Type 0

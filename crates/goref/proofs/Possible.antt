@@ -3,11 +3,11 @@ use Rattle.std.proofs.Common.{◌≡◌, inl, inr, Bool, true, false, List, ℕ,
 use Rattle.std.specs.Option.{option_and_then}
 use Rattle.go_game.specs.Standings.{Standing}
 use Rattle.goref_lines.specs.Kept.{Kept, has_bytes, words}
-use Rattle.goref_lines.specs.Requests.{Asked, asked_by}
+use Rattle.goref_lines.specs.Requests.{asked_by}
 use Rattle.goref.specs.Answers.{DecidesLine, Reply, Said, line_id, silent, spoken}
 use Rattle.goref.specs.Commands.{command_of}
 use Rattle.goref.specs.Contents.{Content, bytes, missing, no_memory, nothing, too_large}
-use Rattle.goref.specs.Decisions.{Decided, Decides, DecidesContent, DecidesIf, DecidesLoad, DecidesOn, keeps}
+use Rattle.goref.specs.Decisions.{Decided, DecidesContent, DecidesIf, DecidesLoad, DecidesOn, keeps}
 use Rattle.goref.specs.Loads.{Load, load_of}
 use Rattle.goref.specs.declared.command.Command.{Command}
 use Rattle.goref.specs.declared.command.Command.TheVariants as command

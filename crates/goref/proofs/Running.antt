@@ -1,6 +1,5 @@
 -- What a run did, from what was read of the input.
-use Rattle.std.proofs.Common.{◌≡◌, ◌∙◌, ℕ, List, [], ◌++◌, Option, Some, None, refl, sym, ap, subst, append_assoc}
-use Rattle.std.specs.Prelude.{IfSome}
+use Rattle.std.proofs.Common.{◌≡◌, ℕ, List, [], Option}
 use Rattle.std.proofs.lemmas.List.{append-nil}
 use Rattle.go_board.specs.Device.{after_bytes}
 use Rattle.go_game.specs.Standings.{Standing}

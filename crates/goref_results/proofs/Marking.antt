@@ -1,5 +1,5 @@
 -- How marks over the numbers from 0 grow by the next number.
-use Rattle.std.proofs.Common.{◌≡◌, ◌∙◌, ◌<◌, ◌≤◌, ◌*◌, if◌then◌else◌, ℕ, zero, suc, Bool, true, false, nat_lt, ◌&&◌, ◌+◌, List, ◌∷◌, refl, sym, ap, ap₂, arith, map, replicate, slice_set}
+use Rattle.std.proofs.Common.{◌≡◌, ◌∙◌, ◌<◌, ◌≤◌, ◌*◌, if◌then◌else◌, ℕ, zero, suc, Bool, false, nat_lt, ◌&&◌, ◌+◌, List, ◌∷◌, refl, sym, ap, ap₂, arith, map, replicate, slice_set}
 use Rattle.std.specs.List.{range_with_len}
 use Rattle.std.specs.Prelude.{filter, slice_index_or}
 use Rattle.std.proofs.Math.Nat.{mul-le-mul}

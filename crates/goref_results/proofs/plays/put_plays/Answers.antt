@@ -1,4 +1,4 @@
-use Rattle.std.proofs.Common.{arith, ◌≡◌, ◌∙◌, ◌*◌, ℕ, false, refl, subst, List}
+use Rattle.std.proofs.Common.{arith, ◌≡◌, ◌*◌, false}
 use Rattle.std.specs.Prelude.{slice_index_or}
 use Rattle.go_board.specs.Sizes.{lines_of}
 use Rattle.go_board.specs.Writing.{adds_then}
