@@ -65,6 +65,14 @@ fn last_word(words: &[u8]) -> &[u8] {
     words.split_at(from.min(words.len())).1
 }
 
+/// A word without the space before it.
+fn bare(word: &[u8]) -> &[u8] {
+    match word.split_first() {
+        Some((_, name)) => name,
+        None => word,
+    }
+}
+
 /// goref's move for Black: a vertex, by its own word.
 fn goref_moves(
     rt: &impl Abort,
@@ -74,7 +82,7 @@ fn goref_moves(
 ) -> Result<Vertex, AllocError> {
     let word = told(rt, alloc, session, b"genmove b")?;
     assert!(rt; word.first() == Some(&b' '));
-    let read = read_vertex(word.as_slice().split_at(1).1, judge.size());
+    let read = read_vertex(bare(word.as_slice()), judge.size());
     let vertex = read.expect(rt, "a vertex");
     assert!(rt; spaced(alloc, vertex)?.as_slice() == word.as_slice());
     Ok(vertex)
@@ -97,7 +105,7 @@ fn opponent_moves(
     let mut line = b"play w".to_vec(alloc)?;
     line.extend_from_slice(word)?;
     assert!(rt; told(rt, alloc, session, line.as_slice())?.is_empty());
-    let read = read_vertex(word.split_at(1).1, judge.size());
+    let read = read_vertex(bare(word), judge.size());
     Ok(read.expect(rt, "a vertex"))
 }
 
@@ -139,7 +147,7 @@ fn a_game_to_its_end(rt: HostRuntime) -> Result<(), Fail> {
     assert_eq!(rt; passes, 2);
     assert!(rt; judge.move_count() > 30);
     let score = told(&rt, alloc, &mut session, b"final_score")?;
-    assert!(rt; score.as_slice().split_at(1).1 == score_text(judge.margin()).as_bytes());
+    assert!(rt; bare(score.as_slice()) == score_text(judge.margin()).as_bytes());
     for _ in 0..300u32 {
         if judge.undo().is_none() {
             break;
