@@ -1,2 +1,3 @@
 pub mod Tools
 pub mod Tidying
+pub mod Judging

@@ -1,12 +1,17 @@
 -- What a tool reads of its input, and how it ends.
-use Rattle.std.specs.Prelude.{◌≡◌, ◌≢◌, ◌≤◌, ◌+◌, ℕ, List, [], Option, IfSome, Result, Err, length}
+use Rattle.std.specs.Prelude.{◌≡◌, ◌≢◌, ◌≤◌, ◌+◌, ℕ, List, [], Option, IfSome, None, Result, Err, length}
 use Rattle.go_board.specs.Device.{after_bytes}
+use Rattle.go_record.specs.Games.{IsGameOf}
+use Rattle.go_record.specs.declared.error.RecordError.{RecordError}
+use Rattle.go_record.specs.declared.error.RecordError.TheVariants.{Memory as NoMemoryForGame}
+use Rattle.go_sgf.specs.Record.{Trees}
 use Rattle.go_sgf.specs.Refusals.{IsRefusal}
+use Rattle.go_sgf.specs.Spelling.{Spells}
 use Rattle.go_sgf.specs.declared.error.SgfError.{SgfError}
 use Rattle.go_sgf.specs.declared.error.SgfError.TheVariants.{Memory}
 use Rattle.go_sgf.specs.declared.limits.TheConstants.{MAX_RECORD}
 use Rattle.goref_tools.specs.declared.error.ToolError.{ToolError}
-use Rattle.goref_tools.specs.declared.error.ToolError.TheVariants.{Sgf, Read, Write, Memory as NoMemory}
+use Rattle.goref_tools.specs.declared.error.ToolError.TheVariants.{Sgf, Record, Read, Write, Memory as NoMemory}
 
 -- the device gave at most one byte more than the largest record has
 pub record Reads (left left' : Option (List ℕ)) : Type 0 where
@@ -24,14 +29,28 @@ pub record IsInput (bytes : List ℕ) (left left' : Option (List ℕ)) : Type 0 
 abbrev pub Refuses : Option (List ℕ) → SgfError → Type 0
 Refuses left why = (why ≢ Memory) × IfSome left (λ input. IsRefusal input why)
 
+-- the game of the record that the input spells is refused for this
+abbrev pub HasNoGame : List ℕ → RecordError → Type 0
+HasNoGame input why = (c : Trees) × Spells input c × IsGameOf c None (Err why)
+
+-- so for the whole input, and it isn't want of memory
+abbrev pub RefusesGame : Option (List ℕ) → RecordError → Type 0
+RefusesGame left why = (why ≢ NoMemoryForGame) × IfSome left (λ input. HasNoGame input why)
+
 -- a refusal of the record; want of memory is one of the tool itself
 abbrev pub of_record : SgfError → ToolError
 of_record Memory = NoMemory
 of_record why = Sgf why
 
--- the exit status: 1 for a refused record, 3 for a fault
+-- a refusal of its game; want of memory is one of the tool itself
+abbrev pub of_game : RecordError → ToolError
+of_game NoMemoryForGame = NoMemory
+of_game why = Record why
+
+-- the exit status: 1 for a refused record or game, 3 for a fault
 abbrev pub status_of : ToolError → ℕ
 status_of (Sgf _) = 1
+status_of (Record _) = 1
 status_of _ = 3
 
 -- the count of failed reads after a tool's run: one more where it ended by one

@@ -1,7 +1,8 @@
 ghost use Rattle.std.specs.Prelude.{◌≡◌};
-ghost use Rattle.goref_tools.specs.Tools.{of_record, status_of};
+ghost use Rattle.goref_tools.specs.Tools.{of_game, of_record, status_of};
 ghost use Rattle.goref_tools.specs.declared.error.ToolError.TheVariants.{Memory};
 
+use go_record::RecordError;
 use go_sgf::SgfError;
 use std::alloc::AllocError;
 use thiserror::Error;
@@ -12,13 +13,16 @@ pub enum ToolError {
     /// The input is no record. Want of memory in reading it is [`ToolError::Memory`].
     #[error("{0}")]
     Sgf(SgfError),
+    /// The record has no game. Want of memory in replaying it is [`ToolError::Memory`].
+    #[error("{0}")]
+    Record(RecordError),
     /// A read failed.
     #[error("read fault")]
     Read,
     /// A write or a flush failed, or a write took no byte.
     #[error("write fault")]
     Write,
-    /// There was no memory for the record.
+    /// There was no memory for the record or its game.
     #[error("out of memory")]
     Memory,
 }
@@ -29,7 +33,7 @@ impl ToolError {
         ensures { result ≡ status_of self.now }
     {
         match self {
-            ToolError::Sgf(_) => 1,
+            ToolError::Sgf(_) | ToolError::Record(_) => 1,
             ToolError::Read | ToolError::Write | ToolError::Memory => 3,
         }
     }
@@ -50,6 +54,17 @@ impl From<SgfError> for ToolError {
         match why {
             SgfError::Memory => ToolError::Memory,
             other => ToolError::Sgf(other),
+        }
+    }
+}
+
+impl From<RecordError> for ToolError {
+    ghost from_gives = { λ why error. error ≡ of_game why };
+
+    fn from(why: RecordError) -> ToolError {
+        match why {
+            RecordError::Memory => ToolError::Memory,
+            other => ToolError::Record(other),
         }
     }
 }

@@ -1,11 +1,15 @@
-//! The tools for records: a record is read from a device, and written to one in its canonical
-//! spelling.
+//! The tools for records: a record is read from a device, and its canonical spelling or the verdict
+//! on it is written to one.
 #![tactic(auto)]
 
 mod error;
+mod flushing;
 mod input;
+mod judge;
 pub mod laws;
 mod tidy;
+mod verdict_lines;
 
 pub use error::ToolError;
+pub use judge::judge_run;
 pub use tidy::tidy_run;

@@ -7,8 +7,9 @@ ghost use Rattle.goref_tools.specs.Tools.{write_failures_after};
 ghost use Rattle.goref_tools.specs.declared.error.ToolError.TheVariants.{Sgf, Write};
 
 use crate::error::ToolError;
+use crate::flushing::passed_on;
 use crate::input::input;
-use go_board::{Failed, Sink, Source, WriteFault};
+use go_board::{Sink, Source, WriteFault};
 use go_sgf::{read, write};
 use std::alloc::Allocator;
 
@@ -45,18 +46,5 @@ pub fn tidy_run<A: Allocator + Copy, R: Source, W: Sink>(
     match write(&collection, writer) {
         Ok(()) => passed_on(writer),
         Err(WriteFault) => Err(ToolError::Write),
-    }
-}
-
-/// Flushes the writer.
-fn passed_on<W: Sink>(writer: &mut W) -> Result<(), ToolError>
-    ensures bytes { W.taken writer.new ≡ W.taken writer.old }
-    ensures error { IfErr result (λ error. error ≡ Write) }
-    ensures failures { W.failures writer.new ≡ write_failures_after result
-        (W.failures writer.old) }
-{
-    match writer.flush() {
-        Ok(()) => Ok(()),
-        Err(Failed) => Err(ToolError::Write),
     }
 }

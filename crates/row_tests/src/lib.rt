@@ -12,6 +12,8 @@ mod games;
 #[cfg(test)]
 mod handicaps;
 #[cfg(test)]
+mod judging;
+#[cfg(test)]
 mod lines;
 #[cfg(test)]
 mod loads;

@@ -1,0 +1,58 @@
+ghost use Rattle.std.specs.Prelude.{◌≡◌, ◌≢◌, ◌≤◌, ◌+◌, IfErr, IfSome, IsErrOf, OnOk};
+ghost use Rattle.go_record.specs.declared.error.RecordError.{RecordError};
+ghost use Rattle.go_sgf.specs.declared.error.SgfError.{SgfError};
+ghost use Rattle.go_sgf.specs.declared.limits.TheConstants.{MAX_RECORD};
+ghost use Rattle.goref_tools.specs.Judging.{BeginsToJudge, Judges};
+ghost use Rattle.goref_tools.specs.Tools.{Reads, Refuses, RefusesGame, read_failures_after};
+ghost use Rattle.goref_tools.specs.Tools.{write_failures_after};
+ghost use Rattle.goref_tools.specs.declared.error.ToolError.TheVariants.{Record, Sgf, Write};
+
+use crate::error::ToolError;
+use crate::flushing::passed_on;
+use crate::input::input;
+use crate::verdict_lines::write_verdict;
+use go_board::{Sink, Source, WriteFault};
+use go_record::judge;
+use go_sgf::read;
+use std::alloc::Allocator;
+
+/// Reads a record up to the end of the input, and writes the verdict on it in three lines: how many
+/// moves its main line has, the score after them, and whether the record states that score. Of an
+/// input that is too long for a record it reads one byte more than a record may have. Nothing is
+/// written before the whole verdict is there, and the writer is flushed once, behind the last byte.
+///
+/// # Errors
+///
+/// `Read` and `Write` where a device failed; `Sgf` where the input is no record, and `Record` where
+/// the record has no game; `Memory` where there was none for the record or its game. Only with
+/// `Write` was anything written.
+pub fn judge_run<A: Allocator + Copy, R: Source, W: Sink>(
+    alloc: A,
+    reader: &mut R,
+    writer: &mut W,
+) -> Result<(), ToolError>
+    ensures ok { OnOk result (IfSome (R.left reader.old)
+        (λ input. Judges input (W.taken writer.old) (W.taken writer.new))) }
+    ensures refused { (why : SgfError) → IsErrOf result (Sgf why)
+        → Refuses (R.left reader.old) why }
+    ensures game_refused { (why : RecordError) → IsErrOf result (Record why)
+        → RefusesGame (R.left reader.old) why }
+    ensures write { IsErrOf result Write → IfSome (R.left reader.old)
+        (λ input. BeginsToJudge input (W.taken writer.old) (W.taken writer.new)) }
+    ensures nothing_written { IfErr result
+        (λ error. error ≢ Write → W.taken writer.new ≡ W.taken writer.old) }
+    ensures reads { Reads (R.left reader.old) (R.left reader.new) }
+    ensures pulls { R.pulls reader.new ≤ R.pulls reader.old + MAX_RECORD + 2 }
+    ensures read_failures { R.failures reader.new ≡ read_failures_after result
+        (R.failures reader.old) }
+    ensures write_failures { W.failures writer.new ≡ write_failures_after result
+        (W.failures writer.old) }
+{
+    let source = input(alloc, reader)?;
+    let collection = read(alloc, source.as_slice())?;
+    let verdict = judge(alloc, &collection)?;
+    match write_verdict(verdict, writer) {
+        Ok(()) => passed_on(writer),
+        Err(WriteFault) => Err(ToolError::Write),
+    }
+}
