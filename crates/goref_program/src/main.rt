@@ -11,7 +11,7 @@ use files::NoFiles;
 use go_board::Size;
 use goref::{RunError, run};
 use goref_streams::{Input, Output};
-use goref_tools::{ToolError, tidy_run};
+use goref_tools::{ToolError, judge_run, tidy_run};
 use goref_words::{Task, task_of};
 use std::process::ExitCode;
 
@@ -56,6 +56,7 @@ fn unreadable(rt: &HostRuntime) -> u8
 fn obeyed(rt: &HostRuntime, words: &Vec<&str>) -> u8 {
     match task_of(rt.alloc(), words.as_slice()) {
         Ok(Task::Gtp(size)) => ended(rt, gtp(rt, size)),
+        Ok(Task::Judge) => done(rt, judge(rt)),
         Ok(Task::Tidy) => done(rt, tidy(rt)),
         Err(error) => told(rt, &error),
     }
@@ -74,6 +75,13 @@ fn gtp(rt: &HostRuntime, size: Size) -> Result<(), RunError> {
     let mut input = Input::new(rt.stdin());
     let mut output = Output::new(rt.stdout());
     run(rt.alloc(), size, &mut input, &mut output, &mut NoFiles)
+}
+
+/// Writes the verdict on the record on the standard input.
+fn judge(rt: &HostRuntime) -> Result<(), ToolError> {
+    let mut input = Input::new(rt.stdin());
+    let mut output = Output::new(rt.stdout());
+    judge_run(rt.alloc(), &mut input, &mut output)
 }
 
 /// Writes the record on the standard input in its canonical spelling.

@@ -17,13 +17,13 @@ use Rattle.goref_words.specs.Words.{IsPlainMatch, IsPlainUse, IsSize, program}
 abbrev states : ℕ → Option (Text × List Row) → Bool
 states n = λ o. option_map_or (λ p. bytes_eq p.0 (codes "gtp") && option_map_or (λ t. bytes_eq t (decimal n)) (one_of (codes "size") p.1) false) o false
 
--- the matches name `tidy`
-abbrev names_tidy : Option (Text × List Row) → Bool
-names_tidy = λ o. option_map_or (λ p. bytes_eq p.0 (codes "tidy")) o false
+-- the matches name this subcommand
+abbrev names : Text → Option (Text × List Row) → Bool
+names word = λ o. option_map_or (λ p. bytes_eq p.0 word) o false
 
--- the words are taken, as `tidy`
-abbrev holds_tidy : List Text → Bool
-holds_tidy words = takes program words && names_tidy (subcommand_of program words)
+-- the words are taken, as this subcommand
+abbrev holds_word : Text → List Text → Bool
+holds_word word words = takes program words && names word (subcommand_of program words)
 
 -- the words are taken, as `gtp` with the size n
 abbrev holds : ℕ → List Text → Bool
@@ -31,6 +31,9 @@ holds n words = takes program words && states n (subcommand_of program words)
 
 abbrev gtp_words : Text → List Text
 gtp_words name = name ∷ codes "gtp" ∷ []
+
+abbrev judge_words : Text → List Text
+judge_words name = name ∷ codes "judge" ∷ []
 
 abbrev tidy_words : Text → List Text
 tidy_words name = name ∷ codes "tidy" ∷ []
@@ -54,7 +57,11 @@ gtp_holds : (name : Text) → holds 19 (gtp_words name) ≡ true
 unfolding clap_on_literals digits
 gtp_holds name = refl
 
-tidy_holds : (name : Text) → holds_tidy (tidy_words name) ≡ true
+judge_holds : (name : Text) → holds_word (codes "judge") (judge_words name) ≡ true
+unfolding clap_on_literals digits
+judge_holds name = refl
+
+tidy_holds : (name : Text) → holds_word (codes "tidy") (tidy_words name) ≡ true
 unfolding clap_on_literals digits
 tidy_holds name = refl
 
@@ -72,9 +79,9 @@ stated : (n : ℕ) (o : Option (Text × List Row)) → states n o ≡ true
 stated n None e = absurd (true≢false (sym e))
 stated n (Some p) e = (p, refl, (bytes_eq-Decides p.0 (codes "gtp")).0 (both _ _ e).0, same_or_false (one_of (codes "size") p.1) (decimal n) (both _ _ e).1)
 
-named_tidy : (o : Option (Text × List Row)) → names_tidy o ≡ true → (p : Text × List Row) × (o ≡ Some p) × (p.0 ≡ codes "tidy")
-named_tidy None e = absurd (true≢false (sym e))
-named_tidy (Some p) e = (p, refl, (bytes_eq-Decides p.0 (codes "tidy")).0 e)
+named : (word : Text) (o : Option (Text × List Row)) → names word o ≡ true → (p : Text × List Row) × (o ≡ Some p) × (p.0 ≡ word)
+named word None e = absurd (true≢false (sym e))
+named word (Some p) e = (p, refl, (bytes_eq-Decides p.0 word).0 e)
 
 abbrev Plain : List Text → Type 0
 Plain words = (takes program words ≡ true) × ((p : Text × List Row) × (subcommand_of program words ≡ Some p) × IsPlainMatch p)
@@ -82,18 +89,24 @@ Plain words = (takes program words ≡ true) × ((p : Text × List Row) × (subc
 held_plain : (words : List Text) (n : ℕ) → IsSize n → holds n words ≡ true → Plain words
 held_plain words n size e =
     let s = stated n (subcommand_of program words) (both _ _ e).1 in
-    ((both _ _ e).0, (s.0, s.1, inr (s.2, (n, size, s.3))))
+    ((both _ _ e).0, (s.0, s.1, inr (inr (s.2, (n, size, s.3)))))
 
-tidy_plain : (words : List Text) → holds_tidy words ≡ true → Plain words
-tidy_plain words e =
-    let s = named_tidy (subcommand_of program words) (both _ _ e).1 in
+judge_plain : (words : List Text) → holds_word (codes "judge") words ≡ true → Plain words
+judge_plain words e =
+    let s = named (codes "judge") (subcommand_of program words) (both _ _ e).1 in
     ((both _ _ e).0, (s.0, s.1, inl s.2))
+
+tidy_plain : (words : List Text) → holds_word (codes "tidy") words ≡ true → Plain words
+tidy_plain words e =
+    let s = named (codes "tidy") (subcommand_of program words) (both _ _ e).1 in
+    ((both _ _ e).0, (s.0, s.1, inr (inl s.2)))
 
 pub plain : (words : List Text) → IsPlainUse words → Plain words
 plain [] h = absurd h
 plain (name ∷ rest) h = elim h [
   | inl gtp ↦ subst (λ (r : List Text). Plain (name ∷ r)) (sym gtp) (held_plain (gtp_words name) 19 (omega arith, omega arith) (gtp_holds name))
-  | inr (inl tidy) ↦ subst (λ (r : List Text). Plain (name ∷ r)) (sym tidy) (tidy_plain (tidy_words name) (tidy_holds name))
-  | inr (inr sized) ↦ subst (λ (r : List Text). Plain (name ∷ r)) (sym sized.2)
+  | inr (inl judge) ↦ subst (λ (r : List Text). Plain (name ∷ r)) (sym judge) (judge_plain (judge_words name) (judge_holds name))
+  | inr (inr (inl tidy)) ↦ subst (λ (r : List Text). Plain (name ∷ r)) (sym tidy) (tidy_plain (tidy_words name) (tidy_holds name))
+  | inr (inr (inr sized)) ↦ subst (λ (r : List Text). Plain (name ∷ r)) (sym sized.2)
       (held_plain (sized_words name sized.0) sized.0 sized.1 (at_each (λ n. holds n (sized_words name n)) MAX_LINES sized.0 (sized_table name) sized.1.0 sized.1.1))
 ]

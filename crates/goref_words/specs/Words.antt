@@ -10,7 +10,7 @@ use Rattle.clap.specs.declared.builder.value_parser.ValueParser.TheVariants as v
 use Rattle.go_board.specs.Sizes.{lines_of}
 use Rattle.go_board.specs.declared.size.TheConstants.{MAX_LINES}
 use Rattle.goref_words.specs.declared.task.Task.{Task}
-use Rattle.goref_words.specs.declared.task.Task.TheVariants.{Gtp, Tidy}
+use Rattle.goref_words.specs.declared.task.Task.TheVariants.{Gtp, Judge, Tidy}
 
 -- the option `--size`: a number of lines that a board has, and 19 where none is given
 abbrev pub size_option : Rule
@@ -25,6 +25,10 @@ size_option = record (new_rule (codes "size")) {
 abbrev pub gtp_command : App
 gtp_command = with_rule (new_app (codes "gtp")) size_option
 
+-- the subcommand `judge`
+abbrev pub judge_command : App
+judge_command = new_app (codes "judge")
+
 -- the subcommand `tidy`
 abbrev pub tidy_command : App
 tidy_command = new_app (codes "tidy")
@@ -35,7 +39,8 @@ bare_program = on_top (λ s. record s { subcommand_required = true }) (new_app (
 
 -- the program's simple command
 abbrev pub program : App
-program = with_subcommand (with_subcommand bare_program gtp_command.top) tidy_command.top
+program =
+    with_subcommand (with_subcommand (with_subcommand bare_program gtp_command.top) judge_command.top) tidy_command.top
 
 -- the matches state this number of lines
 abbrev pub HasSize : List Row → ℕ → Type 0
@@ -45,6 +50,7 @@ HasSize rows n = (t : Text) × (one_of (codes "size") rows ≡ Some t)
 -- the subcommand and its matches ask for the task
 abbrev pub Asks : Text × List Row → Task → Type 0
 Asks p (Gtp size) = (p.0 ≡ codes "gtp") × HasSize p.1 (lines_of size)
+Asks p Judge = p.0 ≡ codes "judge"
 Asks p Tidy = p.0 ≡ codes "tidy"
 
 -- the words, the program's own name first, mean the task
@@ -56,16 +62,18 @@ Means words task =
 abbrev pub IsSize : ℕ → Type 0
 IsSize n = (0 < n) × (n ≤ MAX_LINES)
 
--- `gtp`, `tidy`, or `gtp --size N` for the number N of a size, after the program's own name
+-- `gtp`, `judge`, `tidy`, or `gtp --size N` for the number N of a size, after the program's own name
 abbrev pub IsPlainUse : List Text → Type 0
 IsPlainUse [] = ⊥
 IsPlainUse (name ∷ rest) = (rest ≡ codes "gtp" ∷ [])
+    ⊎ (rest ≡ codes "judge" ∷ [])
     ⊎ (rest ≡ codes "tidy" ∷ [])
     ⊎ ((n : ℕ) × IsSize n × (rest ≡ codes "gtp" ∷ codes "--size" ∷ decimal n ∷ []))
 
 -- a subcommand and its matches that name a task
 abbrev pub IsPlainMatch : Text × List Row → Type 0
-IsPlainMatch p = (p.0 ≡ codes "tidy")
+IsPlainMatch p = (p.0 ≡ codes "judge")
+    ⊎ (p.0 ≡ codes "tidy")
     ⊎ ((p.0 ≡ codes "gtp") × ((n : ℕ) × IsSize n × (one_of (codes "size") p.1 ≡ Some (decimal n))))
 
 -- the texts behind the words

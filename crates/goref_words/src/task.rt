@@ -20,6 +20,8 @@ use std::alloc::{AllocError, Global};
 pub enum Task {
     /// Answer the commands of the Go Text Protocol, on a board that has this size at first.
     Gtp(Size),
+    /// Write the verdict on a record.
+    Judge,
     /// Write a record in its canonical spelling.
     Tidy,
 }
@@ -48,6 +50,9 @@ fn program_command<'a>(alloc: Global) -> Result<Command<'a>, AllocError>
         .about("Answers the commands of the Go Text Protocol, version 2")
         .after_help("Example: goref gtp --size 9")
         .arg(size_argument(alloc))?;
+    let judge = Command::new(alloc, "judge")
+        .about("Replays a record in SGF, and writes its score and whether it states that score")
+        .after_help("Example: goref judge < game.sgf");
     let tidy = Command::new(alloc, "tidy")
         .about("Reads a record in SGF, and writes it in its one canonical spelling")
         .after_help("Example: goref tidy < game.sgf");
@@ -55,6 +60,7 @@ fn program_command<'a>(alloc: Global) -> Result<Command<'a>, AllocError>
         .about("A Go engine and referee for the Tromp-Taylor rules")
         .subcommand_required(true)
         .subcommand(gtp)?
+        .subcommand(judge)?
         .subcommand(tidy)
 }
 
@@ -80,6 +86,7 @@ fn asked<'a>(matches: &ArgMatches<'a>) -> Option<Task>
 {
     match matches.subcommand() {
         Some(("gtp", inner)) => Some(Task::Gtp(size_of(inner)?)),
+        Some(("judge", _)) => Some(Task::Judge),
         Some(("tidy", _)) => Some(Task::Tidy),
         _ => None,
     }

@@ -33,6 +33,7 @@ fn program_words(rt: HostRuntime) {
     assert!(rt; asked(alloc, &["goref", "gtp", "--size", "9"]) == Ok(gtp(&rt, 9)));
     assert!(rt; asked(alloc, &["goref", "gtp", "--size=1"]) == Ok(gtp(&rt, 1)));
     assert!(rt; asked(alloc, &["goref", "gtp", "--size", "19"]) == Ok(gtp(&rt, 19)));
+    assert!(rt; asked(alloc, &["goref", "judge"]) == Ok(Task::Judge));
     assert!(rt; asked(alloc, &["goref", "tidy"]) == Ok(Task::Tidy));
 }
 
@@ -46,8 +47,12 @@ fn refused_words(rt: HostRuntime) {
     assert!(rt; asked(alloc, &["goref", "gtp", "--size", "nine"]) == invalid);
     assert!(rt; asked(alloc, &["goref", "gtp", "--size"]) == Err(ErrorKind::InvalidValue));
     assert!(rt; asked(alloc, &["goref", "gtp", "9"]) == Err(ErrorKind::UnknownArgument));
-    assert!(rt; asked(alloc, &["goref", "judge"]) == unknown);
+    assert!(rt; asked(alloc, &["goref", "Judge"]) == unknown);
     assert!(rt; asked(alloc, &["goref", "GTP"]) == unknown);
+    assert!(rt;
+        asked(alloc, &["goref", "judge", "--size", "9"]) == Err(ErrorKind::UnknownArgument)
+    );
+    assert!(rt; asked(alloc, &["goref", "judge", "game.sgf"]) == Err(ErrorKind::UnknownArgument));
     assert!(rt; asked(alloc, &["goref", "tidy", "--size", "9"]) == Err(ErrorKind::UnknownArgument));
     assert!(rt; asked(alloc, &["goref", "tidy", "game.sgf"]) == Err(ErrorKind::UnknownArgument));
     assert!(rt; asked(alloc, &["goref"]) == Err(ErrorKind::MissingSubcommand));
@@ -71,6 +76,17 @@ fn help(rt: HostRuntime) -> Result<(), Fail> {
             .as_str()
             .contains("writes it in its one canonical spelling"),
         "{words}"
+    );
+    assert!(rt;
+        words
+            .as_str()
+            .contains("writes its score and whether it states that score"),
+        "{words}"
+    );
+    let judge = refusal(alloc, &["goref", "judge", "--help"])?;
+    assert!(rt;
+        judge.as_str().contains("goref judge < game.sgf"),
+        "{judge}"
     );
     let tidy = refusal(alloc, &["goref", "tidy", "--help"])?;
     assert!(rt; tidy.as_str().contains("goref tidy < game.sgf"), "{tidy}");
