@@ -1,17 +1,61 @@
 //! The files that a session asks for.
-ghost use Rattle.std.specs.Prelude.{None};
+ghost use Rattle.std.specs.Prelude.{◌≡◌, IfErr, IfOk, None};
+ghost use Rattle.goref.specs.Contents.{content_of};
+ghost use Rattle.goref_program.specs.Files.{content_of_bytes, content_of_fault};
 
+use go_sgf::MAX_RECORD;
 use goref::{Fetched, Shelf};
+use goref_streams::Input;
+use goref_tools::{ToolError, read_input};
 use std::alloc::Allocator;
+use std::fs;
+use std::rt::Files;
 
-/// A shelf with no file on it.
+/// The files of the system, by their names. A name is a path in UTF-8. What a file holds is kept
+/// with this allocator.
 #[derive(Drop)]
-pub struct NoFiles;
+pub struct NamedFiles<'a, A, F> {
+    alloc: A,
+    system: &'a F,
+}
 
-impl<A: Allocator> Shelf<A> for NoFiles {
+impl<'a, A, F> NamedFiles<'a, A, F> {
+    pub fn new(alloc: A, system: &'a F) -> NamedFiles<'a, A, F> {
+        NamedFiles { alloc, system }
+    }
+}
+
+impl<A: Allocator + Copy, F: Files> Shelf<A> for NamedFiles<'_, A, F> {
     ghost given = { λ _. None };
 
-    fn fetch(&mut self, _name: &[u8]) -> Fetched<A> {
-        Fetched::Missing
+    fn fetch(&mut self, name: &[u8]) -> Fetched<A> {
+        match std::str::from_utf8(name) {
+            Ok(path) => file_at(self.alloc, self.system, path),
+            Err(_) => Fetched::Missing,
+        }
+    }
+}
+
+/// The file at a path. Where it cannot be opened or read, as a folder, it is missing.
+fn file_at<A: Allocator + Copy, F: Files>(alloc: A, system: &F, path: &str) -> Fetched<A> {
+    match fs::open(system, path) {
+        Ok(file) => {
+            let mut input = Input::new(file);
+            fetched(read_input(alloc, &mut input))
+        }
+        Err(_) => Fetched::Missing,
+    }
+}
+
+/// What is fetched, by what the reading of a file came to.
+fn fetched<A: Allocator>(outcome: Result<Vec<u8, A>, ToolError>) -> Fetched<A>
+    ensures bytes { IfOk outcome (λ bytes. content_of result ≡ content_of_bytes bytes.items) }
+    ensures fault { IfErr outcome (λ why. content_of result ≡ content_of_fault why) }
+{
+    match outcome {
+        Ok(bytes) if bytes.len() > MAX_RECORD => Fetched::TooLarge,
+        Ok(bytes) => Fetched::Bytes(bytes),
+        Err(ToolError::Memory) => Fetched::Memory,
+        Err(_) => Fetched::Missing,
     }
 }

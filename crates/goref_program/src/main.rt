@@ -1,4 +1,4 @@
-//! `goref`: the words, the standard streams and the exit status of the program.
+//! `goref`: the words, the standard streams, the named files and the exit status of the program.
 #![tactic(auto)]
 
 ghost use Rattle.std.specs.Prelude.{◌≡◌};
@@ -7,7 +7,7 @@ ghost use Rattle.goref_program.specs.Status.{run_status, tool_status, words_stat
 
 mod files;
 
-use files::NoFiles;
+use files::NamedFiles;
 use go_board::Size;
 use goref::{RunError, run};
 use goref_streams::{Input, Output};
@@ -74,7 +74,8 @@ fn told(rt: &HostRuntime, error: &clap::Error) -> u8
 fn gtp(rt: &HostRuntime, size: Size) -> Result<(), RunError> {
     let mut input = Input::new(rt.stdin());
     let mut output = Output::new(rt.stdout());
-    run(rt.alloc(), size, &mut input, &mut output, &mut NoFiles)
+    let mut files = NamedFiles::new(rt.alloc(), rt);
+    run(rt.alloc(), size, &mut input, &mut output, &mut files)
 }
 
 /// Writes the verdict on the record on the standard input.

@@ -9,7 +9,11 @@ use std::alloc::Allocator;
 
 /// All bytes that a device gives up to its end; of more than a record may have, the first ones,
 /// one more than that.
-pub fn input<A: Allocator + Copy, R: Source>(
+///
+/// # Errors
+///
+/// `Read` where the device failed, and `Memory` where there was none for the bytes.
+pub fn read_input<A: Allocator + Copy, R: Source>(
     alloc: A,
     reader: &mut R,
 ) -> Result<Vec<u8, A>, ToolError>

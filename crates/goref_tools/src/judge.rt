@@ -9,7 +9,7 @@ ghost use Rattle.goref_tools.specs.declared.error.ToolError.TheVariants.{Record,
 
 use crate::error::ToolError;
 use crate::flushing::passed_on;
-use crate::input::input;
+use crate::input::read_input;
 use crate::verdict_lines::write_verdict;
 use go_board::{Sink, Source, WriteFault};
 use go_record::judge;
@@ -48,7 +48,7 @@ pub fn judge_run<A: Allocator + Copy, R: Source, W: Sink>(
     ensures write_failures { W.failures writer.new ≡ write_failures_after result
         (W.failures writer.old) }
 {
-    let source = input(alloc, reader)?;
+    let source = read_input(alloc, reader)?;
     let collection = read(alloc, source.as_slice())?;
     let verdict = judge(alloc, &collection)?;
     match write_verdict(verdict, writer) {

@@ -8,7 +8,7 @@ ghost use Rattle.goref_tools.specs.declared.error.ToolError.TheVariants.{Sgf, Wr
 
 use crate::error::ToolError;
 use crate::flushing::passed_on;
-use crate::input::input;
+use crate::input::read_input;
 use go_board::{Sink, Source, WriteFault};
 use go_sgf::{read, write};
 use std::alloc::Allocator;
@@ -41,7 +41,7 @@ pub fn tidy_run<A: Allocator + Copy, R: Source, W: Sink>(
     ensures write_failures { W.failures writer.new ≡ write_failures_after result
         (W.failures writer.old) }
 {
-    let source = input(alloc, reader)?;
+    let source = read_input(alloc, reader)?;
     let collection = read(alloc, source.as_slice())?;
     match write(&collection, writer) {
         Ok(()) => passed_on(writer),

@@ -9,7 +9,7 @@ use Rattle.goref_tools.proofs.judge.judge_run.Goals as goal
 pub returns-in_err-collection-clause-refused : goal.returns-in_err-collection-clause-refused
 returns-in_err-collection-clause-refused g c = λ why h.
     let p = err_from_is_err_and c.from_residual-in_err-collection.result c.from_residual-in_err-collection.ensures.1 in
-    refuses c.in_ok-source.source.items (g.R.Source.left c.args.reader.now) (g.R.Source.left c.input.new.reader) c.in_ok-source.ensures.input c.in_err-collection.field-0.0
+    refuses c.in_ok-source.source.items (g.R.Source.left c.args.reader.now) (g.R.Source.left c.read_input.new.reader) c.in_ok-source.ensures.input c.in_err-collection.field-0.0
     (rw c.as_slice.ensures.value at c.in_err-collection.ensures.refused)
     (λ long. let e = c.in_err-collection.ensures.too_long.1 (rw c.as_slice.ensures.value long) in cc)
     why (same_error p.1 p.2 h)
@@ -17,7 +17,7 @@ returns-in_err-collection-clause-refused g c = λ why h.
 pub returns-in_err-verdict-clause-game_refused : goal.returns-in_err-verdict-clause-game_refused
 returns-in_err-verdict-clause-game_refused g c = λ why h.
     let p = err_from_is_err_and c.from_residual-in_err-verdict.result c.from_residual-in_err-verdict.ensures.1 in
-    refuses_game c.in_ok-source.source.items (g.R.Source.left c.args.reader.now) (g.R.Source.left c.input.new.reader) c.in_ok-source.ensures.input
+    refuses_game c.in_ok-source.source.items (g.R.Source.left c.args.reader.now) (g.R.Source.left c.read_input.new.reader) c.in_ok-source.ensures.input
     (λ long. let e = c.in_ok-collection.ensures.too_long.1 (rw c.as_slice.ensures.value long) in cc)
     (collection_of c.in_ok-collection.collection) (rw c.as_slice.ensures.value at c.in_ok-collection.ensures.read) c.in_err-verdict.field-0.0 c.in_err-verdict.ensures.err
     why (same_error p.1 p.2 h)
@@ -25,7 +25,7 @@ returns-in_err-verdict-clause-game_refused g c = λ why h.
 pub returns-in-Ok-clause-ok : goal.returns-in-Ok-clause-ok
 returns-in-Ok-clause-ok g c =
     on_ok c.passed_on.result (of_whole (λ input. Judges input (g.W.Sink.taken c.args.writer.now) (g.W.Sink.taken c.passed_on.new.writer))
-    c.in_ok-source.source.items (g.R.Source.left c.input.new.reader) c.in_ok-source.ensures.input
+    c.in_ok-source.source.items (g.R.Source.left c.read_input.new.reader) c.in_ok-source.ensures.input
     (λ long. let e = c.in_ok-collection.ensures.too_long.1 (rw c.as_slice.ensures.value long) in cc) (
       collection_of c.in_ok-collection.collection,
       rw c.as_slice.ensures.value at c.in_ok-collection.ensures.read,
@@ -35,7 +35,7 @@ returns-in-Ok-clause-ok g c =
 pub returns-in-Ok-clause-write : goal.returns-in-Ok-clause-write
 returns-in-Ok-clause-write g c = λ h.
     of_whole (λ input. BeginsToJudge input (g.W.Sink.taken c.args.writer.now) (g.W.Sink.taken c.passed_on.new.writer))
-    c.in_ok-source.source.items (g.R.Source.left c.input.new.reader) c.in_ok-source.ensures.input
+    c.in_ok-source.source.items (g.R.Source.left c.read_input.new.reader) c.in_ok-source.ensures.input
     (λ long. let e = c.in_ok-collection.ensures.too_long.1 (rw c.as_slice.ensures.value long) in cc) (
       collection_of c.in_ok-collection.collection,
       rw c.as_slice.ensures.value at c.in_ok-collection.ensures.read,
@@ -45,7 +45,7 @@ returns-in-Ok-clause-write g c = λ h.
 pub returns-clause-write : goal.returns-clause-write
 returns-clause-write g c = λ h.
     of_whole (λ input. BeginsToJudge input (g.W.Sink.taken c.args.writer.now) (g.W.Sink.taken c.write_verdict.new.writer))
-    c.in_ok-source.source.items (g.R.Source.left c.input.new.reader) c.in_ok-source.ensures.input
+    c.in_ok-source.source.items (g.R.Source.left c.read_input.new.reader) c.in_ok-source.ensures.input
     (λ long. let e = c.in_ok-collection.ensures.too_long.1 (rw c.as_slice.ensures.value long) in cc) (
       collection_of c.in_ok-collection.collection,
       rw c.as_slice.ensures.value at c.in_ok-collection.ensures.read,

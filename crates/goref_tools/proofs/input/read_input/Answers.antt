@@ -1,7 +1,7 @@
 use Rattle.std.proofs.Common.{arith, take}
 use Rattle.std.proofs.lemmas.List.{length-take-le}
 use Rattle.goref_tools.proofs.Whole.{reads_more}
-use Rattle.goref_tools.proofs.input.input.Goals as goal
+use Rattle.goref_tools.proofs.input.read_input.Goals as goal
 
 pub returns-in_err-extend_from_slice-clause-reads :
     goal.returns-in_err-extend_from_slice-clause-reads

@@ -1,7 +1,7 @@
 use Rattle.std.proofs.Common.{◌≡◌, ◌≤◌, ◌+◌, ◌-◌, length}
 use Rattle.go_board.specs.Device.{after_bytes}
 use Rattle.go_sgf.specs.declared.limits.TheConstants.{MAX_RECORD}
-use Rattle.goref_tools.proofs.input.input.Given as goal
+use Rattle.goref_tools.proofs.input.read_input.Given as goal
 
 abbrev pub invariant-loop-buffer : goal.invariant-loop-buffer
 invariant-loop-buffer g l = record {
