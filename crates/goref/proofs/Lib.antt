@@ -1,9 +1,5 @@
-pub mod Lines
 pub mod Possible
-pub mod Conversations
 pub mod Answering
-pub mod Progressing
-pub mod Running
 pub mod Moves
 pub mod Choices
 pub mod Starting

@@ -7,6 +7,7 @@ use Rattle.goref_lines.specs.Requests.{asked_by}
 use Rattle.goref.specs.Answers.{DecidesLine, Reply, Said, line_id, silent, spoken}
 use Rattle.goref.specs.Commands.{command_of}
 use Rattle.goref.specs.Contents.{Content, bytes, missing, no_memory, nothing, too_large}
+use Rattle.goref.specs.Laws.{SomeReply}
 use Rattle.goref.specs.Decisions.{Decided, DecidesContent, DecidesIf, DecidesLoad, DecidesOn, keeps}
 use Rattle.goref.specs.Loads.{Load, load_of}
 use Rattle.goref.specs.declared.command.Command.{Command}
@@ -69,5 +70,5 @@ reply_by s k content true e =
     (spoken (line_id k) d.0, inr (e, (d.0, d.1, refl)))
 
 -- each line can be replied to
-pub some_reply : (s : Standing) (k : Kept) (content : Content) → (reply : Said) × Reply s k content reply
+pub some_reply : SomeReply
 some_reply s k content = reply_by s k content (has_bytes k.text) refl

@@ -1,4 +1,3 @@
-pub mod Lines
 pub mod Starts
 pub mod Contents
 pub mod Handicaps
@@ -7,6 +6,4 @@ pub mod Loads
 pub mod Decisions
 pub mod Answers
 pub mod Replies
-pub mod Conversation
-pub mod Progress
-pub mod Runs
+pub mod Laws

@@ -1,17 +1,16 @@
-//! The engine's side of the Go Text Protocol: commands, their answers and whole runs.
+//! The engine's side of the Go Text Protocol: what is decided on a line, and what is answered.
 #![tactic(auto)]
 
 mod answer;
 mod command;
 mod decision;
+mod fetched;
 mod flow;
+pub mod laws;
 mod load;
-mod runs;
 mod session;
-mod shelf;
 
-pub use flow::{Flow, RunError};
+pub use fetched::{Fetched, wants};
+pub use flow::Flow;
 pub use goref_lines::{LINE_LIMIT, Line};
-pub use runs::{READS, run, run_within};
 pub use session::Session;
-pub use shelf::{Fetched, Shelf, wants};

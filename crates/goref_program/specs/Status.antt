@@ -2,7 +2,7 @@
 use Rattle.std.specs.Prelude.{ℕ, Result, Ok, Err}
 use Rattle.clap.specs.declared.error.kind.ErrorKind.{ErrorKind}
 use Rattle.clap.specs.declared.error.kind.ErrorKind.TheVariants.{DisplayHelp, DisplayVersion}
-use Rattle.goref.specs.declared.flow.RunError.{RunError}
+use Rattle.goref_runs.specs.declared.fault.RunError.{RunError}
 use Rattle.goref_tools.specs.Tools.{status_of}
 use Rattle.goref_tools.specs.declared.error.ToolError.{ToolError}
 

@@ -9,7 +9,7 @@ mod files;
 
 use files::NamedFiles;
 use go_board::Size;
-use goref::{RunError, run};
+use goref_runs::{RunError, run};
 use goref_streams::{Input, Output};
 use goref_tools::{ToolError, judge_run, tidy_run};
 use goref_words::{Task, task_of};

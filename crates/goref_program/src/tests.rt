@@ -1,7 +1,8 @@
 use crate::files::NamedFiles;
 use crate::obeyed;
 use go_sgf::MAX_RECORD;
-use goref::{Fetched, Shelf};
+use goref::Fetched;
+use goref_runs::Shelf;
 use std::alloc::Global;
 use std::fs;
 use std::test::Fail;

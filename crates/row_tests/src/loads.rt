@@ -1,5 +1,6 @@
 use go_board::{MAX_LINES, Size};
-use goref::{Fetched, Flow, Line, Session, Shelf, run};
+use goref::{Fetched, Flow, Line, Session};
+use goref_runs::{Shelf, run};
 use memory_devices::{Reader, Writer};
 use std::alloc::{Allocator, Global};
 use std::process::Abort;

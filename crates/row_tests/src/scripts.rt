@@ -1,5 +1,6 @@
 use go_board::{MAX_LINES, Size};
-use goref::{Fetched, Flow, Line, RunError, Session, Shelf, run, run_within};
+use goref::{Fetched, Flow, Line, Session};
+use goref_runs::{RunError, Shelf, run, run_within};
 use memory_devices::{Reader, Writer};
 use std::alloc::{Allocator, Global};
 use std::process::Abort;

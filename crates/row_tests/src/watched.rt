@@ -2,7 +2,7 @@ ghost use Rattle.std.specs.Prelude.{None};
 
 use crate::scripts::NoFiles;
 use go_board::{Failed, MAX_LINES, Meter, Sink, Size, Source};
-use goref::run;
+use goref_runs::run;
 use std::cell::Cell;
 
 /// A reader that gives a byte at a time, and sees at each read whether the lines that it gave were

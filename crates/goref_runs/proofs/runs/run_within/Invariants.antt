@@ -2,8 +2,8 @@ use Rattle.std.proofs.Common.{◌≡◌, ◌+◌, ℕ, List, pos}
 use Rattle.go_board.specs.Device.{after_bytes}
 use Rattle.go_board.specs.Sizes.{lines_of}
 use Rattle.goref.specs.Starts.{begun}
-use Rattle.goref.specs.Progress.{Progress}
-use Rattle.goref.proofs.runs.run_within.Given as goal
+use Rattle.goref_runs.specs.Progress.{Progress}
+use Rattle.goref_runs.proofs.runs.run_within.Given as goal
 
 abbrev pub invariant-loop : goal.invariant-loop
 invariant-loop g l = record {

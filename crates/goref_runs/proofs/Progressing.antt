@@ -8,14 +8,16 @@ use Rattle.goref.specs.declared.flow.Flow.{Flow}
 use Rattle.goref.specs.declared.flow.Flow.TheVariants.{More, Quit}
 use Rattle.go_game.specs.Standings.{Standing}
 use Rattle.goref_lines.specs.Kept.{Kept, kept}
-use Rattle.goref.specs.Lines.{lines, complete_lines, unfinished_line, if_any, HasNoEnd}
-use Rattle.goref.specs.Contents.{Content, Pair, then_pairs}
+use Rattle.goref_runs.specs.Lines.{lines, complete_lines, unfinished_line, if_any, HasNoEnd}
+use Rattle.goref.specs.Contents.{Content}
+use Rattle.goref_runs.specs.Shelves.{Pair, then_pairs}
 use Rattle.goref.specs.Answers.{Said, Reply, wants}
+use Rattle.goref.specs.Laws.{SomeReply}
 use Rattle.goref.specs.Replies.{flow_of}
-use Rattle.goref.specs.Conversation.{Asks, Conversation, ends, quits, goes_on, Converses, BreaksOff}
-use Rattle.goref.specs.Progress.{Reaches, Progress, Proceeds, Responds, Finishes}
-use Rattle.goref.proofs.Lines.{complete_lines-nil, unfinished_line-nil, complete_lines_more, unfinished_line_more, complete_lines_end, unfinished_line_end, lines_later, Later}
-use Rattle.goref.proofs.Conversations.{retold, some_more, some_conversation, reaches_first, reaches_next}
+use Rattle.goref_runs.specs.Conversation.{Asks, Conversation, ends, quits, goes_on, Converses, BreaksOff}
+use Rattle.goref_runs.specs.Progress.{Reaches, Progress, Proceeds, Responds, Finishes}
+use Rattle.goref_runs.proofs.Lines.{complete_lines-nil, unfinished_line-nil, complete_lines_more, unfinished_line_more, complete_lines_end, unfinished_line_end, lines_later, Later}
+use Rattle.goref_runs.proofs.Conversations.{retold, some_more, some_conversation, reaches_first, reaches_next}
 
 then_pairs-then_pairs : (o : Option (List Pair)) (a b : List Pair) → then_pairs (then_pairs o a) b ≡ then_pairs o (a ++ b)
 then_pairs-then_pairs None a b = refl
@@ -82,10 +84,10 @@ module _ {s now : Standing} {read : List ℕ} {line : Kept} {given given' : Opti
       took = bytes_on taken p.text r.answered.reply.text p.took sent;
     }
 
-    answered_breaks_off : TakesFront taken' taken'' r.answered.reply.text → BreaksOff s all given given'' taken taken''
-    answered_breaks_off t =
+    answered_breaks_off : SomeReply → TakesFront taken' taken'' r.answered.reply.text → BreaksOff s all given given'' taken taken''
+    answered_breaks_off law t =
         let c = some_more now whole later r.content r.asked r.answered.reply r.answered.reply.ends r.asks r.answered.is_reply refl
-        (some_conversation later r.answered.reply.standing) in
+        (some_conversation law later r.answered.reply.standing) in
         record {
           asked = p.asked ++ r.asked;
           later = c.0;
@@ -99,9 +101,9 @@ module _ {s now : Standing} {read : List ℕ} {line : Kept} {given given' : Opti
         }
 
   -- the end of the line, which is answered
-  pub proceeds : {new : Standing} {given'' : Option (List Pair)} {taken'' : Option (List ℕ)} (part : List ℕ) → HasNoEnd part → (result : Result Flow WriteFault) → Responds now new (kept (unfinished_line read ++ part)) result given' given'' taken' taken'' →
+  pub proceeds : {new : Standing} {given'' : Option (List Pair)} {taken'' : Option (List ℕ)} → SomeReply → (part : List ℕ) → HasNoEnd part → (result : Result Flow WriteFault) → Responds now new (kept (unfinished_line read ++ part)) result given' given'' taken' taken'' →
       Proceeds result s (read ++ (part ++ 10 ∷ [])) (kept []) new given given'' taken taken''
-  proceeds {new} part n (Ok More) r = record {
+  proceeds {new} law part n (Ok More) r = record {
     asked = p.asked ++ r.asked;
     text = p.text ++ r.answered.reply.text;
     reaches =
@@ -113,13 +115,13 @@ module _ {s now : Standing} {read : List ℕ} {line : Kept} {given given' : Opti
     tells = pairs_on given p.asked r.asked p.tells r.tells;
     took = bytes_on taken p.text r.answered.reply.text p.took r.answered.sent.1;
   }
-  proceeds part n (Ok Quit) r = λ more.
+  proceeds law part n (Ok Quit) r = λ more.
       let h = lines_later (read ++ (part ++ 10 ∷ [])) more in
       answered_quits (unfinished_line read ++ part) h.0 (lines ((read ++ (part ++ 10 ∷ [])) ++ more)) (line_and_later read part more n h) r
       (stops r.answered.reply.ends r.answered.sent.0) r.answered.sent.1
-  proceeds part n (Err e) r = λ more.
+  proceeds law part n (Err e) r = λ more.
       let h = lines_later (read ++ (part ++ 10 ∷ [])) more in
-      answered_breaks_off (unfinished_line read ++ part) h.0 (lines ((read ++ (part ++ 10 ∷ [])) ++ more)) (line_and_later read part more n h) r r.answered.sent
+      answered_breaks_off (unfinished_line read ++ part) h.0 (lines ((read ++ (part ++ 10 ∷ [])) ++ more)) (line_and_later read part more n h) r law r.answered.sent
 
 -- what was settled in the midst of a chunk stays so whatever is read
 cut_again : (read front line rest chunk more : List ℕ) → chunk ≡ front ++ (line ++ rest) → ((read ++ front) ++ line) ++ (rest ++ more) ≡ (read ++ chunk) ++ more
@@ -164,9 +166,9 @@ module _ {s now : Standing} {read : List ℕ} {line : Kept} {given given' : Opti
   lines_at_end : (u : List ℕ) → unfinished_line read ≡ u → complete_lines read ++ if_any u ≡ lines read
   lines_at_end u e = ap (λ x. complete_lines read ++ if_any x) (sym e)
 
-  finishes_at : {new : Standing} {given'' : Option (List Pair)} {taken'' : Option (List ℕ)} (u : List ℕ) → unfinished_line read ≡ u →
+  finishes_at : {new : Standing} {given'' : Option (List Pair)} {taken'' : Option (List ℕ)} → SomeReply → (u : List ℕ) → unfinished_line read ≡ u →
       (result : Result Flow WriteFault) → Responds now new line result given' given'' taken' taken'' → Finishes result s read given given'' taken taken''
-  finishes_at [] e (Ok flow) r =
+  finishes_at law [] e (Ok flow) r =
       let n = no_last_line r e in
       record {
         asked = p.asked;
@@ -175,7 +177,7 @@ module _ {s now : Standing} {read : List ℕ} {line : Kept} {given given' : Opti
         tells = n.tells ∙ ap (then_pairs given') (silent_asks n.content n.asked n.asks) ∙ then_pairs-nil given' ∙ p.tells;
         took = n.answered.sent.1 ∙ ap (then_bytes taken') (silent_reply now n.content n.answered.reply n.answered.is_reply) ∙ then_bytes-nil taken' ∙ p.took;
       }
-  finishes_at [] e (Err fault) r =
+  finishes_at law [] e (Err fault) r =
       let n = no_last_line r e in
       let t = n.answered.sent in
       record {
@@ -188,7 +190,7 @@ module _ {s now : Standing} {read : List ℕ} {line : Kept} {given given' : Opti
         took = t.taken ∙ ap (then_bytes taken') (front_of_nothing t.front t.rest (sym (silent_reply now n.content n.answered.reply n.answered.is_reply) ∙ t.whole))
             ∙ then_bytes-nil taken' ∙ p.took;
       }
-  finishes_at (b ∷ u) e (Ok flow) r =
+  finishes_at law (b ∷ u) e (Ok flow) r =
       let m = last_line r b u e in
       record {
         asked = p.asked ++ m.asked;
@@ -198,11 +200,11 @@ module _ {s now : Standing} {read : List ℕ} {line : Kept} {given given' : Opti
         tells = pairs_on given p.asked m.asked p.tells m.tells;
         took = bytes_on taken p.text m.answered.reply.text p.took m.answered.sent.1;
       }
-  finishes_at (b ∷ u) e (Err fault) r =
+  finishes_at law (b ∷ u) e (Err fault) r =
       let m = last_line r b u e in
-      answered_breaks_off p (b ∷ u) [] (lines read) (lines_at_end (b ∷ u) e) m m.answered.sent
+      answered_breaks_off p (b ∷ u) [] (lines read) (lines_at_end (b ∷ u) e) m law m.answered.sent
 
   -- the end of the input, with the last line answered
-  pub finishes : {new : Standing} {given'' : Option (List Pair)} {taken'' : Option (List ℕ)} (result : Result Flow WriteFault) →
+  pub finishes : {new : Standing} {given'' : Option (List Pair)} {taken'' : Option (List ℕ)} → SomeReply → (result : Result Flow WriteFault) →
       Responds now new line result given' given'' taken' taken'' → Finishes result s read given given'' taken taken''
-  finishes result r = finishes_at (unfinished_line read) refl result r
+  finishes law result r = finishes_at law (unfinished_line read) refl result r

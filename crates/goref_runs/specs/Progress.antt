@@ -6,11 +6,12 @@ use Rattle.goref.specs.declared.flow.Flow.{Flow}
 use Rattle.goref.specs.declared.flow.Flow.TheVariants.{More, Quit}
 use Rattle.go_game.specs.Standings.{Standing}
 use Rattle.goref_lines.specs.Kept.{Kept, kept}
-use Rattle.goref.specs.Lines.{lines, complete_lines, unfinished_line}
-use Rattle.goref.specs.Contents.{Content, Pair, then_pairs}
+use Rattle.goref_runs.specs.Lines.{lines, complete_lines, unfinished_line}
+use Rattle.goref.specs.Contents.{Content}
+use Rattle.goref_runs.specs.Shelves.{Pair, then_pairs}
 use Rattle.goref.specs.Answers.{wants}
 use Rattle.goref.specs.Replies.{Answered}
-use Rattle.goref.specs.Conversation.{Asks, Conversation, Converses, BreaksOff}
+use Rattle.goref_runs.specs.Conversation.{Asks, Conversation, Converses, BreaksOff}
 
 -- whatever follows from the standing now, all of it is one session from the first standing
 pub record Reaches (s : Standing) (lines : List (List ℕ)) (asked : List Pair) (text : List ℕ) (now : Standing) : Type 0 where

@@ -3,12 +3,12 @@ use Rattle.std.proofs.lemmas.List.{append-nil}
 use Rattle.go_board.specs.Device.{after_bytes}
 use Rattle.go_board.specs.Sizes.{lines_of}
 use Rattle.goref.specs.Starts.{begun}
-use Rattle.goref.specs.Lines.{lines}
-use Rattle.goref.specs.Conversation.{Converses}
-use Rattle.goref.proofs.Progressing.{begins}
+use Rattle.goref_runs.specs.Lines.{lines}
+use Rattle.goref_runs.specs.Conversation.{Converses}
+use Rattle.goref_runs.proofs.Progressing.{begins}
 use Rattle.go_board.specs.Reading.{after_bytes-nil, has_read_more, of_input}
-use Rattle.goref.proofs.Running.{answers_complete, answers_front}
-use Rattle.goref.proofs.runs.run_within.Goals as goal
+use Rattle.goref_runs.proofs.Running.{answers_complete, answers_front}
+use Rattle.goref_runs.proofs.runs.run_within.Goals as goal
 
 pub loop-init : goal.loop-init
 loop-init g c = record {

@@ -3,11 +3,12 @@ use Rattle.std.proofs.Common.{◌≡◌, ℕ, Bool, true, false, List, [], ◌�
 use Rattle.std.proofs.lemmas.List.{append-nil}
 use Rattle.go_game.specs.Standings.{Standing}
 use Rattle.goref_lines.specs.Kept.{kept}
-use Rattle.goref.specs.Contents.{Content, nothing, missing, Pair}
+use Rattle.goref.specs.Contents.{Content, nothing, missing}
+use Rattle.goref_runs.specs.Shelves.{Pair}
 use Rattle.goref.specs.Answers.{Said, Reply, wants}
-use Rattle.goref.specs.Conversation.{Asks, Conversation, ends, quits, goes_on}
-use Rattle.goref.specs.Progress.{Reaches}
-use Rattle.goref.proofs.Possible.{some_reply}
+use Rattle.goref.specs.Laws.{SomeReply}
+use Rattle.goref_runs.specs.Conversation.{Asks, Conversation, ends, quits, goes_on}
+use Rattle.goref_runs.specs.Progress.{Reaches}
 
 -- the same session, told in other words
 pub retold : {s : Standing} {lines lines' : List (List ℕ)} {asked asked' : List Pair} {text text' : List ℕ} →
@@ -35,14 +36,14 @@ some_more s line lines content asked reply true asks is e c =
 some_more s line lines content asked reply false asks is e c =
     (c.0, c.1, goes_on s line lines content asked reply c.0 c.1 asks is e c.2)
 
--- each list of lines can be answered
-pub some_conversation : (lines : List (List ℕ)) (s : Standing) → SomeConversation s lines
-some_conversation [] s = ([], [], ends s)
-some_conversation (line ∷ lines) s =
+-- each list of lines can be answered, since each line can
+pub some_conversation : SomeReply → (lines : List (List ℕ)) (s : Standing) → SomeConversation s lines
+some_conversation law [] s = ([], [], ends s)
+some_conversation law (line ∷ lines) s =
     let f = some_content (wants (kept line)) in
-    let r = some_reply s (kept line) f.0 in
+    let r = law s (kept line) f.0 in
     let reply : Said = r.0 in
-    let c = some_more s line lines f.0 f.1 reply reply.ends f.2 r.1 refl (some_conversation lines reply.standing) in
+    let c = some_more s line lines f.0 f.1 reply reply.ends f.2 r.1 refl (some_conversation law lines reply.standing) in
     (f.1 ++ c.0, reply.text ++ c.1, c.2)
 
 -- before the first line

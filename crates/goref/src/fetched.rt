@@ -1,5 +1,4 @@
-ghost use Rattle.std.specs.Prelude.{◌≡◌, ◌∷◌, [], List, Option, option_copied};
-ghost use Rattle.goref.specs.Contents.{Pair, content_of, then_pairs};
+ghost use Rattle.std.specs.Prelude.{◌≡◌, option_copied};
 ghost use Rattle.goref.specs.Answers.{wants as wants_of};
 
 use crate::command::Command;
@@ -20,17 +19,6 @@ pub enum Fetched<A: Allocator> {
     TooLarge,
     /// There was no memory for what the file holds.
     Memory,
-}
-
-/// Where files are fetched from.
-pub trait Shelf<A: Allocator> {
-    /// The names asked for so far with what was given for each, where the shelf tells them.
-    ghost given: { Self → Option (List Pair) };
-
-    /// Fetches the file of this name.
-    fn fetch(&mut self, name: &[u8]) -> Fetched<A>
-        ensures { given self.new ≡ then_pairs (given self.old)
-            ((name.now, content_of result) ∷ []) };
 }
 
 /// The name of the file that a line wants fetched: that of a `loadsgf` whose arguments are as they

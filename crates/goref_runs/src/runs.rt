@@ -3,16 +3,18 @@ ghost use Rattle.go_board.specs.Device.{failures_after};
 ghost use Rattle.go_board.specs.Sizes.{lines_of};
 ghost use Rattle.go_game.specs.Standings.{Standing};
 ghost use Rattle.goref.specs.Starts.{begun};
-ghost use Rattle.goref.specs.Lines.{HasNoEnd, lines};
-ghost use Rattle.goref.specs.Contents.{Pair, content_of};
-ghost use Rattle.goref.specs.Conversation.{Converses, BreaksOff};
-ghost use Rattle.goref.specs.Progress.{Fetches, Responds, Progress, Proceeds, Finishes};
-ghost use Rattle.goref.specs.Runs.{AnswersComplete, AnswersFront, read_failures_after, write_failures_after};
+ghost use Rattle.goref_runs.specs.Lines.{HasNoEnd, lines};
+ghost use Rattle.goref.specs.Contents.{content_of};
+ghost use Rattle.goref_runs.specs.Shelves.{Pair};
+ghost use Rattle.goref_runs.specs.Conversation.{Converses, BreaksOff};
+ghost use Rattle.goref_runs.specs.Progress.{Fetches, Responds, Progress, Proceeds, Finishes};
+ghost use Rattle.goref_runs.specs.Runs.{AnswersComplete, AnswersFront, read_failures_after, write_failures_after};
 
-use crate::flow::{Flow, RunError};
-use crate::session::Session;
-use crate::shelf::{Fetched, Shelf, wants};
+use crate::fault::RunError;
+use crate::shelf::Shelf;
 use go_board::{Failed, Sink, Size, Source, WriteFault};
+use goref::laws::some_reply;
+use goref::{Fetched, Flow, Session, wants};
 use goref_lines::Line;
 use memchr::memchr;
 use std::alloc::Allocator;
@@ -140,6 +142,7 @@ fn end_line<A: Allocator + Copy, W: Sink, S: Shelf<A>>(
         Proceeds result start (read ++ (part.now ++ 10 ∷ [])) line.new session.new given (S.given shelf.new) taken (W.taken writer.new) }
     ensures failures { W.failures writer.new ≡ failures_after result (W.failures writer.old) }
 {
+    some_reply();
     line.extend(part);
     let result = respond(session, line, writer, shelf);
     line.clear();
@@ -159,6 +162,7 @@ fn end_input<A: Allocator + Copy, W: Sink, S: Shelf<A>>(
         Finishes result start read given (S.given shelf.new) taken (W.taken writer.new) }
     ensures failures { W.failures writer.new ≡ failures_after result (W.failures writer.old) }
 {
+    some_reply();
     match respond(session, line, writer, shelf) {
         Ok(_) => Ok(()),
         Err(WriteFault) => Err(WriteFault),

@@ -1,0 +1,4 @@
+pub mod Lines
+pub mod Conversations
+pub mod Progressing
+pub mod Running
