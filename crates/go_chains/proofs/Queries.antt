@@ -1,0 +1,141 @@
+-- What the cells of a kept board answer.
+use Rattle.std.specs.Prelude.{None, replicate, IsTrue}
+use Rattle.std.specs.Int.{bit_at}
+use Rattle.std.proofs.Common.{ℕ, ◌*◌, ◌/◌, ◌%◌, ◌^◌, ◌<◌, ◌≤◌, ◌≡◌, ◌↔◌, ◌++◌, ◌∷◌, [], refl, sym, ap, ◌∙◌, arith, inl, inr, Bool, true, false, List, length, nat_eq, bit_and, get_or}
+use Rattle.std.proofs.lemmas.Bool.{cases_lt, eq-eqb, eqb-true, false_from_ne_true}
+use Rattle.std.proofs.lemmas.List.{ext_get_or, get_or-replicate, get_or_past, length-replicate}
+use Rattle.std.proofs.lemmas.List.FromFn.{length-range_with_len}
+use Rattle.std.proofs.lemmas.List.Sums.{count_by-le-length, length-filter}
+use Rattle.std.proofs.lemmas.Nat.Bits.{shr_and_one}
+use Rattle.go_board.specs.declared.size.TheConstants.{MAX_LINES, MAX_POINTS}
+use Rattle.go_board.specs.Chains.{members}
+use Rattle.go_board.specs.Colours.{Colouring, colour_at}
+use Rattle.go_board.specs.Paths.{Joined}
+use Rattle.go_board.specs.Points.{is_adjacent}
+use Rattle.go_board.specs.Reaching.{is_liberty_of, joined, points}
+use Rattle.go_chains.specs.Cells.{colour_of, label_of, lib_of, next_of, size_of, tables_of, word_of}
+use Rattle.go_chains.specs.Rings.{ring_from}
+use Rattle.go_chains.specs.Sound.{IsKept, IsStoneOf, colouring_of, value_of}
+use Rattle.go_chains.specs.Tables.{IsStone}
+use Rattle.go_chains.proofs.Bridge.{IsKept-tidy, colouring-at, far_stone, length-colouring, length-ring_from, stone-kept, tidy-kept, colouring-inside}
+use Rattle.go_chains.proofs.Counted.{counted}
+use Rattle.go_chains.proofs.Neighbours.{square-le}
+
+-- two tests that hold together have one answer
+pub same_answer : (a b : Bool) → (a ≡ true → b ≡ true) → (b ≡ true → a ≡ true) → a ≡ b
+same_answer true b there back = sym (there refl)
+same_answer false b there back = sym (false_from_ne_true b (λ t. (let e : false ≡ true = back t in absurd (cc))))
+
+-- the law of the crate below on chains
+pub record JoinedByPath : Type 0 where
+  pub law : (n : ℕ) (g : Colouring) (p q : ℕ) → p < n * n → IsTrue (joined n g p q) ↔ Joined n g p q
+
+-- and on liberties
+pub record LibertyByPath : Type 0 where
+  pub law : (n : ℕ) (g : Colouring) (p q : ℕ) → p < n * n
+      → IsTrue (is_liberty_of n g p q) ↔ ((colour_at g q ≡ None) × ((r : ℕ) × Joined n g p r × IsTrue (is_adjacent n r q)))
+
+module _ (n : ℕ) (cells : List ℕ) (kept : IsKept n cells) where
+  pub points-kept : n * n ≤ MAX_POINTS
+  points-kept = square-le n kept.small
+
+  -- a stone's label names a point
+  pub label-small : (p : ℕ) → IsStoneOf (colouring_of n cells) p → label_of cells p < MAX_POINTS
+  label-small p stone =
+      let low = (tidy-kept n cells kept).head_in p (stone-kept n cells kept p stone) in
+      let few = points-kept in
+      omega arith
+
+  -- the stones joined to a stone are stones
+  far-kept : (p q : ℕ) → IsStoneOf (colouring_of n cells) p → Joined n (colouring_of n cells) p q → q < n * n
+  far-kept p q stone chain =
+      (far_stone n (colouring_of n cells) cells (colouring-inside n cells) kept.sound.colours kept.sound.coded p q (stone-kept n cells kept p stone) chain).0.0
+
+  pub labels_joined : JoinedByPath → (p q a b : ℕ) → IsStoneOf (colouring_of n cells) p → IsStoneOf (colouring_of n cells) q
+      → a ≡ label_of cells p → b ≡ label_of cells q → nat_eq a b ≡ joined n (colouring_of n cells) p q
+  labels_joined by p q a b p_stone q_stone a_is b_is =
+      let same = kept.sound.labels p q p_stone q_stone in
+      let path = by.law n (colouring_of n cells) p q (stone-kept n cells kept p p_stone).0 in
+      same_answer (nat_eq a b) (joined n (colouring_of n cells) p q)
+      (λ e. path.1 (same.0 (sym a_is ∙ eqb-true a b e ∙ b_is)))
+      (λ t. eq-eqb a b (a_is ∙ same.1 (path.0 t) ∙ sym b_is))
+
+  pub size_counts : JoinedByPath → (p l : ℕ) → IsStoneOf (colouring_of n cells) p → l ≡ label_of cells p
+      → size_of cells l ≡ length (members n (colouring_of n cells) p)
+  size_counts by p l stone l_is =
+      let g = colouring_of n cells in
+      let ring = ring_from (next_of cells) (size_of cells (label_of cells p)) p in
+      let lists = kept.sound.rings p stone in
+      let p_in = (stone-kept n cells kept p stone).0 in
+      let as_many : length (members n g p) ≡ length ring = counted n (joined n g p) ring lists.0
+      (λ q has. let j = (lists.1 q).0 has in (far-kept p q stone j, (by.law n g p q p_in).1 j))
+      (λ q q_in t. (lists.1 q).1 ((by.law n g p q p_in).0 t)) in
+      ap (size_of cells) l_is ∙ sym (length-ring_from (next_of cells) (size_of cells (label_of cells p)) p) ∙ sym as_many
+
+  pub size_few : JoinedByPath → (p l : ℕ) → IsStoneOf (colouring_of n cells) p → l ≡ label_of cells p → size_of cells l ≤ MAX_POINTS
+  size_few by p l stone l_is =
+      let test = joined n (colouring_of n cells) p in
+      let e = size_counts by p l stone l_is in
+      let few = points-kept in
+      omega (arith, length-filter test (points n), count_by-le-length test (points n), length-range_with_len 0 (n * n))
+
+  pub liberty_answers : LibertyByPath → (p q l : ℕ) → IsStoneOf (colouring_of n cells) p → q < n * n → l ≡ label_of cells p
+      → nat_eq (lib_of cells l q) 1 ≡ is_liberty_of n (colouring_of n cells) p q
+  liberty_answers by p q l stone q_in l_is =
+      let g = colouring_of n cells in
+      let path = by.law n g p q (stone-kept n cells kept p stone).0 in
+      let bit = kept.sound.liberties p q stone q_in in
+      same_answer (nat_eq (lib_of cells l q) 1) (is_liberty_of n g p q)
+      (λ e. (let free = bit.0 (ap (λ k. lib_of cells k q) (sym l_is) ∙ eqb-true (lib_of cells l q) 1 e) in
+      path.1 (free.0, (free.1.0, free.1.1, free.1.2.2))))
+      (λ t. (let free = path.0 t in
+      eq-eqb (lib_of cells l q) 1 (ap (λ k. lib_of cells k q) l_is ∙ bit.1 (free.0, (free.1.0, free.1.1, (far-kept p free.1.0 stone free.1.1, q_in, free.1.2))))))
+
+-- the word that was read has the bit of a liberty
+pub bit_read : (cells : List ℕ) (word l q at : ℕ) → word ≡ word_of cells l (at / 64) → at ≡ q → nat_eq (bit_and (word / 2 ^ (at % 64)) 1) 1 ≡ nat_eq (lib_of cells l q) 1
+bit_read cells word l q at read is =
+    ap (λ b. nat_eq b 1) (shr_and_one word (at % 64) ∙ ap (λ w. bit_at w (at % 64)) read ∙ ap (λ k. lib_of cells l k) is)
+
+-- cells that are all 0
+zero_cell : (count : ℕ) (cells : List ℕ) → cells ≡ replicate count 0 → (p : ℕ) → colour_of cells p ≡ 0
+zero_cell count cells zeros p = ap (λ l. get_or l p 0) zeros ∙ elim (cases_lt p count) [
+  | inl inside ↦ get_or-replicate count p 0 0 inside
+  | inr past ↦ get_or_past (replicate count 0) p 0 (omega (arith, length-replicate {A = ℕ} count 0))
+]
+
+-- have no stone, and are kept
+pub IsKept-zeros : (n count : ℕ) (cells : List ℕ) → cells ≡ replicate count 0 → n ≤ MAX_LINES → IsKept n cells
+IsKept-zeros n count cells zeros small =
+    let none : (p : ℕ) → IsStone (n * n) (tables_of cells) p → ⊥ = λ p s. (let z = zero_cell count cells zeros p in let some : 0 < colour_of cells p = s.1 in omega arith) in
+    IsKept-tidy n cells small (λ p p_in. (let z = zero_cell count cells zeros p in omega arith))
+    (record {
+      head_in = λ p s. absurd (none p s);
+      head_colour = λ p s. absurd (none p s);
+      head_label = λ p s. absurd (none p s);
+      ring = λ p s. absurd (none p s);
+      on_ring = λ p q s. absurd (none p s);
+      ring_has = λ p q s. absurd (none p s);
+      lib_is = λ p q s. absurd (none p s);
+      has_lib = λ p q s. absurd (none p s);
+      joined = λ p q s. absurd (none p s);
+    })
+    (λ p q s. absurd (none p s)) (λ p s. absurd (none p s))
+
+pub colouring-zeros : (n count : ℕ) (cells : List ℕ) → cells ≡ replicate count 0 → colouring_of n cells ≡ replicate (n * n) None
+colouring-zeros n count cells zeros =
+    let size = length-colouring n cells in
+    ext_get_or None (colouring_of n cells) (replicate (n * n) None) (size ∙ sym (length-replicate (n * n) None))
+    (λ i below. (let i_in : i < n * n = omega arith in
+    colouring-at n cells i i_in ∙ ap value_of (zero_cell count cells zeros i) ∙ sym (get_or-replicate (n * n) i None None i_in)))
+
+-- a grid with the colour of each point is that colouring
+pub grid_filled : (n : ℕ) (cells : List ℕ) (colours : Colouring) (i : ℕ) → n * n ≤ i → length colours ≡ n * n
+    → ((k : ℕ) → k < i → colour_at colours k ≡ colour_at (colouring_of n cells) k) → colours ≡ colouring_of n cells
+grid_filled n cells colours i all whole done =
+    ext_get_or None colours (colouring_of n cells) (whole ∙ sym (length-colouring n cells)) (λ k below. done k (omega arith))
+
+-- a list that isn't empty has a last element
+pub last_split : {X : Type 0} → (xs : List X) → 0 < length xs → (front : List X) × (last : X) × (xs ≡ front ++ last ∷ [])
+last_split [] some = absurd (omega arith)
+last_split (x ∷ []) some = ([], x, refl)
+last_split (x ∷ y ∷ ys) some = let rest = last_split (y ∷ ys) (omega arith) in (x ∷ rest.0, rest.1, ap (λ l. x ∷ l) rest.2)

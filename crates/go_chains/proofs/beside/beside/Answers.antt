@@ -1,0 +1,21 @@
+use Rattle.std.proofs.Common.{◌<◌, ◌*◌, ◌≤◌, length, map, ap, ◌∙◌, arith}
+use Rattle.std.proofs.lemmas.List.{take_all}
+use Rattle.go_board.specs.Sizes.{lines_of}
+use Rattle.go_board.specs.declared.size.TheConstants.{MAX_POINTS}
+use Rattle.go_board.specs.Points.{number_of}
+use Rattle.go_chains.proofs.Neighbours.{are_beside_by_number, square-le}
+use Rattle.go_chains.proofs.beside.beside.Goals as goal
+
+pub returns : goal.returns
+returns c =
+    let n = lines_of c.args.size in
+    let p = c.args.point in
+    let shown = c.as_slice-q-items in
+    let p_in : p < n * n = c.requires in
+    let few : n * n ≤ MAX_POINTS = square-le n c.args.size.in_range in
+    are_beside_by_number (record { number = c.points_by_number.ensures.number; back = c.points_by_number.ensures.back; on = c.points_by_number.ensures.on; same = c.points_by_number.ensures.same })
+    n p c.numbered.result c.neighbours-near.result.items c.loop-q.numbers.items
+    p_in (c.numbered.ensures.value)
+    (let f = shown.ensures.fits in let v = ap length shown.ensures.value in omega arith)
+    c.neighbours-near.ensures.on c.neighbours-near.ensures.beside c.neighbours-near.ensures.each
+    (c.loop-q.invariant.numbers ∙ ap (map (number_of n)) (take_all c.loop-q.q-index shown.result.now c.loop-q-test.false ∙ shown.ensures.value))

@@ -1,0 +1,30 @@
+use Rattle.std.proofs.Common.{arith, ◌≡◌, ◌≤◌, ◌*◌, ◌∙◌, ap, subst, ℕ, count_by}
+use Rattle.std.specs.List.{range_with_len}
+use Rattle.go_board.specs.Points.{number_of}
+use Rattle.go_board.specs.Reaching.{is_liberty_of}
+use Rattle.go_board.specs.declared.size.TheConstants.{MAX_POINTS}
+use Rattle.go_chains.specs.Sound.{grid_of}
+use Rattle.go_chains.specs.Words.{is_marked_free}
+use Rattle.go_chains.proofs.Counting.{words_counted, words_more}
+use Rattle.go_chains.proofs.Queries.{liberty_answers, points-kept}
+use Rattle.go_chains.proofs.board.Board.liberties_of.Goals as goal
+
+pub loop-word-preserved : goal.loop-word-preserved
+loop-word-preserved c = record {
+  counted = words_more c.args.self.now.cells c.from-points.result c.label_at-label.result c.loop-word.word c.loop-word.count c.liberties_in-count.result c.loop-word.invariant.counted
+      c.liberties_in-count.ensures.counted;
+  few = omega arith;
+}
+
+pub returns : goal.returns
+returns c =
+    let n = c.args.self.now.lines in
+    let cells = c.args.self.now.cells in
+    let p = number_of n c.args.p in
+    let label = c.label_at-label.result in
+    let kept = c.label_at-label.ensures.kept in
+    let all : c.from-points.result ≡ n * n = c.from-points.ensures ∙ c.points.ensures.value ∙ ap (λ (k : ℕ). k * k) c.size.ensures.lines in
+    let few : n * n ≤ MAX_POINTS = points-kept n cells kept in
+    let counted = subst (λ (k : ℕ). c.loop-word.count ≡ count_by (is_marked_free cells k label) (range_with_len 0 (64 * c.loop-word.word))) all c.loop-word.invariant.counted in
+    words_counted n c.loop-word.word cells label c.loop-word.count (is_liberty_of n (grid_of c.args.self.now) p) (omega arith) counted
+    (λ q below. liberty_answers n cells kept (record { law = c.liberty_by_a_path.ensures }) p q label c.requires.stone below c.label_at-label.ensures.label)

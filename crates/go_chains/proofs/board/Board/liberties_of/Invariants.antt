@@ -1,0 +1,10 @@
+use Rattle.std.proofs.Common.{◌≡◌, ◌≤◌, ◌*◌, count_by}
+use Rattle.std.specs.List.{range_with_len}
+use Rattle.go_chains.specs.Words.{is_marked_free}
+use Rattle.go_chains.proofs.board.Board.liberties_of.Given as goal
+
+abbrev pub invariant-loop-word : goal.invariant-loop-word
+invariant-loop-word l = record {
+  counted : l.count ≡ count_by (is_marked_free l.self.cells l.points l.label) (range_with_len 0 (64 * l.word));
+  few : l.count ≤ 64 * l.word;
+}

@@ -1,0 +1,48 @@
+use Rattle.std.proofs.Common.{arith, ◌≡◌, ◌+◌, ◌*◌, ℕ, subst, inl, inr, slice_index}
+use Rattle.std.proofs.lemmas.Bool.{cases_lt}
+use Rattle.go_board.specs.Paths.{IsAdjacent}
+use Rattle.go_board.specs.Sizes.{lines_of}
+use Rattle.go_chains.specs.Cells.{colour_of, label_of, tables_of}
+use Rattle.go_chains.specs.Tables.{IsDead}
+use Rattle.go_chains.proofs.Capturing.{IsCapturing_none}
+use Rattle.go_chains.proofs.Rewinding.{Logged_then}
+use Rattle.go_chains.proofs.Taking.{counts_then, stays_empty, still_dead, still_two}
+use Rattle.go_chains.proofs.capture.capture.Goals as goal
+
+pub take_one-taken-requires-clause-two : goal.take_one-taken-requires-clause-two
+take_one-taken-requires-clause-two g c =
+    let n = lines_of c.args.size in
+    still_two (n * n) (IsAdjacent n) (tables_of c.args.cells.now) (tables_of c.loop-near.cells) c.args.own c.args.other c.loop-near.invariant.capturing c.requires.two
+
+pub loop-near-preserved : goal.loop-near-preserved
+loop-near-preserved g c =
+    let n = lines_of c.args.size in
+    let old = c.args.cells.now in
+    let mid = c.loop-near.cells in
+    let new = c.take_one-taken.new.cells in
+    let inv = c.loop-near.invariant in
+    let one = c.take_one-taken.ensures in
+    let i = c.loop-near.near-index in
+    let j = c.loop-near.taken in
+    let k = c.take_one-taken.result in
+    let own = c.args.own in
+    let after = one.capturing (tables_of mid) inv.capturing.tidy (IsCapturing_none (n * n) (IsAdjacent n) (tables_of mid) own inv.capturing.tidy inv.capturing.whole) in
+    record {
+      capturing = one.capturing (tables_of old) c.requires.tidy inv.capturing;
+      gone = λ x below is dead.
+          let point = slice_index c.args.beside.now x in
+          let point_in = c.requires.on x (let t = c.loop-near-test.true in omega arith) in
+          elim (cases_lt x i) [
+            | inl before ↦ stays_empty (n * n) (IsAdjacent n) (tables_of mid) (tables_of new) own point after point_in (inv.gone x before is dead)
+            | inr last ↦
+                let e : i ≡ x = omega arith in
+                let P : ℕ → Type 0 = λ y. colour_of mid (slice_index c.args.beside.now y) ≡ own → IsDead (n * n) (tables_of mid) (label_of mid (slice_index c.args.beside.now y)) → colour_of new (slice_index c.args.beside.now y) ≡ 0 in
+                still_dead (n * n) (IsAdjacent n) (tables_of old) (tables_of mid) (tables_of new) own point c.requires.own inv.capturing after point_in is dead (subst P e one.gone)
+          ];
+      stones = counts_then (n * n) (IsAdjacent n) (tables_of old) (tables_of mid) (tables_of new) own j k c.requires.own inv.capturing after inv.stones one.stones;
+      few = let e = inv.few in let f = one.few in omega arith;
+      logged = Logged_then old mid new c.args.changes.now.items c.loop-near.changes.items c.take_one-taken.new.changes.items (5 * j) (5 * k) (5 * (j + k)) inv.logged one.logged (omega arith);
+      capacity = let e = inv.capacity in let f = one.capacity in omega arith;
+      length = let e = inv.length in let f = one.length in omega arith;
+      count = let e = inv.count in let f = one.count in omega arith;
+    }

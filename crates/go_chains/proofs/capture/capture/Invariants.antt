@@ -1,0 +1,25 @@
+use Rattle.std.proofs.Common.{◌≡◌, ◌<◌, ◌≤◌, ◌+◌, ◌*◌, ℕ, vec_capacity, vec_len, slice_index}
+use Rattle.go_board.specs.Paths.{IsAdjacent}
+use Rattle.go_board.specs.Sizes.{lines_of}
+use Rattle.go_board.specs.declared.size.TheConstants.{MAX_POINTS}
+use Rattle.go_chains.specs.declared.cells.TheConstants.{WORDS}
+use Rattle.go_chains.specs.Cells.{colour_of, label_of, tables_of}
+use Rattle.go_chains.specs.Rewound.{Logged}
+use Rattle.go_chains.specs.Steps.{CountsTaken, IsCapturing}
+use Rattle.go_chains.specs.Tables.{IsDead}
+use Rattle.go_chains.proofs.capture.capture.Given as goal
+
+abbrev pub invariant-loop-near : goal.invariant-loop-near
+invariant-loop-near g l =
+    let n = lines_of l.fn.size in
+    let old = l.fn.cells in
+    record {
+      capturing : IsCapturing (n * n) (IsAdjacent n) (tables_of old) (tables_of l.cells) l.fn.own;
+      gone : (i : ℕ) → i < l.near-index → colour_of old (slice_index l.fn.beside i) ≡ l.fn.own → IsDead (n * n) (tables_of old) (label_of old (slice_index l.fn.beside i)) → colour_of l.cells (slice_index l.fn.beside i) ≡ 0;
+      stones : CountsTaken (n * n) (tables_of old) (tables_of l.cells) l.fn.own l.taken;
+      few : l.taken ≤ l.near-index * MAX_POINTS;
+      logged : Logged old l.cells l.fn.changes.items l.changes.items (5 * l.taken);
+      capacity : vec_capacity l.fn.changes ≤ vec_capacity l.changes;
+      length : vec_len l.changes ≤ vec_len l.fn.changes + l.near-index * (5 * MAX_POINTS);
+      count : l.meter ≤ l.fn.meter + (l.near-index * (WORDS + 4) + 18 * l.taken);
+    }

@@ -1,0 +1,45 @@
+use Rattle.std.proofs.Common.{arith, ◌≡◌, ◌*◌, ℕ, sym, ◌∙◌, subst}
+use Rattle.go_board.specs.Paths.{IsAdjacent}
+use Rattle.go_board.specs.Sizes.{lines_of}
+use Rattle.go_chains.specs.Cells.{colour_of, tables_of}
+use Rattle.go_chains.specs.Steps.{CountsTaken}
+use Rattle.go_chains.specs.Tables.{IsDead, IsStone}
+use Rattle.go_chains.proofs.Capturing.{IsCapturing_more}
+use Rattle.go_chains.proofs.Neighbours.{flip, inside}
+use Rattle.go_chains.proofs.Small.{label_small, size_small}
+use Rattle.go_chains.proofs.Taking.{counts_ring}
+use Rattle.go_chains.proofs.capture.take_one.Goals as goal
+
+pub is_dead-requires : goal.is_dead-requires
+is_dead-requires g c =
+    let n = lines_of c.args.size in
+    let old = c.args.cells.now in
+    let is : colour_of old c.args.near ≡ c.args.own = sym c.get.ensures.value ∙ c.if-get-own.false in
+    let some = c.requires.own in
+    let stone : IsStone (n * n) (tables_of old) c.args.near = (c.requires.near, omega arith) in
+    let h = label_small n (IsAdjacent n) (tables_of old) c.args.size.in_range c.requires.tidy c.args.near stone in
+    let e = c.get-label.ensures.value in omega arith
+
+pub returns-clause-capturing : goal.returns-clause-capturing
+returns-clause-capturing g c t tidy capturing =
+    let n = lines_of c.args.size in
+    let old = c.args.cells.now in
+    let is : colour_of old c.args.near ≡ c.args.own = sym c.get.ensures.value ∙ c.if-get-own.false in
+    let D : ℕ → Type 0 = λ l. IsDead (n * n) (tables_of old) l in
+    IsCapturing_more (n * n) (IsAdjacent n) (flip n) (inside n) t (tables_of old) (tables_of c.take_off.new.cells) c.args.own c.args.near tidy capturing c.take_off.ensures.removed is c.requires.own
+    (subst D c.get-label.ensures.value (c.is_dead.ensures.dead.0 c.if-not-is_dead.false))
+
+pub returns-clause-stones : goal.returns-clause-stones
+returns-clause-stones g c =
+    let n = lines_of c.args.size in
+    let old = c.args.cells.now in
+    let is : colour_of old c.args.near ≡ c.args.own = sym c.get.ensures.value ∙ c.if-get-own.false in
+    let P : ℕ → Type 0 = λ k. CountsTaken (n * n) (tables_of old) (tables_of c.take_off.new.cells) c.args.own k in
+    subst P (sym c.take_off.ensures.stones) (counts_ring (n * n) (IsAdjacent n) (tables_of old) (tables_of c.take_off.new.cells) c.args.near c.args.own c.requires.tidy c.take_off.ensures.removed is c.requires.own)
+
+pub returns-clause-few : goal.returns-clause-few
+returns-clause-few g c =
+    let n = lines_of c.args.size in
+    let old = c.args.cells.now in
+    let h = size_small n (IsAdjacent n) (tables_of old) c.args.size.in_range c.requires.tidy c.args.near c.take_off.ensures.removed.stone in
+    let e = c.take_off.ensures.stones in omega arith

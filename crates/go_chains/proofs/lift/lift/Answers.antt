@@ -1,0 +1,18 @@
+use Rattle.std.proofs.Common.{arith, ℕ, sym, subst, List}
+use Rattle.go_board.specs.Sizes.{lines_of}
+use Rattle.go_chains.specs.Beside.{AreBeside}
+use Rattle.go_chains.proofs.Giving.{IsLifted_given}
+use Rattle.go_chains.proofs.Neighbours.{square-le}
+use Rattle.go_chains.proofs.Rewinding.{Logged_then}
+use Rattle.go_chains.proofs.lift.lift.Goals as goal
+
+pub returns-clause-lifted : goal.returns-clause-lifted
+returns-clause-lifted g c =
+    let n = lines_of c.args.size in
+    let P : List ℕ → Type 0 = λ xs. AreBeside n c.args.point xs in
+    IsLifted_given n c.args.cells.now c.replace.new.cells c.give_back.new.cells c.args.point c.args.other c.as_slice.result.now (square-le n c.args.size.in_range) c.requires.point
+    (subst P (sym c.as_slice.ensures.value) c.beside-near.ensures) c.replace.ensures.written c.give_back.ensures.given
+
+pub returns-clause-logged : goal.returns-clause-logged
+returns-clause-logged g c =
+    Logged_then c.args.cells.now c.replace.new.cells c.give_back.new.cells c.args.changes.now.items c.replace.new.changes.items c.give_back.new.changes.items 1 4 5 c.replace.ensures.logged c.give_back.ensures.logged (omega arith)

@@ -1,0 +1,30 @@
+use Rattle.std.proofs.Common.{◌≡◌, ◌-◌, ◌∙◌, ◌++◌, ◌∷◌, [], length, slice_set, ap, sym, arith, option_to_list}
+use Rattle.std.proofs.lemmas.List.{length-take-le}
+use Rattle.go_chains.specs.declared.cells.TheConstants.{COUNT}
+use Rattle.go_chains.specs.Rewound.{rewound}
+use Rattle.go_chains.proofs.Rewinding.{popped, popped_names}
+use Rattle.go_chains.proofs.log.put_back_changes.Goals as goal
+use Rattle.go_chains.proofs.log.put_back_changes.Goals.{in-Some, in_default}
+
+pub set-requires : goal.set-requires
+set-requires g c =
+    let split : c.loop.changes.items ≡ c.pop.new.self.items ++ c.in-Some.change ∷ [] = c.pop.ensures.items ∙ ap (λ o. c.pop.new.self.items ++ option_to_list o) c.in-Some.is in
+    let p = popped c.args.changes.now.items c.loop.changes.items c.pop.new.self.items c.in-Some.change c.loop.counter (omega arith) c.loop.invariant.changes split in
+    popped_names COUNT c.args.changes.now.items c.pop.new.self.items c.in-Some.change c.loop.counter c.args.count (omega arith) c.requires.enough p c.requires.names
+
+pub loop-preserved : goal.loop-preserved
+loop-preserved g c = elim c.match-pop.branch [
+  | in-Some w ↦
+      let split : c.loop.changes.items ≡ c.pop.new.self.items ++ w.in-Some.change ∷ [] = c.pop.ensures.items ∙ ap (λ o. c.pop.new.self.items ++ option_to_list o) w.in-Some.is in
+      let p = popped c.args.changes.now.items c.loop.changes.items c.pop.new.self.items w.in-Some.change c.loop.counter (omega arith) c.loop.invariant.changes split in
+      record {
+        changes = p.rest_is;
+        cells = w.cells-is ∙ w.set.ensures.value ∙ ap (λ cells. slice_set cells w.in-Some.change.place w.in-Some.change.old) c.loop.invariant.cells
+            ∙ sym (ap (λ changes. rewound c.args.cells.now changes) p.dropped);
+        meter = omega arith;
+      }
+  | in_default w ↦ absurd (
+      let none : c.loop.changes.len ≡ 0 = w.in_default.ensures.cases.0 in
+      let size : c.loop.changes.len ≡ length c.loop.changes.items = c.loop.changes.ok.0 in
+      omega (arith, ap length c.loop.invariant.changes, length-take-le (length c.args.changes.now.items - c.loop.counter) c.args.changes.now.items (omega arith)))
+]

@@ -1,0 +1,38 @@
+-- How the cells are arranged, and what they say.
+use Rattle.std.specs.Prelude.{ℕ, List, ◌≡◌, ◌≢◌, ◌+◌, ◌*◌, ◌/◌, ◌%◌, slice_index}
+use Rattle.std.specs.Int.{bit_at}
+use Rattle.go_chains.specs.declared.cells.TheConstants.{LABELS, LINKS, SIZES, LIBERTIES, WORDS}
+use Rattle.go_chains.specs.Tables.{Tables}
+
+-- how the cells are arranged: four numbers of each point, then six words of liberties for each label
+abbrev pub colour_of : List ℕ → ℕ → ℕ
+colour_of cells p = slice_index cells p
+
+abbrev pub label_of : List ℕ → ℕ → ℕ
+label_of cells p = slice_index cells (LABELS + p)
+
+abbrev pub next_of : List ℕ → ℕ → ℕ
+next_of cells p = slice_index cells (LINKS + p)
+
+abbrev pub size_of : List ℕ → ℕ → ℕ
+size_of cells l = slice_index cells (SIZES + l)
+
+abbrev pub word_of : List ℕ → ℕ → ℕ → ℕ
+word_of cells l w = slice_index cells (LIBERTIES + WORDS * l + w)
+
+abbrev pub lib_of : List ℕ → ℕ → ℕ → ℕ
+lib_of cells l q = bit_at (word_of cells l (q / 64)) (q % 64)
+
+abbrev pub tables_of : List ℕ → Tables
+tables_of cells = record {
+  colour = colour_of cells;
+  label = label_of cells;
+  next = next_of cells;
+  size = size_of cells;
+  lib = lib_of cells;
+}
+
+-- one cell is written
+pub record IsWritten (old new : List ℕ) (place value : ℕ) : Type 0 where
+  pub at : slice_index new place ≡ value
+  pub others : (k : ℕ) → k ≢ place → slice_index new k ≡ slice_index old k

@@ -1,0 +1,10 @@
+pub mod Rings
+pub mod Tables
+pub mod Steps
+pub mod Cells
+pub mod Writes
+pub mod Sound
+pub mod Rewound
+pub mod Beside
+pub mod Words
+pub mod Playing

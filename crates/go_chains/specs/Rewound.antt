@@ -1,0 +1,63 @@
+-- Changes of cells, put back from the last to the first, and lists of plays made of them.
+use Rattle.std.specs.Prelude.{ℕ, List, [], ◌∷◌, ◌++◌, ◌≡◌, ◌≤◌, ◌<◌, ◌+◌, length, slice_set, take, drop, All}
+use Rattle.go_chains.specs.declared.cells.TheConstants.{COUNT}
+use Rattle.go_chains.specs.declared.log.Change.{Change}
+use Rattle.go_chains.specs.Sound.{BoardValue}
+
+-- the old values put back, from the last change to the first
+abbrev pub rewound : List ℕ → List Change → List ℕ
+rewound cells [] = cells
+rewound cells (change ∷ changes) = slice_set (rewound cells changes) change.place change.old
+
+-- each change names a cell
+abbrev pub NamesCells : ℕ → List Change → Type 0
+NamesCells count changes = All (λ change. change.place < count) changes
+
+-- the log gained changes, at most so many, that put back give the cells before
+pub record Logged (old new : List ℕ) (before after : List Change) (most : ℕ) : Type 0 where
+  pub added : List Change
+  pub grown : after ≡ before ++ added
+  pub back : rewound new added ≡ old
+  pub few : length added ≤ most
+  pub names : NamesCells COUNT added
+
+-- the changes of each play: as many of the changes as its length says
+abbrev pub plays_of : List ℕ → List Change → List (List Change)
+plays_of [] changes = []
+plays_of (n ∷ lengths) changes = take n changes ∷ plays_of lengths (drop n changes)
+
+-- how many changes there are in all plays
+abbrev pub total : List ℕ → ℕ
+total [] = 0
+total (n ∷ lengths) = n + total lengths
+
+-- all plays put back, from the last to the first
+abbrev pub all_rewound : List ℕ → List (List Change) → List ℕ
+all_rewound cells [] = cells
+all_rewound cells (changes ∷ plays) = rewound (all_rewound cells plays) changes
+
+-- cells, and a list of plays after each of which its changes put back give the cells before it
+abbrev pub Played : List ℕ → List (List Change) → List ℕ → Type 0
+Played first [] last = first ≡ last
+Played first (changes ∷ plays) last = (cells : List ℕ) × (rewound cells changes ≡ first) × Played cells plays last
+
+-- the log gained one play at its end, of at most so many changes, that put back give the cells before
+pub record PlayLogged (old new : List ℕ) (before after : List (List Change)) (most : ℕ) : Type 0 where
+  pub changes : List Change
+  pub gained : after ≡ before ++ changes ∷ []
+  pub back : rewound new changes ≡ old
+  pub few : length changes ≤ most
+  pub names : NamesCells COUNT changes
+
+-- the last play of a log is put back: the cells stand as before it, the log has lost it alone, and the meter counted its changes
+pub record IsPutBack (old new : List ℕ) (log earlier : List (List Change)) (changes : List Change) (before after : ℕ) : Type 0 where
+  pub cells : new ≡ rewound old changes
+  pub dropped : log ≡ earlier
+  pub count : after ≡ before + length changes
+
+-- the same of a board, whose lines stay
+pub record IsRewound (old new : BoardValue) (log earlier : List (List Change)) (changes : List Change) (before after : ℕ) : Type 0 where
+  pub lines : new.lines ≡ old.lines
+  pub cells : new.cells ≡ rewound old.cells changes
+  pub dropped : log ≡ earlier
+  pub count : after ≡ before + length changes

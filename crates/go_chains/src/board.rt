@@ -1,0 +1,245 @@
+ghost use Rattle.std.specs.Prelude.{◌≡◌, ◌<◌, ◌≤◌, ◌+◌, ◌*◌, ◌++◌, ◌∷◌, ◌↔◌, [], List, None, Some, IfOk, IsErrOf, OnErr, OnOk, length, replicate, slice_set};
+ghost use Rattle.go_board.specs.Chains.{liberties, members};
+ghost use Rattle.go_board.specs.Colours.{colour_at, other};
+ghost use Rattle.go_board.specs.Points.{IsOn, number_of};
+ghost use Rattle.go_board.specs.Reaching.{is_liberty_of, joined, moved, vanished};
+ghost use Rattle.go_board.specs.Sizes.{lines_of};
+ghost use Rattle.go_board.specs.declared.size.TheConstants.{MAX_POINTS};
+ghost use Rattle.go_chains.specs.declared.cells.TheConstants.{COUNT, WORDS};
+ghost use Rattle.go_chains.specs.declared.log.Change.{Change};
+ghost use Rattle.go_chains.specs.Cells.{label_of};
+ghost use Rattle.go_chains.specs.Playing.{most_of};
+ghost use Rattle.go_chains.specs.Rewound.{IsRewound, NamesCells, PlayLogged, rewound};
+ghost use Rattle.go_chains.specs.Sound.{IsKept, IsStoneOf, grid_of};
+ghost use Rattle.go_chains.specs.Words.{free_in_word};
+
+use crate::cells::{Cells, LABELS, SIZES, WORDS, word_place};
+use crate::codes::colour_from;
+use crate::errors::PlaceError;
+use crate::log::{Log, reserve_play, seal};
+use crate::masks::mask_of;
+use crate::place::{ROOM, place};
+use go_board::laws::{joined_by_a_path, liberty_by_a_path, points_by_number};
+use go_board::{Colour, Grid, Meter, Point, Size, Taken};
+use std::alloc::Allocator;
+use std::marker::Model;
+
+/// A board that keeps its chains and their liberties, changed in place by each play.
+#[derive(Drop)]
+pub struct Board {
+    size: Size,
+    cells: Cells,
+}
+
+impl Model for Board {
+    ghost use Rattle.go_board.specs.Sizes.{lines_of};
+    ghost use Rattle.go_chains.specs.Sound.{BoardValue, IsKept};
+
+    ghost Value = { BoardValue };
+
+    ghost view = { λ b. record { lines = lines_of b.size; cells = b.cells } };
+
+    ghost invariant = { λ b. IsKept (lines_of b.size) b.cells };
+}
+
+impl Board {
+    /// A board of this size with no stone.
+    pub fn new(size: Size) -> Board
+        ensures lines { result.lines ≡ lines_of size }
+        ensures colours { grid_of result ≡ replicate (lines_of size * lines_of size) None }
+        ensures cells { result.cells ≡ replicate COUNT 0 }
+    {
+        Board {
+            size,
+            cells: Cells::new(),
+        }
+    }
+
+    /// The size of the board.
+    pub fn size(&self) -> Size
+        ensures lines { lines_of result ≡ self.now.lines }
+        ensures whole { length (grid_of self.now) ≡ lines_of result * lines_of result }
+        ensures kept { IsKept self.now.lines self.now.cells }
+    {
+        self.size
+    }
+
+    /// The colour of a point of the board, or none where it is empty.
+    pub fn colour_at(&self, p: Point) -> Option<Colour>
+        requires { IsOn self.now.lines p }
+        ensures { result ≡ colour_at (grid_of self.now) (number_of self.now.lines p) }
+    {
+        points_by_number();
+        let mut meter = Meter::new();
+        let place = usize::from(p.index(self.size));
+        colour_from(self.cells.get(place, &mut meter))
+    }
+
+    /// The colours of the board.
+    pub fn grid(&self) -> Grid
+        ensures lines { result.lines ≡ self.now.lines }
+        ensures colours { result.colours ≡ grid_of self.now }
+    {
+        let size = self.size();
+        let mut grid = Grid::new(size);
+        for number in 0..size.points() {
+            let at = Point::numbered(size, number);
+            grid.set(at, self.colour_at(at));
+        }
+        grid
+    }
+
+    /// The label of a stone's chain.
+    fn label_at(&self, p: Point, meter: &mut Meter) -> usize
+        requires on { IsOn self.now.lines p }
+        requires stone { IsStoneOf (grid_of self.now) (number_of self.now.lines p) }
+        ensures label { result ≡ label_of self.now.cells (number_of self.now.lines p) }
+        ensures bound { result < MAX_POINTS }
+        ensures kept { IsKept self.now.lines self.now.cells }
+    {
+        points_by_number();
+        self.cells
+            .get(LABELS + usize::from(p.index(self.size)), meter) as usize
+    }
+
+    /// Whether two stones are in one chain: a path of their colour joins them.
+    pub fn same_chain(&self, p: Point, q: Point) -> bool
+        requires p_on { IsOn self.now.lines p }
+        requires q_on { IsOn self.now.lines q }
+        requires p_stone { IsStoneOf (grid_of self.now) (number_of self.now.lines p) }
+        requires q_stone { IsStoneOf (grid_of self.now) (number_of self.now.lines q) }
+        ensures { result ≡ joined self.now.lines (grid_of self.now) (number_of self.now.lines p)
+            (number_of self.now.lines q) }
+    {
+        points_by_number();
+        joined_by_a_path();
+        let mut meter = Meter::new();
+        self.label_at(p, &mut meter) == self.label_at(q, &mut meter)
+    }
+
+    /// Whether a point is a liberty of a stone's chain: it is empty and adjacent to a stone of it.
+    pub fn is_liberty(&self, p: Point, q: Point) -> bool
+        requires p_on { IsOn self.now.lines p }
+        requires q_on { IsOn self.now.lines q }
+        requires p_stone { IsStoneOf (grid_of self.now) (number_of self.now.lines p) }
+        ensures { result ≡ is_liberty_of self.now.lines (grid_of self.now)
+            (number_of self.now.lines p) (number_of self.now.lines q) }
+    {
+        points_by_number();
+        liberty_by_a_path();
+        let mut meter = Meter::new();
+        let label = self.label_at(p, &mut meter);
+        let point = usize::from(q.index(self.size));
+        let word = self.cells.get(word_place(label, point / 64), &mut meter);
+        word >> (point % 64) & 1 == 1
+    }
+
+    /// How many stones the chain of a stone has.
+    pub fn stones_of(&self, p: Point) -> u16
+        requires on { IsOn self.now.lines p }
+        requires stone { IsStoneOf (grid_of self.now) (number_of self.now.lines p) }
+        ensures { result ≡ length (members self.now.lines (grid_of self.now)
+            (number_of self.now.lines p)) }
+    {
+        points_by_number();
+        joined_by_a_path();
+        let mut meter = Meter::new();
+        let label = self.label_at(p, &mut meter);
+        self.cells.get(SIZES + label, &mut meter) as u16
+    }
+
+    /// How many liberties the chain of a stone has.
+    pub fn liberties_of(&self, p: Point) -> u16
+        requires on { IsOn self.now.lines p }
+        requires stone { IsStoneOf (grid_of self.now) (number_of self.now.lines p) }
+        ensures { result ≡ length (liberties self.now.lines (grid_of self.now)
+            (number_of self.now.lines p)) }
+    {
+        points_by_number();
+        liberty_by_a_path();
+        let mut meter = Meter::new();
+        let label = self.label_at(p, &mut meter);
+        let points = usize::from(self.size().points());
+        let mut count = 0;
+        for word in 0..WORDS {
+            count += self.liberties_in(points, label, word, &mut meter);
+        }
+        count
+    }
+
+    /// How many of the first so many points have their bit in one word of a label's liberties.
+    fn liberties_in(&self, points: usize, label: usize, word: usize, meter: &mut Meter) -> u16
+        requires points { points ≤ MAX_POINTS }
+        requires label { label < MAX_POINTS }
+        requires word { word < WORDS }
+        ensures counted { result ≡ free_in_word self.now.cells points label word }
+        ensures few { result ≤ 64 }
+    {
+        let bits = self.cells.get(word_place(label, word), meter);
+        (bits & mask_of(points, word)).count_ones() as u16
+    }
+
+    /// Places a stone, takes off the opponent's chains that have no liberty then, and after them the
+    /// stone's own chain if that has none: how many stones that were. It judges no repetition, so a
+    /// stone that is taken off alone is a play. The log gets the play's changes.
+    pub fn play<A: Allocator + Copy>(
+        &mut self,
+        log: &mut Log<A>,
+        meter: &mut Meter,
+        colour: Colour,
+        p: Point,
+    ) -> Result<Taken, PlaceError>
+        requires { IsOn self.old.lines p }
+        ensures lines { self.new.lines ≡ self.old.lines }
+        ensures occupied { IsErrOf result PlaceError.Occupied
+            ↔ IsStoneOf (grid_of self.old) (number_of self.old.lines p) }
+        ensures moved { OnOk result (grid_of self.new ≡ moved self.old.lines (grid_of self.old)
+            colour (number_of self.old.lines p)) }
+        ensures theirs { IfOk result (λ taken. taken.theirs ≡ vanished self.old.lines
+            (slice_set (grid_of self.old) (number_of self.old.lines p) (Some colour))
+            (grid_of self.new) (other colour)) }
+        ensures own { IfOk result (λ taken. taken.own ≡ vanished self.old.lines
+            (slice_set (grid_of self.old) (number_of self.old.lines p) (Some colour))
+            (grid_of self.new) colour) }
+        ensures logged { OnOk result (PlayLogged self.old.cells self.new.cells log.old log.new
+            (most_of self.old.lines (grid_of self.old) colour (number_of self.old.lines p))) }
+        ensures count { meter.new ≤ meter.old
+            + 3 * most_of self.old.lines (grid_of self.old) colour (number_of self.old.lines p) }
+        ensures same { OnErr result (self.new ≡ self.old) }
+        ensures log { OnErr result (log.new ≡ log.old) }
+    {
+        points_by_number();
+        let size = self.size;
+        let point = usize::from(p.index(size));
+        if self.cells.get(point, meter) != 0 {
+            return Err(PlaceError::Occupied);
+        }
+        reserve_play(&mut log.changes, &mut log.lengths, ROOM)?;
+        let before = log.changes.len();
+        let taken = place(
+            &mut self.cells,
+            &mut log.changes,
+            meter,
+            size,
+            colour,
+            point,
+        );
+        let count = log.changes.len() - before;
+        seal(&mut log.lengths, count);
+        Ok(taken)
+    }
+
+    /// Takes back the last play of a log, change by change from the last to the first. It takes no
+    /// memory.
+    pub fn rewind<A: Allocator + Copy>(&mut self, log: &mut Log<A>, meter: &mut Meter)
+        requires play { 0 < length log.old }
+        requires cells { (earlier : List (List Change)) (changes : List Change)
+            → log.old ≡ earlier ++ changes ∷ []
+            → NamesCells COUNT changes × IsKept self.old.lines (rewound self.old.cells changes) }
+        ensures { (earlier : List (List Change)) (changes : List Change)
+            → log.old ≡ earlier ++ changes ∷ []
+            → IsRewound self.old self.new log.new earlier changes meter.old meter.new }
+    {
+        log.put_back(&mut self.cells, meter);
+    }
+}

@@ -1,0 +1,130 @@
+//! Chains without a liberty, found and taken off.
+ghost use Rattle.std.specs.Prelude.{◌≡◌, ◌≢◌, ◌<◌, ◌≤◌, ◌+◌, ◌*◌, ◌⊎◌, ◌↔◌, ℕ, IsTrue, length, slice_index, vec_capacity, vec_len};
+ghost use Rattle.go_board.specs.Paths.{IsAdjacent};
+ghost use Rattle.go_board.specs.Sizes.{lines_of};
+ghost use Rattle.go_board.specs.declared.size.TheConstants.{MAX_POINTS};
+ghost use Rattle.go_chains.specs.declared.cells.TheConstants.{WORDS};
+ghost use Rattle.go_chains.specs.Beside.{AreBeside};
+ghost use Rattle.go_chains.specs.Cells.{colour_of, label_of, size_of, tables_of};
+ghost use Rattle.go_chains.specs.Rewound.{Logged};
+ghost use Rattle.go_chains.specs.Steps.{CountsTaken, IsCapturing};
+ghost use Rattle.go_chains.specs.Tables.{IsDead, IsStone, IsTidy, IsWhole, Tables};
+
+use crate::cells::{Cells, LABELS, WORDS, word_place};
+use crate::lift::take_off;
+use crate::log::Change;
+use crate::masks::mask_of;
+use go_board::{Meter, Size};
+use std::alloc::Allocator;
+
+/// Whether no point of the board is a liberty of a label.
+pub fn is_dead(cells: &Cells, meter: &mut Meter, size: Size, label: usize) -> bool
+    requires { label < MAX_POINTS }
+    ensures dead { IsTrue result ↔ IsDead (lines_of size * lines_of size) (tables_of cells.now)
+        label }
+    ensures count { meter.new ≤ meter.old + WORDS }
+{
+    let points = usize::from(size.points());
+    for word in 0..WORDS {
+        if cells.get(word_place(label, word), meter) & mask_of(points, word) != 0 {
+            return false;
+        }
+    }
+    true
+}
+
+/// Takes the chain on a point off, if it has this colour and no liberty, and says how many stones
+/// that were.
+pub fn take_one<A: Allocator + Copy>(
+    cells: &mut Cells,
+    changes: &mut Vec<Change, A>,
+    meter: &mut Meter,
+    size: Size,
+    near: usize,
+    own: u64,
+    other: u64,
+) -> usize
+    requires tidy { IsTidy (lines_of size * lines_of size) (IsAdjacent (lines_of size))
+        (tables_of cells.old) }
+    requires whole { IsWhole (lines_of size * lines_of size) (IsAdjacent (lines_of size))
+        (tables_of cells.old) }
+    requires near { near < lines_of size * lines_of size }
+    requires own { 0 < own }
+    requires other { 0 < other }
+    requires apart { own ≢ other }
+    requires two { (s : ℕ) → IsStone (lines_of size * lines_of size) (tables_of cells.old) s
+        → (colour_of cells.old s ≡ own) ⊎ (colour_of cells.old s ≡ other) }
+    requires room { vec_len changes.old + 5 * MAX_POINTS ≤ vec_capacity changes.old }
+    ensures capturing { (t : Tables)
+        → IsTidy (lines_of size * lines_of size) (IsAdjacent (lines_of size)) t
+        → IsCapturing (lines_of size * lines_of size) (IsAdjacent (lines_of size)) t
+        (tables_of cells.old) own
+        → IsCapturing (lines_of size * lines_of size) (IsAdjacent (lines_of size)) t
+        (tables_of cells.new) own }
+    ensures gone { colour_of cells.old near ≡ own
+        → IsDead (lines_of size * lines_of size) (tables_of cells.old) (label_of cells.old near)
+        → colour_of cells.new near ≡ 0 }
+    ensures stones { CountsTaken (lines_of size * lines_of size) (tables_of cells.old)
+        (tables_of cells.new) own result }
+    ensures few { result ≤ MAX_POINTS }
+    ensures bound { result ≤ size_of cells.old (label_of cells.old near) }
+    ensures logged { Logged cells.old cells.new changes.old.items changes.new.items (5 * result) }
+    ensures capacity { vec_capacity changes.old ≤ vec_capacity changes.new }
+    ensures length { vec_len changes.new ≤ vec_len changes.old + 5 * MAX_POINTS }
+    ensures count { meter.new ≤ meter.old + (WORDS + 4 + 18 * result) }
+{
+    if cells.get(near, meter) != own {
+        return 0;
+    }
+    let label = cells.get(LABELS + near, meter) as usize;
+    if !is_dead(cells, meter, size, label) {
+        return 0;
+    }
+    take_off(cells, changes, meter, size, near, own, other)
+}
+
+/// Takes off the chains of this colour beside a point that have no liberty, and says how many
+/// stones that were.
+pub fn capture<A: Allocator + Copy>(
+    cells: &mut Cells,
+    changes: &mut Vec<Change, A>,
+    meter: &mut Meter,
+    size: Size,
+    beside: &[usize],
+    own: u64,
+    other: u64,
+) -> usize
+    requires tidy { IsTidy (lines_of size * lines_of size) (IsAdjacent (lines_of size))
+        (tables_of cells.old) }
+    requires whole { IsWhole (lines_of size * lines_of size) (IsAdjacent (lines_of size))
+        (tables_of cells.old) }
+    requires few { length beside.now ≤ 4 }
+    requires on { (i : ℕ) → i < length beside.now
+        → slice_index beside.now i < lines_of size * lines_of size }
+    requires own { 0 < own }
+    requires other { 0 < other }
+    requires apart { own ≢ other }
+    requires two { (s : ℕ) → IsStone (lines_of size * lines_of size) (tables_of cells.old) s
+        → (colour_of cells.old s ≡ own) ⊎ (colour_of cells.old s ≡ other) }
+    requires room { vec_len changes.old + 20 * MAX_POINTS ≤ vec_capacity changes.old }
+    ensures capturing { IsCapturing (lines_of size * lines_of size) (IsAdjacent (lines_of size))
+        (tables_of cells.old) (tables_of cells.new) own }
+    ensures gone { (i : ℕ) → i < length beside.now
+        → colour_of cells.old (slice_index beside.now i) ≡ own
+        → IsDead (lines_of size * lines_of size) (tables_of cells.old)
+        (label_of cells.old (slice_index beside.now i))
+        → colour_of cells.new (slice_index beside.now i) ≡ 0 }
+    ensures stones { CountsTaken (lines_of size * lines_of size) (tables_of cells.old)
+        (tables_of cells.new) own result }
+    ensures few { result ≤ 4 * MAX_POINTS }
+    ensures logged { Logged cells.old cells.new changes.old.items changes.new.items (5 * result) }
+    ensures capacity { vec_capacity changes.old ≤ vec_capacity changes.new }
+    ensures length { vec_len changes.new ≤ vec_len changes.old + 20 * MAX_POINTS }
+    ensures count { meter.new ≤ meter.old + (4 * (WORDS + 4) + 18 * result) }
+{
+    let mut taken = 0;
+    for near in beside {
+        taken += take_one(cells, changes, meter, size, *near, own, other);
+    }
+    taken
+}

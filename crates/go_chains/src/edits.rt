@@ -1,0 +1,57 @@
+//! Writes to the cells of a board that are logged.
+ghost use Rattle.std.specs.Prelude.{◌≡◌, ◌<◌, ◌≤◌, ◌+◌, slice_index, vec_capacity, vec_len};
+ghost use Rattle.go_chains.specs.declared.cells.TheConstants.{COUNT};
+ghost use Rattle.go_chains.specs.Cells.{IsWritten};
+ghost use Rattle.go_chains.specs.Rewound.{Logged};
+
+use crate::cells::Cells;
+use crate::log::Change;
+use go_board::Meter;
+use std::alloc::Allocator;
+
+/// Writes a number into a cell whose number is known, and logs that if it is another one.
+pub(crate) fn replace<A: Allocator + Copy>(
+    cells: &mut Cells,
+    changes: &mut Vec<Change, A>,
+    meter: &mut Meter,
+    place: usize,
+    old: u64,
+    number: u64,
+)
+    requires place { place < COUNT }
+    requires old { old ≡ slice_index cells.old place }
+    requires room { vec_len changes.old < vec_capacity changes.old }
+    ensures written { IsWritten cells.old cells.new place number }
+    ensures logged { Logged cells.old cells.new changes.old.items changes.new.items 1 }
+    ensures capacity { vec_capacity changes.old ≤ vec_capacity changes.new }
+    ensures length { vec_len changes.new ≤ vec_len changes.old + 1 }
+    ensures count { meter.new ≤ meter.old + 1 }
+{
+    if old == number {
+        return;
+    }
+    let pushed = changes.push(Change { place, old });
+    prove!(pushed.is_ok());
+    let _ = pushed;
+    cells.set(place, number, meter);
+}
+
+/// Writes a number into a cell, and logs that if the cell has another one.
+pub(crate) fn put<A: Allocator + Copy>(
+    cells: &mut Cells,
+    changes: &mut Vec<Change, A>,
+    meter: &mut Meter,
+    place: usize,
+    number: u64,
+)
+    requires place { place < COUNT }
+    requires room { vec_len changes.old < vec_capacity changes.old }
+    ensures written { IsWritten cells.old cells.new place number }
+    ensures logged { Logged cells.old cells.new changes.old.items changes.new.items 1 }
+    ensures capacity { vec_capacity changes.old ≤ vec_capacity changes.new }
+    ensures length { vec_len changes.new ≤ vec_len changes.old + 1 }
+    ensures count { meter.new ≤ meter.old + 2 }
+{
+    let old = cells.get(place, meter);
+    replace(cells, changes, meter, place, old, number);
+}

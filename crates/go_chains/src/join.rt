@@ -1,0 +1,122 @@
+//! Two chains made one: relabelled, their rings spliced, their liberties together.
+ghost use Rattle.std.specs.Prelude.{◌≡◌, ◌≢◌, ◌<◌, ◌≤◌, ◌+◌, ◌*◌, ℕ, vec_capacity, vec_len};
+ghost use Rattle.go_board.specs.Paths.{IsAdjacent};
+ghost use Rattle.go_board.specs.Sizes.{lines_of};
+ghost use Rattle.go_board.specs.declared.size.TheConstants.{MAX_POINTS};
+ghost use Rattle.go_chains.specs.declared.cells.TheConstants.{WORDS};
+ghost use Rattle.go_chains.specs.Cells.{colour_of, label_of, next_of, size_of, tables_of};
+ghost use Rattle.go_chains.specs.Rewound.{Logged};
+ghost use Rattle.go_chains.specs.Rings.{steps};
+ghost use Rattle.go_chains.specs.Steps.{IsJoin};
+ghost use Rattle.go_chains.specs.Tables.{IsStone, IsTidy};
+ghost use Rattle.go_chains.specs.Writes.{IsMerged, IsRelabelled};
+
+use crate::cells::{Cells, LABELS, LINKS, SIZES, WORDS, word_place};
+use crate::edits::{put, replace};
+use crate::log::Change;
+use go_board::{Meter, Size};
+use std::alloc::Allocator;
+
+/// Gives so many points along a ring one label.
+fn relabel<A: Allocator + Copy>(
+    cells: &mut Cells,
+    changes: &mut Vec<Change, A>,
+    meter: &mut Meter,
+    from: usize,
+    stones: usize,
+    to: usize,
+)
+    requires on { (i : ℕ) → i < stones → steps (next_of cells.old) i from < MAX_POINTS }
+    requires room { vec_len changes.old + stones ≤ vec_capacity changes.old }
+    ensures relabelled { IsRelabelled (next_of cells.old) cells.old cells.new from stones to }
+    ensures logged { Logged cells.old cells.new changes.old.items changes.new.items stones }
+    ensures capacity { vec_capacity changes.old ≤ vec_capacity changes.new }
+    ensures length { vec_len changes.new ≤ vec_len changes.old + stones }
+    ensures count { meter.new ≤ meter.old + 3 * stones }
+{
+    let mut at = from;
+    for _ in 0..stones {
+        put(cells, changes, meter, LABELS + at, to as u64);
+        at = cells.get(LINKS + at, meter) as usize;
+    }
+}
+
+/// Gives one label the liberties of another too.
+fn merge_words<A: Allocator + Copy>(
+    cells: &mut Cells,
+    changes: &mut Vec<Change, A>,
+    meter: &mut Meter,
+    keep: usize,
+    gone: usize,
+)
+    requires keep { keep < MAX_POINTS }
+    requires gone { gone < MAX_POINTS }
+    requires apart { keep ≢ gone }
+    requires room { vec_len changes.old + WORDS ≤ vec_capacity changes.old }
+    ensures merged { IsMerged cells.old cells.new keep gone WORDS }
+    ensures logged { Logged cells.old cells.new changes.old.items changes.new.items WORDS }
+    ensures capacity { vec_capacity changes.old ≤ vec_capacity changes.new }
+    ensures length { vec_len changes.new ≤ vec_len changes.old + WORDS }
+    ensures count { meter.new ≤ meter.old + 3 * WORDS }
+{
+    for word in 0..WORDS {
+        let place = word_place(keep, word);
+        let here = cells.get(place, meter);
+        let there = cells.get(word_place(gone, word), meter);
+        replace(cells, changes, meter, place, here, here | there);
+    }
+}
+
+/// Makes the second stone's chain part of the first one's, which keeps its label.
+pub fn join<A: Allocator + Copy>(
+    cells: &mut Cells,
+    changes: &mut Vec<Change, A>,
+    meter: &mut Meter,
+    size: Size,
+    first: usize,
+    second: usize,
+)
+    requires tidy { IsTidy (lines_of size * lines_of size) (IsAdjacent (lines_of size))
+        (tables_of cells.old) }
+    requires first { IsStone (lines_of size * lines_of size) (tables_of cells.old) first }
+    requires second { IsStone (lines_of size * lines_of size) (tables_of cells.old) second }
+    requires same { colour_of cells.old first ≡ colour_of cells.old second }
+    requires apart { label_of cells.old first ≢ label_of cells.old second }
+    requires room { vec_len changes.old
+        + (size_of cells.old (label_of cells.old second) + WORDS + 3) ≤ vec_capacity changes.old }
+    ensures joined { IsJoin (lines_of size * lines_of size) (tables_of cells.old)
+        (tables_of cells.new) first second }
+    ensures logged { Logged cells.old cells.new changes.old.items changes.new.items
+        (size_of cells.old (label_of cells.old second) + WORDS + 3) }
+    ensures capacity { vec_capacity changes.old ≤ vec_capacity changes.new }
+    ensures length { vec_len changes.new
+        ≤ vec_len changes.old + (size_of cells.old (label_of cells.old second) + WORDS + 3) }
+    ensures count { meter.new
+        ≤ meter.old + (3 * size_of cells.old (label_of cells.old second) + 3 * WORDS + 9) }
+{
+    let keep = cells.get(LABELS + first, meter) as usize;
+    let gone = cells.get(LABELS + second, meter) as usize;
+    let kept = cells.get(SIZES + keep, meter);
+    let stones = cells.get(SIZES + gone, meter);
+    relabel(cells, changes, meter, second, stones as usize, keep);
+    let first_next = cells.get(LINKS + first, meter);
+    let second_next = cells.get(LINKS + second, meter);
+    replace(
+        cells,
+        changes,
+        meter,
+        LINKS + first,
+        first_next,
+        second_next,
+    );
+    replace(
+        cells,
+        changes,
+        meter,
+        LINKS + second,
+        second_next,
+        first_next,
+    );
+    replace(cells, changes, meter, SIZES + keep, kept, stones + kept);
+    merge_words(cells, changes, meter, keep, gone);
+}

@@ -1,0 +1,159 @@
+//! Stones taken off the board, and their points given back as liberties to the chains beside them.
+ghost use Rattle.std.specs.Prelude.{◌≡◌, ◌≢◌, ◌<◌, ◌≤◌, ◌+◌, ◌*◌, ◌⊎◌, ℕ, All, length, vec_capacity, vec_len};
+ghost use Rattle.go_board.specs.Paths.{IsAdjacent};
+ghost use Rattle.go_board.specs.Sizes.{lines_of};
+ghost use Rattle.go_board.specs.declared.size.TheConstants.{MAX_POINTS};
+ghost use Rattle.go_chains.specs.Cells.{colour_of, label_of, size_of, tables_of};
+ghost use Rattle.go_chains.specs.Rewound.{Logged};
+ghost use Rattle.go_chains.specs.Steps.{IsRemoved};
+ghost use Rattle.go_chains.specs.Tables.{IsStone, IsTidy, IsWhole};
+ghost use Rattle.go_chains.specs.Writes.{IsGiven, IsGivenBeside, IsLifted};
+
+use crate::beside::beside;
+use crate::cells::{Cells, LABELS, LINKS, SIZES, word_place};
+use crate::edits::replace;
+use crate::log::Change;
+use go_board::{Meter, Size};
+use std::alloc::Allocator;
+
+/// Makes a point a liberty of a label too.
+fn set_liberty<A: Allocator + Copy>(
+    cells: &mut Cells,
+    changes: &mut Vec<Change, A>,
+    meter: &mut Meter,
+    label: usize,
+    point: usize,
+)
+    requires label { label < MAX_POINTS }
+    requires point { point < MAX_POINTS }
+    requires room { vec_len changes.old < vec_capacity changes.old }
+    ensures given { IsGiven cells.old cells.new point (λ l. l ≡ label) }
+    ensures logged { Logged cells.old cells.new changes.old.items changes.new.items 1 }
+    ensures capacity { vec_capacity changes.old ≤ vec_capacity changes.new }
+    ensures length { vec_len changes.new ≤ vec_len changes.old + 1 }
+    ensures count { meter.new ≤ meter.old + 2 }
+{
+    let place = word_place(label, point / 64);
+    let word = cells.get(place, meter);
+    replace(cells, changes, meter, place, word, word | 1 << (point % 64));
+}
+
+/// Makes a point a liberty of the stone on another point, if one of this colour is there.
+fn give_one<A: Allocator + Copy>(
+    cells: &mut Cells,
+    changes: &mut Vec<Change, A>,
+    meter: &mut Meter,
+    near: usize,
+    point: usize,
+    colour: u64,
+)
+    requires near { near < MAX_POINTS }
+    requires point { point < MAX_POINTS }
+    requires label { colour_of cells.old near ≡ colour → label_of cells.old near < MAX_POINTS }
+    requires room { vec_len changes.old < vec_capacity changes.old }
+    ensures given { IsGiven cells.old cells.new point
+        (λ l. (colour_of cells.old near ≡ colour) × (label_of cells.old near ≡ l)) }
+    ensures logged { Logged cells.old cells.new changes.old.items changes.new.items 1 }
+    ensures capacity { vec_capacity changes.old ≤ vec_capacity changes.new }
+    ensures length { vec_len changes.new ≤ vec_len changes.old + 1 }
+    ensures count { meter.new ≤ meter.old + 4 }
+{
+    if cells.get(near, meter) != colour {
+        return;
+    }
+    let label = cells.get(LABELS + near, meter) as usize;
+    set_liberty(cells, changes, meter, label, point);
+}
+
+/// Makes a point a liberty of the stones of this colour beside it.
+fn give_back<A: Allocator + Copy>(
+    cells: &mut Cells,
+    changes: &mut Vec<Change, A>,
+    meter: &mut Meter,
+    beside: &[usize],
+    point: usize,
+    colour: u64,
+)
+    requires few { length beside.now ≤ 4 }
+    requires on { All (λ near. near < MAX_POINTS) beside.now }
+    requires point { point < MAX_POINTS }
+    requires labels { All (λ near. colour_of cells.old near ≡ colour
+        → label_of cells.old near < MAX_POINTS) beside.now }
+    requires room { vec_len changes.old + 4 ≤ vec_capacity changes.old }
+    ensures given { IsGiven cells.old cells.new point
+        (IsGivenBeside cells.old beside.now colour (length beside.now)) }
+    ensures logged { Logged cells.old cells.new changes.old.items changes.new.items 4 }
+    ensures capacity { vec_capacity changes.old ≤ vec_capacity changes.new }
+    ensures length { vec_len changes.new ≤ vec_len changes.old + 4 }
+    ensures count { meter.new ≤ meter.old + 16 }
+{
+    for near in beside {
+        give_one(cells, changes, meter, *near, point, colour);
+    }
+}
+
+/// Takes one stone off, and makes its point a liberty of the stones of the other colour beside it.
+fn lift<A: Allocator + Copy>(
+    cells: &mut Cells,
+    changes: &mut Vec<Change, A>,
+    meter: &mut Meter,
+    size: Size,
+    point: usize,
+    own: u64,
+    other: u64,
+)
+    requires point { point < lines_of size * lines_of size }
+    requires own { colour_of cells.old point ≡ own }
+    requires labels { (s : ℕ) → s < lines_of size * lines_of size → colour_of cells.old s ≡ other
+        → label_of cells.old s < MAX_POINTS }
+    requires room { vec_len changes.old + 5 ≤ vec_capacity changes.old }
+    ensures lifted { IsLifted (lines_of size) cells.old cells.new point other }
+    ensures logged { Logged cells.old cells.new changes.old.items changes.new.items 5 }
+    ensures capacity { vec_capacity changes.old ≤ vec_capacity changes.new }
+    ensures length { vec_len changes.new ≤ vec_len changes.old + 5 }
+    ensures count { meter.new ≤ meter.old + 17 }
+{
+    replace(cells, changes, meter, point, own, 0);
+    let near = beside(size, point);
+    give_back(cells, changes, meter, near.as_slice(), point, other);
+}
+
+/// Takes the chain of a stone off, and says how many stones that were.
+pub fn take_off<A: Allocator + Copy>(
+    cells: &mut Cells,
+    changes: &mut Vec<Change, A>,
+    meter: &mut Meter,
+    size: Size,
+    stone: usize,
+    own: u64,
+    other: u64,
+) -> usize
+    requires tidy { IsTidy (lines_of size * lines_of size) (IsAdjacent (lines_of size))
+        (tables_of cells.old) }
+    requires whole { IsWhole (lines_of size * lines_of size) (IsAdjacent (lines_of size))
+        (tables_of cells.old) }
+    requires stone { IsStone (lines_of size * lines_of size) (tables_of cells.old) stone }
+    requires own { colour_of cells.old stone ≡ own }
+    requires other { 0 < other }
+    requires apart { own ≢ other }
+    requires two { (s : ℕ) → IsStone (lines_of size * lines_of size) (tables_of cells.old) s
+        → (colour_of cells.old s ≡ own) ⊎ (colour_of cells.old s ≡ other) }
+    requires room { vec_len changes.old + 5 * MAX_POINTS ≤ vec_capacity changes.old }
+    ensures removed { IsRemoved (lines_of size * lines_of size) (IsAdjacent (lines_of size))
+        (tables_of cells.old) (tables_of cells.new) stone }
+    ensures stones { result ≡ size_of cells.old (label_of cells.old stone) }
+    ensures logged { Logged cells.old cells.new changes.old.items changes.new.items (5 * result) }
+    ensures capacity { vec_capacity changes.old ≤ vec_capacity changes.new }
+    ensures length { vec_len changes.new ≤ vec_len changes.old + 5 * MAX_POINTS }
+    ensures count { meter.new ≤ meter.old + (2 + 18 * result) }
+{
+    let label = cells.get(LABELS + stone, meter) as usize;
+    let stones = cells.get(SIZES + label, meter) as usize;
+    let mut at = stone;
+    for _ in 0..stones {
+        let next = cells.get(LINKS + at, meter) as usize;
+        lift(cells, changes, meter, size, at, own, other);
+        at = next;
+    }
+    stones
+}

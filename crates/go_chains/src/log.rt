@@ -1,0 +1,117 @@
+ghost use Rattle.std.specs.Prelude.{◌≡◌, ◌<◌, ◌≤◌, ◌+◌, ◌-◌, ◌++◌, ◌∷◌, [], List, ℕ, OnOk, length, drop, take, vec_capacity, vec_len};
+ghost use Rattle.go_chains.specs.declared.cells.TheConstants.{COUNT};
+ghost use Rattle.go_chains.specs.Rewound.{IsPutBack, NamesCells, rewound};
+
+use crate::cells::Cells;
+use go_board::Meter;
+use std::alloc::{AllocError, Allocator};
+use std::marker::Model;
+
+/// A write to a cell, by the cell and the number that stood there before.
+#[derive(Clone, Copy)]
+pub struct Change {
+    pub place: usize,
+    pub old: u64,
+}
+
+/// The changes that plays made, so that they can be put back. It takes memory as it grows, from the
+/// allocator that it was made with.
+#[derive(Drop)]
+pub struct Log<A: Allocator + Copy> {
+    pub(crate) changes: Vec<Change, A>,
+    pub(crate) lengths: Vec<usize, A>,
+}
+
+impl<A: Allocator + Copy> Model for Log<A> {
+    ghost use Rattle.std.specs.Prelude.{◌≡◌, List, length};
+    ghost use Rattle.go_chains.specs.declared.log.Change.{Change};
+    ghost use Rattle.go_chains.specs.Rewound.{plays_of, total};
+
+    ghost Value = { List (List Change) };
+
+    ghost view = { λ l. plays_of l.lengths.items l.changes.items };
+
+    ghost invariant = { λ l. total l.lengths.items ≡ length l.changes.items };
+}
+
+impl<A: Allocator + Copy> Log<A> {
+    ghost use Rattle.go_chains.specs.declared.log.Change.{Change};
+
+    /// A log of no play.
+    pub fn new(alloc: A) -> Log<A>
+        ensures { result ≡ [] }
+    {
+        Log {
+            changes: Vec::new(alloc),
+            lengths: Vec::new(alloc),
+        }
+    }
+
+    /// How many plays it has.
+    pub fn plays(&self) -> usize
+        ensures { result ≡ length self.now }
+    {
+        self.lengths.len()
+    }
+
+    /// Puts the last play's changes back, from the last to the first, and drops that play.
+    pub(crate) fn put_back(&mut self, cells: &mut Cells, meter: &mut Meter)
+        requires play { 0 < length self.old }
+        requires names { (earlier : List (List Change)) (changes : List Change)
+            → self.old ≡ earlier ++ changes ∷ [] → NamesCells COUNT changes }
+        ensures { (earlier : List (List Change)) (changes : List Change)
+            → self.old ≡ earlier ++ changes ∷ []
+            → IsPutBack cells.old cells.new self.new earlier changes meter.old meter.new }
+    {
+        if let Some(count) = self.lengths.pop() {
+            put_back_changes(cells, &mut self.changes, meter, count);
+        }
+    }
+}
+
+/// Puts the last changes back, so many of them, from the last to the first.
+fn put_back_changes<A: Allocator + Copy>(
+    cells: &mut Cells,
+    changes: &mut Vec<Change, A>,
+    meter: &mut Meter,
+    count: usize,
+)
+    requires enough { count ≤ length changes.old.items }
+    requires names { NamesCells COUNT (drop (length changes.old.items - count) changes.old.items) }
+    ensures cells { cells.new
+        ≡ rewound cells.old (drop (length changes.old.items - count) changes.old.items) }
+    ensures changes { changes.new.items
+        ≡ take (length changes.old.items - count) changes.old.items }
+    ensures count { meter.new ≡ meter.old + count }
+{
+    for _ in 0..count {
+        if let Some(change) = changes.pop() {
+            cells.set(change.place, change.old, meter);
+        }
+    }
+}
+
+/// Makes room for one play more, of at most so many changes.
+pub(crate) fn reserve_play<A: Allocator + Copy>(
+    changes: &mut Vec<Change, A>,
+    lengths: &mut Vec<usize, A>,
+    most: usize,
+) -> Result<(), AllocError>
+    ensures changes { changes.new.items ≡ changes.old.items }
+    ensures lengths { lengths.new.items ≡ lengths.old.items }
+    ensures room { OnOk result (vec_len changes.new + most ≤ vec_capacity changes.new) }
+    ensures play { OnOk result (vec_len lengths.new < vec_capacity lengths.new) }
+{
+    lengths.reserve(1)?;
+    changes.reserve(most)
+}
+
+/// Closes a play of so many changes, for which there is room.
+pub(crate) fn seal<A: Allocator + Copy>(lengths: &mut Vec<usize, A>, count: usize)
+    requires { vec_len lengths.old < vec_capacity lengths.old }
+    ensures { lengths.new.items ≡ lengths.old.items ++ count ∷ [] }
+{
+    let pushed = lengths.push(count);
+    prove!(pushed.is_ok());
+    let _ = pushed;
+}

@@ -1,0 +1,186 @@
+//! A stone on an empty point: a chain of its own, and no liberty of the chains beside it any more.
+ghost use Rattle.std.specs.Prelude.{◌≡◌, ◌<◌, ◌≤◌, ◌+◌, ◌*◌, ℕ, All, length, vec_capacity, vec_len};
+ghost use Rattle.go_board.specs.Paths.{IsAdjacent};
+ghost use Rattle.go_board.specs.Sizes.{lines_of};
+ghost use Rattle.go_board.specs.declared.size.TheConstants.{MAX_POINTS};
+ghost use Rattle.go_chains.specs.declared.cells.TheConstants.{WORDS};
+ghost use Rattle.go_chains.specs.Beside.{AreBeside};
+ghost use Rattle.go_chains.specs.Cells.{colour_of, label_of, tables_of};
+ghost use Rattle.go_chains.specs.Rewound.{Logged};
+ghost use Rattle.go_chains.specs.Steps.{IsOccupied};
+ghost use Rattle.go_chains.specs.Tables.{IsTidy};
+ghost use Rattle.go_chains.specs.Writes.{IsDeprived, IsFilled, IsMarked, IsStoneBeside, MarksEmpty};
+
+use crate::cells::{Cells, LABELS, LINKS, SIZES, WORDS, word_place};
+use crate::edits::{put, replace};
+use crate::log::Change;
+use go_board::{MAX_POINTS, Meter, Size};
+use std::alloc::Allocator;
+
+/// A bit for each point, as the words of a label's liberties have them.
+type Words = [u64; WORDS];
+
+/// Marks a point if it is empty.
+fn mark_empty(cells: &Cells, meter: &mut Meter, near: usize, words: &mut Words)
+    requires near { near < MAX_POINTS }
+    requires words { length words.old ≡ WORDS }
+    ensures marked { IsMarked cells.now words.old words.new near }
+    ensures words { length words.new ≡ WORDS }
+    ensures count { meter.new ≡ meter.old + 1 }
+{
+    if cells.get(near, meter) == 0 {
+        words[near / 64] |= 1 << (near % 64);
+    }
+}
+
+/// The empty ones among these points.
+fn empty_of(cells: &Cells, meter: &mut Meter, beside: &[usize]) -> Words
+    requires few { length beside.now ≤ 4 }
+    requires on { All (λ near. near < MAX_POINTS) beside.now }
+    ensures marks { MarksEmpty cells.now result beside.now (length beside.now) }
+    ensures words { length result ≡ WORDS }
+    ensures count { meter.new ≤ meter.old + 4 }
+{
+    let mut words = [0; WORDS];
+    for near in beside {
+        mark_empty(cells, meter, *near, &mut words);
+    }
+    words
+}
+
+/// Takes a point out of the liberties of a label.
+fn clear_liberty<A: Allocator + Copy>(
+    cells: &mut Cells,
+    changes: &mut Vec<Change, A>,
+    meter: &mut Meter,
+    label: usize,
+    point: usize,
+)
+    requires label { label < MAX_POINTS }
+    requires point { point < MAX_POINTS }
+    requires room { vec_len changes.old < vec_capacity changes.old }
+    ensures deprived { IsDeprived cells.old cells.new point (λ l. l ≡ label) }
+    ensures logged { Logged cells.old cells.new changes.old.items changes.new.items 1 }
+    ensures capacity { vec_capacity changes.old ≤ vec_capacity changes.new }
+    ensures length { vec_len changes.new ≤ vec_len changes.old + 1 }
+    ensures count { meter.new ≤ meter.old + 2 }
+{
+    let place = word_place(label, point / 64);
+    let word = cells.get(place, meter);
+    replace(
+        cells,
+        changes,
+        meter,
+        place,
+        word,
+        word & !(1 << (point % 64)),
+    );
+}
+
+/// Takes a point out of the liberties of the stone on another point, if one is there.
+fn deprive_one<A: Allocator + Copy>(
+    cells: &mut Cells,
+    changes: &mut Vec<Change, A>,
+    meter: &mut Meter,
+    near: usize,
+    point: usize,
+)
+    requires near { near < MAX_POINTS }
+    requires point { point < MAX_POINTS }
+    requires label { 0 < colour_of cells.old near → label_of cells.old near < MAX_POINTS }
+    requires room { vec_len changes.old < vec_capacity changes.old }
+    ensures deprived { IsDeprived cells.old cells.new point
+        (λ l. (0 < colour_of cells.old near) × (label_of cells.old near ≡ l)) }
+    ensures logged { Logged cells.old cells.new changes.old.items changes.new.items 1 }
+    ensures capacity { vec_capacity changes.old ≤ vec_capacity changes.new }
+    ensures length { vec_len changes.new ≤ vec_len changes.old + 1 }
+    ensures count { meter.new ≤ meter.old + 4 }
+{
+    if cells.get(near, meter) == 0 {
+        return;
+    }
+    let label = cells.get(LABELS + near, meter) as usize;
+    clear_liberty(cells, changes, meter, label, point);
+}
+
+/// Takes a point out of the liberties of the stones beside it.
+fn deprive<A: Allocator + Copy>(
+    cells: &mut Cells,
+    changes: &mut Vec<Change, A>,
+    meter: &mut Meter,
+    beside: &[usize],
+    point: usize,
+)
+    requires few { length beside.now ≤ 4 }
+    requires on { All (λ near. near < MAX_POINTS) beside.now }
+    requires point { point < MAX_POINTS }
+    requires labels { All (λ near. 0 < colour_of cells.old near
+        → label_of cells.old near < MAX_POINTS) beside.now }
+    requires room { vec_len changes.old + 4 ≤ vec_capacity changes.old }
+    ensures deprived { IsDeprived cells.old cells.new point
+        (IsStoneBeside cells.old beside.now (length beside.now)) }
+    ensures logged { Logged cells.old cells.new changes.old.items changes.new.items 4 }
+    ensures capacity { vec_capacity changes.old ≤ vec_capacity changes.new }
+    ensures length { vec_len changes.new ≤ vec_len changes.old + 4 }
+    ensures count { meter.new ≤ meter.old + 16 }
+{
+    for near in beside {
+        deprive_one(cells, changes, meter, *near, point);
+    }
+}
+
+/// Writes the words of a label's liberties.
+fn fill_words<A: Allocator + Copy>(
+    cells: &mut Cells,
+    changes: &mut Vec<Change, A>,
+    meter: &mut Meter,
+    label: usize,
+    words: &Words,
+)
+    requires label { label < MAX_POINTS }
+    requires words { length words.now ≡ WORDS }
+    requires room { vec_len changes.old + WORDS ≤ vec_capacity changes.old }
+    ensures filled { IsFilled cells.old cells.new label words.now WORDS }
+    ensures logged { Logged cells.old cells.new changes.old.items changes.new.items WORDS }
+    ensures capacity { vec_capacity changes.old ≤ vec_capacity changes.new }
+    ensures length { vec_len changes.new ≤ vec_len changes.old + WORDS }
+    ensures count { meter.new ≤ meter.old + 2 * WORDS }
+{
+    for word in 0..WORDS {
+        let place = word_place(label, word);
+        put(cells, changes, meter, place, words[word]);
+    }
+}
+
+/// Puts a stone of this colour on an empty point.
+pub fn occupy<A: Allocator + Copy>(
+    cells: &mut Cells,
+    changes: &mut Vec<Change, A>,
+    meter: &mut Meter,
+    size: Size,
+    colour: u64,
+    point: usize,
+    beside: &[usize],
+)
+    requires tidy { IsTidy (lines_of size * lines_of size) (IsAdjacent (lines_of size))
+        (tables_of cells.old) }
+    requires point { point < lines_of size * lines_of size }
+    requires empty { colour_of cells.old point ≡ 0 }
+    requires colour { 0 < colour }
+    requires beside { AreBeside (lines_of size) point beside.now }
+    requires room { vec_len changes.old + (WORDS + 8) ≤ vec_capacity changes.old }
+    ensures occupied { IsOccupied (lines_of size * lines_of size) (IsAdjacent (lines_of size))
+        (tables_of cells.old) (tables_of cells.new) point colour }
+    ensures logged { Logged cells.old cells.new changes.old.items changes.new.items (WORDS + 8) }
+    ensures capacity { vec_capacity changes.old ≤ vec_capacity changes.new }
+    ensures length { vec_len changes.new ≤ vec_len changes.old + (WORDS + 8) }
+    ensures count { meter.new ≤ meter.old + (2 * WORDS + 27) }
+{
+    let words = empty_of(cells, meter, beside);
+    deprive(cells, changes, meter, beside, point);
+    replace(cells, changes, meter, point, 0, colour);
+    put(cells, changes, meter, LABELS + point, point as u64);
+    put(cells, changes, meter, LINKS + point, point as u64);
+    put(cells, changes, meter, SIZES + point, 1);
+    fill_words(cells, changes, meter, point, &words);
+}

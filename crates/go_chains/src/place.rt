@@ -1,0 +1,69 @@
+//! A play over the cells: the stone placed and joined, the opponent's chains captured, and then its
+//! own chain taken off if that has no liberty.
+ghost use Rattle.std.specs.Prelude.{◌≡◌, ◌<◌, ◌≤◌, ◌+◌, ◌*◌, Some, slice_set, vec_capacity, vec_len};
+ghost use Rattle.go_board.specs.Colours.{other};
+ghost use Rattle.go_board.specs.Reaching.{moved, vanished};
+ghost use Rattle.go_board.specs.Sizes.{lines_of};
+ghost use Rattle.go_chains.specs.declared.place.TheConstants.{ROOM};
+ghost use Rattle.go_chains.specs.Cells.{colour_of};
+ghost use Rattle.go_chains.specs.Playing.{most_of};
+ghost use Rattle.go_chains.specs.Rewound.{Logged};
+ghost use Rattle.go_chains.specs.Sound.{IsKept, colouring_of};
+
+use crate::beside::beside;
+use crate::capture::{capture, take_one};
+use crate::cells::{Cells, WORDS};
+use crate::codes::code_of;
+use crate::connect::connect;
+use crate::log::Change;
+use crate::occupy::occupy;
+use go_board::laws::{joined_by_a_path, reaches_by_a_path};
+use go_board::{Colour, MAX_POINTS, Meter, Size, Taken};
+use std::alloc::Allocator;
+
+/// More changes than any play makes: those of the stone, of at most four joins, of the chains
+/// captured at four points, and of the own chain.
+pub const ROOM: usize = (WORDS + 8) + 4 * (MAX_POINTS + WORDS + 3) + 25 * MAX_POINTS;
+
+/// Plays a stone on an empty point, and says what that took.
+pub fn place<A: Allocator + Copy>(
+    cells: &mut Cells,
+    changes: &mut Vec<Change, A>,
+    meter: &mut Meter,
+    size: Size,
+    colour: Colour,
+    point: usize,
+) -> Taken
+    requires kept { IsKept (lines_of size) cells.old }
+    requires point { point < lines_of size * lines_of size }
+    requires empty { colour_of cells.old point ≡ 0 }
+    requires room { vec_len changes.old + ROOM ≤ vec_capacity changes.old }
+    ensures kept { IsKept (lines_of size) cells.new }
+    ensures colours { colouring_of (lines_of size) cells.new
+        ≡ moved (lines_of size) (colouring_of (lines_of size) cells.old) colour point }
+    ensures theirs { result.theirs ≡ vanished (lines_of size)
+        (slice_set (colouring_of (lines_of size) cells.old) point (Some colour))
+        (colouring_of (lines_of size) cells.new) (other colour) }
+    ensures own { result.own ≡ vanished (lines_of size)
+        (slice_set (colouring_of (lines_of size) cells.old) point (Some colour))
+        (colouring_of (lines_of size) cells.new) colour }
+    ensures logged { Logged cells.old cells.new changes.old.items changes.new.items
+        (most_of (lines_of size) (colouring_of (lines_of size) cells.old) colour point) }
+    ensures count { meter.new + 1 ≤ meter.old
+        + 3 * most_of (lines_of size) (colouring_of (lines_of size) cells.old) colour point }
+{
+    joined_by_a_path();
+    reaches_by_a_path();
+    let own = code_of(colour);
+    let other = code_of(colour.other());
+    let near = beside(size, point);
+    let near = near.as_slice();
+    occupy(cells, changes, meter, size, own, point, near);
+    connect(cells, changes, meter, size, point, near);
+    let theirs = capture(cells, changes, meter, size, near, other, own);
+    let taken = take_one(cells, changes, meter, size, point, own, other);
+    Taken {
+        theirs: theirs as u16,
+        own: taken as u16,
+    }
+}
