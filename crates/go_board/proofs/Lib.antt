@@ -13,3 +13,4 @@ pub mod Seeding
 pub mod Clearing
 pub mod Counted
 pub mod Equal
+pub mod Packing

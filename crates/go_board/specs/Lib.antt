@@ -12,3 +12,5 @@ pub mod Number
 pub mod Device
 pub mod Writing
 pub mod Reading
+pub mod Packs
+pub mod PackBytes

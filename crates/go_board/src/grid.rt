@@ -70,6 +70,17 @@ impl Grid {
         self.cells[usize::from(number)]
     }
 
+    /// The colour of the point with this number; a point past the board counts as empty.
+    pub(crate) fn colour_of(&self, number: usize) -> Option<Colour>
+        ensures { result ≡ colour_at self.now.colours number }
+    {
+        if number < usize::from(self.size.points()) {
+            self.cells[number]
+        } else {
+            None
+        }
+    }
+
     /// Gives a point of the board a colour, or empties it.
     pub fn set(&mut self, p: Point, colour: Option<Colour>)
         requires { IsOn self.old.lines p }

@@ -1,11 +1,13 @@
 //! What the words of this crate's contracts mean: laws about definitions, each the contract of a
 //! function that does nothing.
-ghost use Rattle.std.specs.Prelude.{◌≡◌, ◌<◌, ◌≤◌, ◌*◌, ◌↔◌, ◌⊎◌, ℕ, false, Option, None, Some, IsTrue};
+ghost use Rattle.std.specs.Prelude.{◌≡◌, ◌<◌, ◌≤◌, ◌*◌, ◌↔◌, ◌⊎◌, ℕ, false, Option, None, Some, IsTrue, length};
 ghost use Rattle.go_board.specs.declared.colour.Colour.{Colour};
 ghost use Rattle.go_board.specs.Colours.{Colouring, colour_at};
+ghost use Rattle.go_board.specs.Packs.{packed_of};
 ghost use Rattle.go_board.specs.Paths.{Joined, Reaches};
 ghost use Rattle.go_board.specs.Reaching.{is_dead, is_liberty_of, joined, reaches, vanished};
 ghost use Rattle.go_board.specs.declared.point.Point.{Point};
+ghost use Rattle.go_board.specs.declared.size.TheConstants.{MAX_POINTS};
 ghost use Rattle.go_board.specs.Points.{IsOn, is_adjacent, number_of, point_at};
 
 /// The test whether a point reaches a colour holds exactly where a path leads there.
@@ -44,4 +46,10 @@ pub fn points_by_number()
     ensures back { (n : ℕ) (p : Point) → IsOn n p → point_at n (number_of n p) ≡ p }
     ensures on { (n k : ℕ) → k < n * n → IsOn n (point_at n k) }
     ensures same { (n k : ℕ) → k < n * n → number_of n (point_at n k) ≡ k }
+{}
+
+/// The packs of two colourings of one length are equal exactly where the colourings are.
+pub fn packs_tell_colourings_apart()
+    ensures { (g h : Colouring) → length g ≡ length h → length g ≤ MAX_POINTS
+        → (packed_of g ≡ packed_of h) ↔ (g ≡ h) }
 {}

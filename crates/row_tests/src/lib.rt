@@ -20,6 +20,8 @@ mod loads;
 #[cfg(test)]
 mod matches;
 #[cfg(test)]
+mod packs;
+#[cfg(test)]
 mod plays;
 #[cfg(test)]
 mod records;
