@@ -14,3 +14,4 @@ pub mod Clearing
 pub mod Counted
 pub mod Equal
 pub mod Packing
+pub mod Leaving

@@ -1,11 +1,11 @@
 //! What the words of this crate's contracts mean: laws about definitions, each the contract of a
 //! function that does nothing.
-ghost use Rattle.std.specs.Prelude.{◌≡◌, ◌<◌, ◌≤◌, ◌*◌, ◌↔◌, ◌⊎◌, ℕ, false, Option, None, Some, IsTrue, length};
+ghost use Rattle.std.specs.Prelude.{◌≡◌, ◌<◌, ◌≤◌, ◌+◌, ◌*◌, ◌↔◌, ◌⊎◌, ℕ, false, Option, None, Some, IsTrue, length, slice_set};
 ghost use Rattle.go_board.specs.declared.colour.Colour.{Colour};
 ghost use Rattle.go_board.specs.Colours.{Colouring, colour_at};
 ghost use Rattle.go_board.specs.Packs.{packed_of};
 ghost use Rattle.go_board.specs.Paths.{Joined, Reaches};
-ghost use Rattle.go_board.specs.Reaching.{is_dead, is_liberty_of, joined, reaches, vanished};
+ghost use Rattle.go_board.specs.Reaching.{is_dead, is_liberty_of, joined, moved, reaches, stones, vanished};
 ghost use Rattle.go_board.specs.declared.point.Point.{Point};
 ghost use Rattle.go_board.specs.declared.size.TheConstants.{MAX_POINTS};
 ghost use Rattle.go_board.specs.Points.{IsOn, is_adjacent, number_of, point_at};
@@ -46,6 +46,16 @@ pub fn points_by_number()
     ensures back { (n : ℕ) (p : Point) → IsOn n p → point_at n (number_of n p) ≡ p }
     ensures on { (n k : ℕ) → k < n * n → IsOn n (point_at n k) }
     ensures same { (n k : ℕ) → k < n * n → number_of n (point_at n k) ≡ k }
+{}
+
+/// Of each colour, what a play takes and what it leaves are together what stood there with the
+/// placed stone, and that is one stone more at most.
+pub fn taken_and_left()
+    ensures together { (n : ℕ) (g : Colouring) (c : Colour) (p : ℕ) (of : Colour)
+        → stones n (moved n g c p) of + vanished n (slice_set g p (Some c)) (moved n g c p) of
+        ≡ stones n (slice_set g p (Some c)) of }
+    ensures placed { (n : ℕ) (g : Colouring) (c : Colour) (p : ℕ) (of : Colour)
+        → stones n (slice_set g p (Some c)) of ≤ stones n g of + 1 }
 {}
 
 /// The packs of two colourings of one length are equal exactly where the colourings are.
