@@ -1,5 +1,68 @@
-use crate::{Board, Log};
-use go_board::{Point, Size};
+ghost use Rattle.std.specs.Prelude.{◌≡◌};
+ghost use Rattle.go_board.specs.Points.{IsOn};
+
+use crate::{Board, Log, PlaceError};
+use go_board::{Colour, Meter, Point, Size, Taken, Vertex, read_vertex};
+use std::alloc::Allocator;
+use std::process::Abort;
+
+/// A board of so many lines with no stone.
+fn board_of(rt: &impl Abort, lines: u8) -> Board
+    ensures { result.lines ≡ lines }
+{
+    Board::new(Size::new(lines).expect(rt, "a size"))
+}
+
+/// The point of a board that a word names.
+fn point(rt: &impl Abort, board: &Board, word: &[u8]) -> Point
+    ensures { IsOn board.now.lines result }
+{
+    let size = board.size();
+    let vertex = read_vertex(word, size).expect(rt, "a vertex");
+    let Vertex::At(p) = vertex else {
+        panic!(rt; "a point");
+    };
+    assert!(rt; p.on(size));
+    p
+}
+
+/// Plays a stone on the point that a word names.
+fn play<A: Allocator + Copy>(
+    rt: &impl Abort,
+    board: &mut Board,
+    log: &mut Log<A>,
+    colour: Colour,
+    word: &[u8],
+) -> Result<Taken, PlaceError>
+    ensures { board.new.lines ≡ board.old.lines }
+{
+    let p = point(rt, board, word);
+    board.play(log, &mut Meter::new(), colour, p)
+}
+
+/// How many stones and how many liberties the chain on the point has that a word names.
+fn chain(rt: &impl Abort, board: &Board, word: &[u8]) -> (u16, u16) {
+    let p = point(rt, board, word);
+    assert!(rt; board.colour_at(p).is_some());
+    (board.stones_of(p), board.liberties_of(p))
+}
+
+/// Whether the second point is a liberty of the chain on the first.
+fn is_liberty(rt: &impl Abort, board: &Board, stone: &[u8], word: &[u8]) -> bool {
+    let p = point(rt, board, stone);
+    let q = point(rt, board, word);
+    assert!(rt; board.colour_at(p).is_some());
+    board.is_liberty(p, q)
+}
+
+/// Whether two stones are in one chain.
+fn same_chain(rt: &impl Abort, board: &Board, first: &[u8], second: &[u8]) -> bool {
+    let p = point(rt, board, first);
+    let q = point(rt, board, second);
+    assert!(rt; board.colour_at(p).is_some());
+    assert!(rt; board.colour_at(q).is_some());
+    board.same_chain(p, q)
+}
 
 #[test]
 fn empty_board(rt: HostRuntime) {
@@ -18,4 +81,47 @@ fn empty_board(rt: HostRuntime) {
 #[test]
 fn new_log(rt: HostRuntime) {
     assert_eq!(rt; Log::new(rt.alloc()).plays(), 0);
+}
+
+#[test]
+fn suicide_of_several(rt: HostRuntime) {
+    let mut board = board_of(&rt, 3);
+    let mut log = Log::new(rt.alloc());
+    let none = Taken { theirs: 0, own: 0 };
+    assert!(rt; play(&rt, &mut board, &mut log, Colour::Black, b"A1") == Ok(none));
+    assert!(rt; play(&rt, &mut board, &mut log, Colour::White, b"A2") == Ok(none));
+    assert!(rt; play(&rt, &mut board, &mut log, Colour::White, b"B2") == Ok(none));
+    assert!(rt; play(&rt, &mut board, &mut log, Colour::White, b"C1") == Ok(none));
+    assert_eq!(rt; board.size().lines(), 3);
+    let b1 = point(&rt, &board, b"B1");
+    let mut meter = Meter::new();
+    let taken = board
+        .play(&mut log, &mut meter, Colour::Black, b1)
+        .expect(&rt, "memory for a play");
+    assert!(rt; taken == Taken { theirs: 0, own: 2 });
+    assert_eq!(rt; log.plays(), 5);
+    assert!(rt; board.colour_at(b1).is_none());
+    board.rewind(&mut log, &mut meter);
+    assert!(rt; chain(&rt, &board, b"A2") == (2, 4));
+    assert!(rt; same_chain(&rt, &board, b"A2", b"B2"));
+    assert!(rt; !same_chain(&rt, &board, b"A2", b"C1"));
+    assert!(rt; is_liberty(&rt, &board, b"A1", b"B1"));
+    assert_eq!(rt; log.plays(), 4);
+}
+
+#[test]
+fn two_by_two_capture(rt: HostRuntime) {
+    let mut board = board_of(&rt, 2);
+    let mut log = Log::new(rt.alloc());
+    let none = Taken { theirs: 0, own: 0 };
+    assert!(rt; play(&rt, &mut board, &mut log, Colour::Black, b"A1") == Ok(none));
+    assert!(rt; play(&rt, &mut board, &mut log, Colour::White, b"B1") == Ok(none));
+    let third = play(&rt, &mut board, &mut log, Colour::White, b"A2");
+    assert!(rt; third == Ok(Taken { theirs: 1, own: 0 }));
+    let alone = play(&rt, &mut board, &mut log, Colour::Black, b"A1");
+    assert!(rt; alone == Ok(Taken { theirs: 0, own: 1 }));
+    assert_eq!(rt; log.plays(), 4);
+    let onto = play(&rt, &mut board, &mut log, Colour::Black, b"B1");
+    assert!(rt; onto == Err(PlaceError::Occupied));
+    assert_eq!(rt; log.plays(), 4);
 }
