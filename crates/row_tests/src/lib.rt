@@ -6,6 +6,8 @@ mod board;
 #[cfg(test)]
 mod boards;
 #[cfg(test)]
+mod chains;
+#[cfg(test)]
 mod choices;
 #[cfg(test)]
 mod games;

@@ -1,0 +1,215 @@
+ghost use Rattle.std.specs.Prelude.{◌≡◌};
+ghost use Rattle.go_board.specs.Points.{IsOn};
+ghost use Rattle.go_board.specs.Sizes.{lines_of};
+
+use crate::games::size_of;
+use failing::Failing;
+use go_board::{Colour, Grid, Meter, Point, Size, plain};
+use go_chains::{Board, Log, PlaceError};
+use rand_core::Rng;
+use rand_pcg::Pcg32;
+use std::alloc::Allocator;
+use std::process::Abort;
+
+/// Draws a point of a board.
+fn any_point(random: &mut Pcg32, size: Size) -> Point
+    ensures { IsOn (lines_of size) result }
+{
+    let number = random.next_u32() % u32::from(size.points());
+    Point::numbered(size, number as u16)
+}
+
+/// Draws a colour.
+fn any_colour(random: &mut Pcg32) -> Colour {
+    if random.next_u32().is_multiple_of(2) {
+        Colour::Black
+    } else {
+        Colour::White
+    }
+}
+
+/// Whether a board and a grid have the same size, and the same colour at each point.
+fn same_colours(rt: &impl Abort, board: &Board, grid: &Grid) {
+    let size = board.size();
+    assert!(rt; grid.size() == size);
+    let copy = board.grid();
+    for number in 0..size.points() {
+        let p = Point::numbered(size, number);
+        assert!(rt; board.colour_at(p) == grid.get(p));
+        assert!(rt; copy.get(p) == grid.get(p));
+    }
+}
+
+/// Asks of the chain of a stone all that can be asked, of the board and of a grid.
+fn same_chain_of(rt: &impl Abort, board: &Board, grid: &Grid, p: Point)
+    requires board { IsOn board.now.lines p }
+    requires grid { grid.now.lines ≡ board.now.lines }
+{
+    if board.colour_at(p).is_none() {
+        return;
+    }
+    let size = board.size();
+    let mut stones = 0u16;
+    for number in 0..size.points() {
+        let q = Point::numbered(size, number);
+        let is_stone = board.colour_at(q).is_some();
+        let joined = is_stone && plain::same_chain(grid, p, q);
+        if is_stone {
+            assert!(rt; board.same_chain(p, q) == joined);
+        }
+        stones = stones.wrapping_add(u16::from(joined));
+        assert!(rt; board.is_liberty(p, q) == plain::is_liberty(grid, p, q));
+    }
+    assert!(rt; board.stones_of(p) == stones);
+    assert!(rt; board.liberties_of(p) == plain::liberties_of(grid, p));
+}
+
+/// Compares the board's answers with those of the grid: of each stone on a small board, else of a few.
+fn same_answers(rt: &impl Abort, board: &Board, grid: &Grid, random: &mut Pcg32) {
+    same_colours(rt, board, grid);
+    let size = board.size();
+    assert!(rt; grid.size() == size);
+    if size.lines() < 5 {
+        for number in 0..size.points() {
+            same_chain_of(rt, board, grid, Point::numbered(size, number));
+        }
+    } else {
+        for _ in 0..2 {
+            same_chain_of(rt, board, grid, any_point(random, size));
+        }
+    }
+}
+
+/// What drives an exploration: its random numbers, and how many plays it may make yet.
+#[derive(Drop)]
+struct Walk {
+    random: Pcg32,
+    left: u32,
+}
+
+/// Compares a board and the number of plays in its log with what they must be.
+fn agrees<A: Allocator + Copy>(
+    rt: &impl Abort,
+    board: &Board,
+    log: &Log<A>,
+    grid: &Grid,
+    plays: usize,
+    walk: &mut Walk,
+) {
+    assert_eq!(rt; log.plays(), plays);
+    same_answers(rt, board, grid, &mut walk.random);
+}
+
+/// Plays on some point, goes on from there, takes the play back, and goes on without it. After each
+/// play and each taking back the board is compared with a grid.
+fn explore<A: Allocator + Copy>(
+    rt: &impl Abort,
+    board: &mut Board,
+    log: &mut Log<A>,
+    grid: &Grid,
+    walk: &mut Walk,
+    depth: u16,
+)
+    requires { grid.now.lines ≡ board.old.lines }
+    ensures board { board.new ≡ board.old }
+    ensures log { log.new ≡ log.old }
+{
+    if depth == 0 || walk.left == 0 {
+        return;
+    }
+    let plays = log.plays();
+    let p = any_point(&mut walk.random, board.size());
+    let colour = any_colour(&mut walk.random);
+    let mut meter = Meter::new();
+    let made = board.play(log, &mut meter, colour, p);
+    if let Ok(taken) = made {
+        walk.left -= 1;
+        let mut after = grid.copy();
+        assert!(rt; grid.get(p).is_none());
+        assert!(rt; plain::place(&mut after, colour, p) == taken);
+        agrees(rt, board, log, &after, plays.wrapping_add(1), walk);
+        explore(rt, board, log, &after, walk, depth - 1);
+        board.rewind(log, &mut meter);
+    } else {
+        assert!(rt; made == Err(PlaceError::Occupied));
+        assert!(rt; grid.get(p).is_some());
+    }
+    agrees(rt, board, log, grid, plays, walk);
+    explore(rt, board, log, grid, walk, depth - 1);
+}
+
+/// Explores a board of so many lines, from no stone.
+fn explore_board(rt: &impl Abort, alloc: impl Allocator + Copy, lines: u8, left: u32, depth: u16) {
+    let size = size_of(rt, lines);
+    let mut board = Board::new(size);
+    let mut log = Log::new(alloc);
+    let grid = Grid::new(size);
+    let random = Pcg32::new(u64::from(left), u64::from(lines));
+    let mut walk = Walk { random, left };
+    explore(rt, &mut board, &mut log, &grid, &mut walk, depth);
+    assert_eq!(rt; walk.left, 0);
+    agrees(rt, &board, &log, &grid, 0, &mut walk);
+}
+
+#[test]
+fn small_boards_as_the_plain_body(rt: HostRuntime) {
+    for lines in 1..6u8 {
+        for left in 300..304u32 {
+            explore_board(&rt, rt.alloc(), lines, left, 60);
+        }
+    }
+}
+
+#[test]
+fn middle_boards_as_the_plain_body(rt: HostRuntime) {
+    for lines in 6..10u8 {
+        for left in 400..402u32 {
+            explore_board(&rt, rt.alloc(), lines, left, 300);
+        }
+    }
+}
+
+#[test]
+fn the_largest_board_as_the_plain_body(rt: HostRuntime) {
+    for left in 700..702u32 {
+        explore_board(&rt, rt.alloc(), 19, left, 900);
+    }
+}
+
+/// Plays on each point in turn, sent again where memory was refused; how many were.
+fn script<A: Allocator + Copy>(rt: &impl Abort, board: &mut Board, log: &mut Log<A>) -> u32 {
+    let mut random = Pcg32::new(1, 1);
+    let mut refused = 0u32;
+    for number in 0..board.size().points() {
+        let p = Point::nth(board.size(), number).expect(rt, "a point");
+        let before = board.grid();
+        let plays = log.plays();
+        let made = board.play(log, &mut Meter::new(), Colour::Black, p);
+        if made == Err(PlaceError::Memory) {
+            refused = refused.wrapping_add(1);
+            assert!(rt; log.plays() == plays);
+            same_answers(rt, board, &before, &mut random);
+            assert!(rt; board.play(log, &mut Meter::new(), Colour::Black, p).is_ok());
+        }
+        assert!(rt; log.plays() == plays.wrapping_add(1));
+    }
+    refused
+}
+
+#[test]
+fn each_request_of_a_play_refused(rt: HostRuntime) {
+    let mut met = 0u32;
+    for number in 1..60u64 {
+        let failing = Failing::new(rt.alloc(), number);
+        let mut board = Board::new(size_of(&rt, 5));
+        let mut log = Log::new(&failing);
+        let refused = script(&rt, &mut board, &mut log);
+        if failing.waits() {
+            assert!(rt; refused == 0);
+            break;
+        }
+        assert!(rt; refused == 1, "request {number}");
+        met = met.wrapping_add(1);
+    }
+    assert!(rt; met > 1 && met < 50, "{met} requests");
+}
