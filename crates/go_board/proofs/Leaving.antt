@@ -1,5 +1,5 @@
 -- What a play takes and what it leaves are together what stood there, the placed stone counted.
-use Rattle.std.proofs.Common.{arith, ◌≡◌, ◌≢◌, ◌<◌, ◌≤◌, ◌+◌, ◌*◌, ◌∙◌, ◌&&◌, Bool, true, false, not, cond, inl, inr, zero, suc, refl, ℕ, List, [], ◌∷◌, Option, Some, None, All, count_by, length, slice_index_or, slice_set, sym, ap}
+use Rattle.std.proofs.Common.{arith, ◌≡◌, ◌≢◌, ◌<◌, ◌≤◌, ◌+◌, ◌*◌, ◌∙◌, ◌&&◌, Bool, true, false, not, cond, inl, inr, zero, suc, refl, ℕ, List, [], ◌∷◌, Option, Some, None, All, count_by, slice_set, sym, ap}
 use Rattle.std.specs.List.{range_with_len}
 use Rattle.std.proofs.lemmas.Bool.{cases_Bool, cases_eq, false≢true}
 use Rattle.std.proofs.lemmas.List.{get_or-set_other}
@@ -23,13 +23,13 @@ count_split {X} a b (x ∷ xs) all =
           let neither : d x ≡ false = ap (λ t. t && not (b x)) first ∙ ap not holds in
           let cb = count_cons_pass b x xs holds in let ca = count_cons_pass a x xs first in let cd = count_cons_fail d x xs neither in omega arith
       | inr fails ↦ elim (cases_Bool (a x)) [
-          | inl holds ↦
-              let alone : d x ≡ true = ap (λ t. t && not (b x)) holds ∙ ap not fails in
-              let cb = count_cons_fail b x xs fails in let ca = count_cons_pass a x xs holds in let cd = count_cons_pass d x xs alone in omega arith
-          | inr also ↦
-              let neither : d x ≡ false = ap (λ t. t && not (b x)) also in
-              let cb = count_cons_fail b x xs fails in let ca = count_cons_fail a x xs also in let cd = count_cons_fail d x xs neither in omega arith
-        ]
+        | inl holds ↦
+            let alone : d x ≡ true = ap (λ t. t && not (b x)) holds ∙ ap not fails in
+            let cb = count_cons_fail b x xs fails in let ca = count_cons_pass a x xs holds in let cd = count_cons_pass d x xs alone in omega arith
+        | inr also ↦
+            let neither : d x ≡ false = ap (λ t. t && not (b x)) also in
+            let cb = count_cons_fail b x xs fails in let ca = count_cons_fail a x xs also in let cd = count_cons_fail d x xs neither in omega arith
+      ]
     ]
 
 -- tests that agree but at one number differ by one at most
@@ -40,36 +40,36 @@ count_same a b p s (suc k) past agree =
     elim (cases_Bool (a s)) [
       | inl holds ↦ let ca = count_cons_pass a s (range_with_len (s + 1) k) holds in let cb = count_cons_pass b s (range_with_len (s + 1) k) (agree s (omega arith) holds) in omega arith
       | inr fails ↦ let ca = count_cons_fail a s (range_with_len (s + 1) k) fails in elim (cases_Bool (b s)) [
-          | inl holds ↦ let cb = count_cons_pass b s (range_with_len (s + 1) k) holds in omega arith
-          | inr also ↦ let cb = count_cons_fail b s (range_with_len (s + 1) k) also in omega arith
-        ]
+        | inl holds ↦ let cb = count_cons_pass b s (range_with_len (s + 1) k) holds in omega arith
+        | inr also ↦ let cb = count_cons_fail b s (range_with_len (s + 1) k) also in omega arith
+      ]
     ]
 
 count_but_one : (a b : ℕ → Bool) (p s k : ℕ) → ((i : ℕ) → i ≢ p → a i ≡ true → b i ≡ true) → count_by a (range_with_len s k) ≤ count_by b (range_with_len s k) + 1
 count_but_one a b p s zero agree = omega arith
 count_but_one a b p s (suc k) agree = elim (cases_eq s p) [
-    | inl here ↦
-        let rest = count_same a b p (s + 1) k (omega arith) agree in
-        elim (cases_Bool (a s)) [
-          | inl holds ↦ let ca = count_cons_pass a s (range_with_len (s + 1) k) holds in elim (cases_Bool (b s)) [
-              | inl also ↦ let cb = count_cons_pass b s (range_with_len (s + 1) k) also in omega arith
-              | inr not_there ↦ let cb = count_cons_fail b s (range_with_len (s + 1) k) not_there in omega arith
-            ]
-          | inr fails ↦ let ca = count_cons_fail a s (range_with_len (s + 1) k) fails in elim (cases_Bool (b s)) [
-              | inl also ↦ let cb = count_cons_pass b s (range_with_len (s + 1) k) also in omega arith
-              | inr not_there ↦ let cb = count_cons_fail b s (range_with_len (s + 1) k) not_there in omega arith
-            ]
+  | inl here ↦
+      let rest = count_same a b p (s + 1) k (omega arith) agree in
+      elim (cases_Bool (a s)) [
+        | inl holds ↦ let ca = count_cons_pass a s (range_with_len (s + 1) k) holds in elim (cases_Bool (b s)) [
+          | inl also ↦ let cb = count_cons_pass b s (range_with_len (s + 1) k) also in omega arith
+          | inr not_there ↦ let cb = count_cons_fail b s (range_with_len (s + 1) k) not_there in omega arith
         ]
-    | inr other_one ↦
-        let rest = count_but_one a b p (s + 1) k agree in
-        elim (cases_Bool (a s)) [
-          | inl holds ↦ let ca = count_cons_pass a s (range_with_len (s + 1) k) holds in let cb = count_cons_pass b s (range_with_len (s + 1) k) (agree s other_one holds) in omega arith
-          | inr fails ↦ let ca = count_cons_fail a s (range_with_len (s + 1) k) fails in elim (cases_Bool (b s)) [
-              | inl also ↦ let cb = count_cons_pass b s (range_with_len (s + 1) k) also in omega arith
-              | inr not_there ↦ let cb = count_cons_fail b s (range_with_len (s + 1) k) not_there in omega arith
-            ]
+        | inr fails ↦ let ca = count_cons_fail a s (range_with_len (s + 1) k) fails in elim (cases_Bool (b s)) [
+          | inl also ↦ let cb = count_cons_pass b s (range_with_len (s + 1) k) also in omega arith
+          | inr not_there ↦ let cb = count_cons_fail b s (range_with_len (s + 1) k) not_there in omega arith
         ]
-  ]
+      ]
+  | inr other_one ↦
+      let rest = count_but_one a b p (s + 1) k agree in
+      elim (cases_Bool (a s)) [
+        | inl holds ↦ let ca = count_cons_pass a s (range_with_len (s + 1) k) holds in let cb = count_cons_pass b s (range_with_len (s + 1) k) (agree s other_one holds) in omega arith
+        | inr fails ↦ let ca = count_cons_fail a s (range_with_len (s + 1) k) fails in elim (cases_Bool (b s)) [
+          | inl also ↦ let cb = count_cons_pass b s (range_with_len (s + 1) k) also in omega arith
+          | inr not_there ↦ let cb = count_cons_fail b s (range_with_len (s + 1) k) not_there in omega arith
+        ]
+      ]
+]
 
 -- clearing leaves no new stone
 left_stood : (n : ℕ) (g : Colouring) (c of : Colour) (k : ℕ) → k < n * n → has_colour (cleared n g c) k (Some of) ≡ true → has_colour g k (Some of) ≡ true
@@ -86,10 +86,10 @@ taken_and_left n g c p of =
     let first = slice_set g p (Some c) in
     let middle = cleared n first (other c) in
     count_split (λ k. has_colour first k (Some of)) (λ k. has_colour (cleared n middle c) k (Some of)) (points n)
-      (on_points n (λ k. has_colour (cleared n middle c) k (Some of) ≡ true → has_colour first k (Some of) ≡ true)
-        (λ k low has. left_stood n first (other c) of k low (left_stood n middle c of k low has)))
+    (on_points n (λ k. has_colour (cleared n middle c) k (Some of) ≡ true → has_colour first k (Some of) ≡ true)
+    (λ k low has. left_stood n first (other c) of k low (left_stood n middle c of k low has)))
 
 pub stones-placed-le : (n : ℕ) (g : Colouring) (c : Colour) (p : ℕ) (of : Colour) → stones n (slice_set g p (Some c)) of ≤ stones n g of + 1
 stones-placed-le n g c p of =
     count_but_one (λ k. has_colour (slice_set g p (Some c)) k (Some of)) (λ k. has_colour g k (Some of)) p 0 (n * n)
-      (λ i off has. sym (ap (λ v. is_same v (Some of)) (get_or-set_other g p i (Some c) None off)) ∙ has)
+    (λ i off has. sym (ap (λ v. is_same v (Some of)) (get_or-set_other g p i (Some c) None off)) ∙ has)

@@ -48,6 +48,7 @@ impl Board {
         ensures lines { result.lines ≡ lines_of size }
         ensures colours { grid_of result ≡ replicate (lines_of size * lines_of size) None }
         ensures cells { result.cells ≡ replicate COUNT 0 }
+        ensures kept { IsKept result.lines result.cells }
     {
         Board {
             size,
@@ -207,6 +208,7 @@ impl Board {
             + 3 * most_of self.old.lines (grid_of self.old) colour (number_of self.old.lines p) }
         ensures same { OnErr result (self.new ≡ self.old) }
         ensures log { OnErr result (log.new ≡ log.old) }
+        ensures kept { IsKept self.new.lines self.new.cells }
     {
         points_by_number();
         let size = self.size;
@@ -236,9 +238,10 @@ impl Board {
         requires cells { (earlier : List (List Change)) (changes : List Change)
             → log.old ≡ earlier ++ changes ∷ []
             → NamesCells COUNT changes × IsKept self.old.lines (rewound self.old.cells changes) }
-        ensures { (earlier : List (List Change)) (changes : List Change)
+        ensures rewound { (earlier : List (List Change)) (changes : List Change)
             → log.old ≡ earlier ++ changes ∷ []
             → IsRewound self.old self.new log.new earlier changes meter.old meter.new }
+        ensures kept { IsKept self.new.lines self.new.cells }
     {
         log.put_back(&mut self.cells, meter);
     }

@@ -36,13 +36,13 @@ both : (a b : Bool) → (a && b) ≡ true → (a ≡ true) × (b ≡ true)
 both true b e = (refl, e)
 both false b e = cc
 
-colours_same : (g h : Colouring) → same_colours g h ≡ true → g ≡ h
+pub colours_same : (g h : Colouring) → same_colours g h ≡ true → g ≡ h
 colours_same [] [] e = refl
 colours_same [] (b ∷ h) e = cc
 colours_same (a ∷ g) [] e = cc
 colours_same (a ∷ g) (b ∷ h) e = let two = both (is_same a b) (pointwise is_same g h) e in ap₂ (λ x xs. x ∷ xs) (same_is a b two.0) (colours_same g h two.1)
 
-same_colours_self : (g : Colouring) → same_colours g g ≡ true
+pub same_colours_self : (g : Colouring) → same_colours g g ≡ true
 same_colours_self [] = refl
 same_colours_self (a ∷ g) = ap₂ (λ x y. x && y) (is_same_self a) (same_colours_self g)
 

@@ -8,3 +8,11 @@ pub mod HandicapPlaces
 pub mod Legal
 pub mod Choosing
 pub mod ChoiceRule
+pub mod Trails
+pub mod Building
+pub mod Remembered
+pub mod Keeping
+pub mod Beginning
+pub mod Turns
+pub mod Puts
+pub mod Undoing

@@ -1,5 +1,5 @@
 -- Steps one after the other: what one more adds, and what the last took away leaves.
-use Rattle.std.proofs.Common.{arith, ◌≡◌, ◌<◌, ◌≤◌, ◌+◌, ◌-◌, ◌*◌, ◌^◌, ◌∙◌, ℕ, zero, suc, ℤ, List, [], ◌∷◌, ◌++◌, Some, length, ap₂, get_or, map, take, refl, sym, ap, subst}
+use Rattle.std.proofs.Common.{arith, ◌≡◌, ◌<◌, ◌≤◌, ◌+◌, ◌-◌, ◌*◌, ◌^◌, ◌∙◌, ℕ, ℤ, List, [], ◌∷◌, ◌++◌, Some, length, ap₂, map, take, refl, sym, ap, subst}
 use Rattle.std.specs.List.{slice_get}
 use Rattle.std.proofs.lemmas.List.{take_all, take_more}
 use Rattle.std.proofs.lemmas.Option.{get_or_from_slice_get, slice_get_within}
@@ -8,17 +8,19 @@ use Rattle.go_board.specs.declared.colour.Colour.TheVariants.{Black, White}
 use Rattle.go_board.specs.declared.vertex.Move.{Move}
 use Rattle.go_board.specs.Colours.{Colouring, other}
 use Rattle.go_game.specs.declared.step.Step.{Step}
-use Rattle.go_game.specs.Standings.{IsLegal, IsSound, after_move, board, mover_after, positions}
+use Rattle.go_game.specs.Standings.{IsLegal, IsSound, after_move, after_vertex, board, mover_after, positions}
 use Rattle.go_game.specs.Playing.{prisoners_from, taken_by}
 use Rattle.go_game.specs.Prisoners.{share_of}
 use Rattle.go_board.specs.declared.size.TheConstants.{MAX_LINES, MAX_POINTS}
 use Rattle.go_board.specs.declared.vertex.Vertex.{Vertex}
 use Rattle.go_board.specs.declared.vertex.Vertex.TheVariants.{Pass, At}
 use Rattle.go_board.specs.Points.{number_of}
-use Rattle.go_board.specs.Reaching.{moved, vanished}
-use Rattle.std.proofs.Math.ListN.{length-map, set}
+use Rattle.go_board.specs.Reaching.{has_colour, moved, points, stones, vanished}
+use Rattle.std.proofs.lemmas.List.Sums.{count_by-le-length}
+use Rattle.std.proofs.lemmas.List.FromFn.{length-range_with_len}
+use Rattle.std.proofs.Math.ListN.{set}
 use Rattle.go_board.specs.Grids.{GridValue}
-use Rattle.go_game.specs.Held.{ArePlayed, IsHeld, IsPlayed, after_of, made_of, standing_of}
+use Rattle.go_game.specs.Held.{ArePlayed, IsHeld, IsPlayed, made_of, standing_of}
 use Rattle.go_game.proofs.Sound.{sound_front, sound_more}
 
 -- the last move is the newest
@@ -44,14 +46,11 @@ made_push (x ∷ steps) s = ap (λ ms. made_of x ∷ ms) (made_push steps s)
 
 pub played_front : (n : ℕ) (g : Colouring) (front : List Step) (s : Step) → ArePlayed n g (front ++ s ∷ []) → ArePlayed n g front × IsPlayed n (board n g (map made_of front)) s
 played_front n g [] s h = (tt, h.0)
-played_front n g (x ∷ front) s h =
-    let rest = played_front n x.after.colours front s h.1 in
-    ((h.0, rest.0), subst (λ (k : Colouring). IsPlayed n (board n k (map made_of front)) s) h.0.colours rest.1)
+played_front n g (x ∷ front) s h = let rest = played_front n (after_move n g x.made) front s h.1 in ((h.0, rest.0), rest.1)
 
 pub played_push : (n : ℕ) (g : Colouring) (front : List Step) (s : Step) → ArePlayed n g front → IsPlayed n (board n g (map made_of front)) s → ArePlayed n g (front ++ s ∷ [])
 played_push n g [] s h last = (last, tt)
-played_push n g (x ∷ front) s h last =
-    (h.0, played_push n x.after.colours front s h.1 (subst (λ (k : Colouring). IsPlayed n (board n k (map made_of front)) s) (sym h.0.colours) last))
+played_push n g (x ∷ front) s h last = (h.0, played_push n (after_move n g x.made) front s h.1 last)
 
 -- the last element, and those before it
 pub last_split : {X : Type 0} (xs : List X) (x : X) → slice_get xs (length xs - 1) ≡ Some x → (front : List X) × (xs ≡ front ++ x ∷ [])
@@ -60,24 +59,10 @@ last_split xs x e =
     let whole : take (length xs - 1 + 1) xs ≡ xs = take_all (length xs - 1 + 1) xs (omega arith) in
     (take (length xs - 1) xs, sym whole ∙ take_more xs (length xs - 1) x within ∙ ap (λ y. take (length xs - 1) xs ++ y ∷ []) (get_or_from_slice_get xs (length xs - 1) x x e))
 
--- the grid after the last step is the board
-pub played_last : (n : ℕ) (g : Colouring) (steps : List Step) (s : Step) → slice_get steps (length steps - 1) ≡ Some s → ArePlayed n g steps
-    → (s.after.lines ≡ n) × (s.after.colours ≡ board n g (map made_of steps))
-played_last n g steps s last played =
-    let split = last_split steps s last in
-    let h = played_front n g split.0 s (subst (ArePlayed n g) split.1 played) in
-    (h.1.lines, h.1.colours ∙ sym (board_push n g (map made_of split.0) (made_of s)) ∙ ap (board n g) (sym (made_push split.0 s)) ∙ ap (λ (xs : List Step). board n g (map made_of xs)) (sym split.1))
-
 pub mover_last : (first : Colour) (steps : List Step) (s : Step) → slice_get steps (length steps - 1) ≡ Some s → other s.made.colour ≡ mover_after first (map made_of steps)
 mover_last first steps s last =
     let split = last_split steps s last in
     sym (mover_push first (map made_of split.0) (made_of s)) ∙ ap (mover_after first) (sym (made_push split.0 s)) ∙ ap (λ (xs : List Step). mover_after first (map made_of xs)) (sym split.1)
-
--- the positions are the start's and those after the steps
-pub positions_is : (n : ℕ) (g : Colouring) (steps : List Step) → ArePlayed n g steps → positions n g (map made_of steps) ≡ g ∷ map after_of steps
-positions_is n g [] h = refl
-positions_is n g (s ∷ steps) h =
-    ap (λ (gs : List Colouring). g ∷ gs) (ap (λ (k : Colouring). positions n k (map made_of steps)) (sym h.0.colours) ∙ positions_is n s.after.colours steps h.1)
 
 -- taking the last step off leaves what was held before it, and what it took is among the prisoners
 pub held_front : (start : GridValue) (komi : ℤ) (first : Colour) (steps front : List Step) (s : Step) (black white black' white' : ℕ)
@@ -108,68 +93,54 @@ share_held start komi first steps front s black white is held =
     let w = held.white_taken ∙ ap (λ (ms : List Move). prisoners_from start.lines start.colours ms White) all ∙ prisoners_push start.lines start.colours moves (made_of s) White in
     (omega (arith, b, parts.1.taken Black), omega (arith, w, parts.1.taken White))
 
--- the step at a place was played on the board before it
-pub played_at : (n : ℕ) (g : Colouring) (steps : List Step) (k : ℕ) (s : Step) → ArePlayed n g steps → k < length steps → get_or steps k s ≡ s → s.after.lines ≡ n
-played_at n g [] k s h low e = absurd (omega arith)
-played_at n g (x ∷ steps) zero s h low e = subst (λ (y : Step). y.after.lines ≡ n) e h.0.lines
-played_at n g (x ∷ steps) (suc k) s h low e = played_at n x.after.colours steps k s h.1 (omega arith) e
-
 pub length-positions : (n : ℕ) (g : Colouring) (moves : List Move) → length (positions n g moves) ≡ length moves + 1
 length-positions n g [] = refl
 length-positions n g (m ∷ moves) = let rest = length-positions n (after_move n g m) moves in omega (arith, rest)
 
-pub count_positions : (n : ℕ) (g : Colouring) (steps : List Step) → length (positions n g (map made_of steps)) ≡ length steps + 1
-count_positions n g steps = length-positions n g (map made_of steps) ∙ ap (λ k. k + 1) (length-map steps made_of)
-
--- the position after no move is the start, and after each step its grid
-pub position_start : (n : ℕ) (g : Colouring) (moves : List Move) → get_or (positions n g moves) 0 [] ≡ g
-position_start n g [] = refl
-position_start n g (m ∷ moves) = refl
-
-pub position_after : (n : ℕ) (g : Colouring) (steps : List Step) (k : ℕ) (s : Step) → ArePlayed n g steps → k < length steps → get_or steps k s ≡ s → get_or (positions n g (map made_of steps)) (k + 1) [] ≡ s.after.colours
-position_after n g [] k s h low e = absurd (omega arith)
-position_after n g (x ∷ steps) zero s h low e =
-    position_start n (after_move n g x.made) (map made_of steps) ∙ sym h.0.colours ∙ ap (λ (y : Step). y.after.colours) e
-position_after n g (x ∷ steps) (suc k) s h low e =
-    ap (λ j. get_or (positions n g (map made_of (x ∷ steps))) j []) (let next : suc k + 1 ≡ suc (k + 1) = omega arith in next)
-    ∙ ap (λ (b : Colouring). get_or (positions n b (map made_of steps)) (k + 1) []) (sym h.0.colours)
-    ∙ position_after n x.after.colours steps k s h.1 (omega arith) e
-
 pub same_grid : (a b : GridValue) → a.lines ≡ b.lines → a.colours ≡ b.colours → a ≡ b
 same_grid a b lines colours = ap₂ (λ (n : ℕ) (g : Colouring). let grid : GridValue = record { lines = n; colours = g } in grid) lines colours
 
-square-le : (n : ℕ) → n ≤ MAX_LINES → n * n ≤ MAX_POINTS
+pub square-le : (n : ℕ) → n ≤ MAX_LINES → n * n ≤ MAX_POINTS
 square-le n small = grind arith
 
--- a turn takes no more stones of a colour than the board has points
-taken_le : ((n : ℕ) (before after : Colouring) (c : Colour) → vanished n before after c ≤ n * n) → (n : ℕ) → n ≤ MAX_LINES → (g : Colouring) (c : Colour) (v : Vertex) (of : Colour) → taken_by n g c v of ≤ MAX_POINTS
-taken_le law n small g c Pass of = omega arith
-taken_le law n small g c (At p) of =
-    let most = law n (set g (number_of n p) (Some c)) (moved n g c (number_of n p)) of in
-    let square : n * n ≤ MAX_POINTS = square-le n small in
-    omega (arith, most, square)
+-- a law of the crate below: what a play takes and what it leaves are at most one stone more than stood there
+pub record TakenAndLeft : Type 0 where
+  pub together : (n : ℕ) (g : Colouring) (c : Colour) (p : ℕ) (of : Colour) → stones n (moved n g c p) of + vanished n (set g p (Some c)) (moved n g c p) of ≡ stones n (set g p (Some c)) of
+  pub placed : (n : ℕ) (g : Colouring) (c : Colour) (p : ℕ) (of : Colour) → stones n (set g p (Some c)) of ≤ stones n g of + 1
 
-prisoners_le : ((n : ℕ) (before after : Colouring) (c : Colour) → vanished n before after c ≤ n * n) → (n : ℕ) → n ≤ MAX_LINES → (g : Colouring) (moves : List Move) (of : Colour) → prisoners_from n g moves of ≤ MAX_POINTS * length moves
-prisoners_le law n small g [] of = omega arith
-prisoners_le law n small g (m ∷ moves) of =
-    let rest = prisoners_le law n small (after_move n g m) moves of in
-    let first = taken_le law n small g m.colour m.vertex of in
+turn_le : TakenAndLeft → (n : ℕ) (g : Colouring) (c : Colour) (v : Vertex) (of : Colour) → taken_by n g c v of + stones n (after_vertex n g c v) of ≤ stones n g of + 1
+turn_le law n g c Pass of = omega arith
+turn_le law n g c (At p) of = let a = law.together n g c (number_of n p) of in let b = law.placed n g c (number_of n p) of in omega arith
+
+stones_le : (n : ℕ) (g : Colouring) (of : Colour) → stones n g of ≤ n * n
+stones_le n g of = let few = count_by-le-length (λ p. has_colour g p (Some of)) (points n) in let long = length-range_with_len 0 (n * n) in omega arith
+
+-- prisoners and stones together are at most the stones at the start and the moves
+prisoners_le : TakenAndLeft → (n : ℕ) (g : Colouring) (moves : List Move) (of : Colour) → prisoners_from n g moves of + stones n (board n g moves) of ≤ stones n g of + length moves
+prisoners_le law n g [] of = omega arith
+prisoners_le law n g (m ∷ moves) of =
+    let rest = prisoners_le law n (after_move n g m) moves of in
+    let first = turn_le law n g m.colour m.vertex of in
     omega (arith, rest, first)
 
 -- the counters have room for what one more step takes
-pub room_held : ((n : ℕ) (before after : Colouring) (c : Colour) → vanished n before after c ≤ n * n)
-    → (start : GridValue) (komi : ℤ) (first : Colour) (steps : List Step) (s : Step) (black white : ℕ)
-    → IsHeld start komi first steps black white → MAX_POINTS * length (map made_of steps) < 2 ^ 63 → IsPlayed start.lines (board start.lines start.colours (map made_of steps)) s
+pub room_held : TakenAndLeft → (start : GridValue) (komi : ℤ) (first : Colour) (steps : List Step) (s : Step) (black white : ℕ)
+    → IsHeld start komi first steps black white → length (map made_of steps) < 2 ^ 63 → IsPlayed start.lines (board start.lines start.colours (map made_of steps)) s
     → (black + share_of s.made.colour s.taken Black < 2 ^ 64) × (white + share_of s.made.colour s.taken White < 2 ^ 64)
 room_held law start komi first steps s black white held few played =
     let small : start.lines ≤ MAX_LINES = held.sound.size.1 in
     let n = start.lines in
-    let now = board n start.colours (map made_of steps) in
-    let b = prisoners_le law n small start.colours (map made_of steps) Black in
-    let w = prisoners_le law n small start.colours (map made_of steps) White in
-    let tb = taken_le law n small now s.made.colour s.made.vertex Black in
-    let tw = taken_le law n small now s.made.colour s.made.vertex White in
-    (omega (arith, held.black_taken, b, played.taken Black, tb, few), omega (arith, held.white_taken, w, played.taken White, tw, few))
+    let square = square-le n small in
+    let g = start.colours in
+    let moves = map made_of steps in
+    let now = board n g moves in
+    let b = prisoners_le law n g moves Black in
+    let w = prisoners_le law n g moves White in
+    let gb = stones_le n g Black in let gw = stones_le n g White in
+    let nb = stones_le n now Black in let nw = stones_le n now White in
+    let tb = turn_le law n now s.made.colour s.made.vertex Black in
+    let tw = turn_le law n now s.made.colour s.made.vertex White in
+    (omega (arith, held.black_taken, b, gb, nb, played.taken Black, tb, few, square), omega (arith, held.white_taken, w, gw, nw, played.taken White, tw, few, square))
 
 -- what is held with one more step
 pub held_push : (start : GridValue) (komi : ℤ) (first : Colour) (steps more : List Step) (s : Step) (black white black' white' : ℕ)

@@ -1,5 +1,6 @@
--- What the body of a game keeps: the grids after its moves, and what each took.
-use Rattle.std.specs.Prelude.{◌≡◌, ℕ, ℤ, List, [], ◌∷◌, None, map}
+-- What the body of a game keeps beside its start and its moves: what each move took, a board that went through them, the log
+-- of its plays, and the history.
+use Rattle.std.specs.Prelude.{◌≡◌, ◌*◌, ℕ, ℤ, List, [], ◌∷◌, None, map}
 use Rattle.go_board.specs.declared.colour.Colour.{Colour}
 use Rattle.go_board.specs.declared.colour.Colour.TheVariants.{Black, White}
 use Rattle.go_board.specs.declared.vertex.Move.{Move}
@@ -8,37 +9,45 @@ use Rattle.go_board.specs.declared.vertex.Vertex.TheVariants.{Pass, At}
 use Rattle.go_board.specs.Colours.{Colouring, colour_at}
 use Rattle.go_board.specs.Grids.{GridValue}
 use Rattle.go_board.specs.Points.{IsOn, number_of}
+use Rattle.go_chains.specs.declared.log.Change.{Change}
+use Rattle.go_chains.specs.Sound.{BoardValue, IsKept, colouring_of}
+use Rattle.go_game.specs.declared.history.History.{History}
 use Rattle.go_game.specs.declared.step.Step.{Step}
-use Rattle.go_game.specs.Standings.{IsSound, Standing, after_move}
+use Rattle.go_game.specs.Histories.{StandsFor}
+use Rattle.go_game.specs.Standings.{IsSound, Standing, after_move, positions_of}
 use Rattle.go_game.specs.Prisoners.{share_of}
 use Rattle.go_game.specs.Playing.{prisoners_of, taken_by}
+use Rattle.go_game.specs.Trails.{WentThrough}
 
 abbrev pub made_of : Step → Move
 made_of s = s.made
-
-abbrev pub after_of : Step → Colouring
-after_of s = s.after.colours
 
 -- a pass, or a play on an empty point of the board
 abbrev pub IsPlayable : ℕ → Colouring → Vertex → Type 0
 IsPlayable n g Pass = Unit {0}
 IsPlayable n g (At p) = IsOn n p × (colour_at g (number_of n p) ≡ None)
 
--- the step's grid and what it took are those of its move
+-- what the step took is what its move takes
 pub record IsPlayed (n : ℕ) (g : Colouring) (s : Step) : Type 0 where
-  pub lines : s.after.lines ≡ n
-  pub colours : s.after.colours ≡ after_move n g s.made
   pub playable : IsPlayable n g s.made.vertex
   pub taken : (of : Colour) → share_of s.made.colour s.taken of ≡ taken_by n g s.made.colour s.made.vertex of
 
 -- so for each step, one after the other
 abbrev pub ArePlayed : ℕ → Colouring → List Step → Type 0
 ArePlayed n g [] = Unit {0}
-ArePlayed n g (s ∷ steps) = IsPlayed n g s × ArePlayed n s.after.colours steps
+ArePlayed n g (s ∷ steps) = IsPlayed n g s × ArePlayed n (after_move n g s.made) steps
 
 -- the standing of a start and the steps
 abbrev pub standing_of : GridValue → ℤ → Colour → List Step → Standing
 standing_of start komi first steps = record { lines = start.lines; komi = komi; start = start.colours; first = first; moves = map made_of steps }
+
+-- the board went through the moves from cells that say the start
+pub record IsTracked (start : GridValue) (moves : List Move) (board : BoardValue) (log : List (List Change)) : Type 0 where
+  pub lines : board.lines ≡ start.lines
+  pub first : List ℕ
+  pub kept : IsKept start.lines first
+  pub begun : colouring_of start.lines first ≡ start.colours
+  pub went : WentThrough start.lines first moves log board.cells
 
 -- the steps are those of a sound standing, and the counts are its prisoners
 pub record IsHeld (start : GridValue) (komi : ℤ) (first : Colour) (steps : List Step) (black white : ℕ) : Type 0 where
@@ -46,3 +55,9 @@ pub record IsHeld (start : GridValue) (komi : ℤ) (first : Colour) (steps : Lis
   pub sound : IsSound (standing_of start komi first steps)
   pub black_taken : black ≡ prisoners_of (standing_of start komi first steps) Black
   pub white_taken : white ≡ prisoners_of (standing_of start komi first steps) White
+
+-- all that a game keeps
+pub record IsKeeping {A : Type 0} (start : GridValue) (komi : ℤ) (first : Colour) (steps : List Step) (board : BoardValue) (log : List (List Change)) (history : History A) (black white : ℕ) : Type 0 where
+  pub held : IsHeld start komi first steps black white
+  pub tracked : IsTracked start (map made_of steps) board log
+  pub told : StandsFor (start.lines * start.lines) history (positions_of (standing_of start komi first steps))

@@ -8,3 +8,6 @@ pub mod Choices
 pub mod Trials
 pub mod Handicaps
 pub mod Held
+pub mod Trails
+pub mod Histories
+pub mod Building

@@ -1,4 +1,7 @@
+ghost use Rattle.std.specs.Prelude.{◌≡◌};
+
 use go_board::Point;
+use std::alloc::AllocError;
 use thiserror::Error;
 
 /// Why a move can't be played.
@@ -27,4 +30,14 @@ pub enum SetupError {
     /// There was no memory for the game.
     #[error("out of memory")]
     Memory,
+}
+
+impl From<AllocError> for SetupError {
+    ghost use Rattle.go_game.specs.declared.errors.SetupError.TheVariants.{Memory};
+
+    ghost from_gives = { λ _ error. error ≡ Memory };
+
+    fn from(_: AllocError) -> SetupError {
+        SetupError::Memory
+    }
 }

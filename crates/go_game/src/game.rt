@@ -1,12 +1,13 @@
 ghost use Rattle.std.specs.Prelude.{◌≡◌, ◌<◌, ◌++◌, ◌∷◌, ◌*◌, ◌^◌, [], ◌↔◌, ℕ, pos, false, Err, IfOk, IfErr, IfNone, IfSome, OnErr, OnOk, Contains, length, slice_get};
 
+use crate::history::History;
 use crate::prisoners::Prisoners;
 use crate::step::Step;
-use crate::{PlayError, SetupError};
-use go_board::laws::vanished_at_most_all;
-use go_board::plain::{areas, first_dead, is_liberty, liberties_of, place, same_chain};
-use go_board::{Area, Colour, Grid, Move, Point, Size, Taken, Vertex};
-use std::alloc::{AllocError, Allocator};
+use go_board::laws::packs_tell_colourings_apart;
+use go_board::plain::{areas, is_liberty, same_chain};
+use go_board::{Area, Colour, Grid, Meter, Move, Point, Size};
+use go_chains::{Board, Log};
+use std::alloc::Allocator;
 use std::marker::Model;
 
 /// The greatest size of a komi, in hundredths of a point.
@@ -16,23 +17,27 @@ pub const MAX_KOMI: i64 = 99_999_999_999;
 /// from the allocator that it was made with.
 #[derive(Drop)]
 pub struct Game<A: Allocator + Copy> {
-    start: Grid,
-    komi: i64,
-    first: Colour,
-    steps: Vec<Step, A>,
-    prisoners: Prisoners,
+    pub(crate) start: Grid,
+    pub(crate) komi: i64,
+    pub(crate) first: Colour,
+    pub(crate) board: Board,
+    pub(crate) log: Log<A>,
+    pub(crate) meter: Meter,
+    pub(crate) steps: Vec<Step, A>,
+    pub(crate) history: History<A>,
+    pub(crate) prisoners: Prisoners,
 }
 
 impl<A: Allocator + Copy> Model for Game<A> {
     ghost use Rattle.go_game.specs.Standings.{GameValue};
-    ghost use Rattle.go_game.specs.Held.{IsHeld, standing_of};
+    ghost use Rattle.go_game.specs.Held.{IsKeeping, standing_of};
 
     ghost Value = { GameValue };
 
     ghost view = { λ a. record { standing = standing_of a.start a.komi a.first a.steps.items } };
 
-    ghost invariant = { λ a. IsHeld a.start a.komi a.first a.steps.items a.prisoners.black
-        a.prisoners.white };
+    ghost invariant = { λ a. IsKeeping a.start a.komi a.first a.steps.items a.board a.log
+        a.history a.prisoners.black a.prisoners.white };
 }
 
 impl<A: Allocator + Copy> Game<A> {
@@ -55,11 +60,18 @@ impl<A: Allocator + Copy> Game<A> {
     pub fn new(alloc: A, size: Size) -> Game<A>
         ensures { IsEmptyStart result.standing (lines_of size) (pos 0) }
     {
+        packs_tell_colourings_apart();
+        let start = Grid::new(size);
+        let history = History::new(alloc, start.pack());
         Game {
-            start: Grid::new(size),
+            start,
             komi: 0,
             first: Colour::Black,
+            board: Board::new(size),
+            log: Log::new(alloc),
+            meter: Meter::new(),
             steps: Vec::new(alloc),
+            history,
             prisoners: Prisoners { black: 0, white: 0 },
         }
     }
@@ -137,22 +149,23 @@ impl<A: Allocator + Copy> Game<A> {
     pub fn resize(&mut self, size: Size)
         ensures { IsEmptyStart self.new.standing (lines_of size) self.old.standing.komi }
     {
+        packs_tell_colourings_apart();
+        let alloc = *self.steps.allocator();
         self.start = Grid::new(size);
         self.first = Colour::Black;
+        self.board = Board::new(size);
+        self.log = Log::new(alloc);
         self.steps.clear();
+        self.history.restart(self.start.pack());
         self.prisoners = Prisoners { black: 0, white: 0 };
     }
 
     /// The grid after the last move.
-    fn present(&self) -> &Grid
-        ensures lines { result.now.lines ≡ self.now.standing.lines }
-        ensures colours { result.now.colours ≡ board_of self.now.standing }
-        ensures few { MAX_POINTS * length self.now.standing.moves < 2 ^ 63 }
+    fn present(&self) -> Grid
+        ensures lines { result.lines ≡ self.now.standing.lines }
+        ensures colours { result.colours ≡ board_of self.now.standing }
     {
-        match self.steps.last() {
-            Some(step) => &step.after,
-            None => &self.start,
-        }
+        self.board.grid()
     }
 
     /// The colour of a point.
@@ -161,7 +174,7 @@ impl<A: Allocator + Copy> Game<A> {
         ensures { result ≡ colour_at (board_of self.now.standing)
             (number_of self.now.standing.lines p) }
     {
-        self.present().get(p)
+        self.board.colour_at(p)
     }
 
     /// Whether two stones are in one chain.
@@ -171,7 +184,10 @@ impl<A: Allocator + Copy> Game<A> {
         ensures { result ≡ joined self.now.standing.lines (board_of self.now.standing)
             (number_of self.now.standing.lines p) (number_of self.now.standing.lines q) }
     {
-        same_chain(self.present(), p, q)
+        if self.colour_at(p).is_none() || self.colour_at(q).is_none() {
+            return same_chain(&self.present(), p, q);
+        }
+        self.board.same_chain(p, q)
     }
 
     /// Whether a point is a liberty of a stone's chain.
@@ -181,7 +197,10 @@ impl<A: Allocator + Copy> Game<A> {
         ensures { result ≡ is_liberty_of self.now.standing.lines (board_of self.now.standing)
             (number_of self.now.standing.lines p) (number_of self.now.standing.lines q) }
     {
-        is_liberty(self.present(), p, q)
+        if self.colour_at(p).is_none() {
+            return is_liberty(&self.present(), p, q);
+        }
+        self.board.is_liberty(p, q)
     }
 
     /// How many liberties the chain of the stone on a point has, and 0 where none is there.
@@ -190,11 +209,10 @@ impl<A: Allocator + Copy> Game<A> {
         ensures { result ≡ liberties_on self.now.standing.lines (board_of self.now.standing)
             (number_of self.now.standing.lines p) }
     {
-        let grid = self.present();
-        if grid.get(p).is_none() {
+        if self.colour_at(p).is_none() {
             return 0;
         }
-        liberties_of(grid, p)
+        self.board.liberties_of(p)
     }
 
     /// How many points count for each colour.
@@ -202,7 +220,7 @@ impl<A: Allocator + Copy> Game<A> {
         ensures black { result.black ≡ area_of self.now.standing Colour.Black }
         ensures white { result.white ≡ area_of self.now.standing Colour.White }
     {
-        areas(self.present())
+        areas(&self.present())
     }
 
     /// By how many hundredths of a point Black is ahead, komi counted.
@@ -230,149 +248,5 @@ impl<A: Allocator + Copy> Game<A> {
         ensures { result ≡ prisoners_of self.now.standing colour }
     {
         self.prisoners.of(colour)
-    }
-
-    /// Takes back the last move, and gives it. It takes no memory.
-    pub fn undo(&mut self) -> Option<Move>
-        ensures none { IfNone result ((self.old.standing.moves ≡ []) × (self.new ≡ self.old)) }
-        ensures some { IfSome result
-            (λ m. self.old.standing.moves ≡ self.new.standing.moves ++ m ∷ []) }
-        ensures after { self.new.standing ≡ without_last 1 self.old.standing }
-    {
-        let step = self.steps.pop()?;
-        self.prisoners.give_back(step.made.colour, step.taken);
-        Some(step.made)
-    }
-
-    /// Plays a move: a pass, or a stone on an empty point of the board whose colouring didn't stand
-    /// before. Captured stones are taken, and then stones of the player's own that have no liberty.
-    /// A refused move changes nothing.
-    pub fn play(&mut self, made: Move) -> Result<Taken, PlayError>
-        ensures off_board { (result ≡ Err PlayError.OffBoard)
-            ↔ IsOffBoard self.old.standing made.vertex }
-        ensures occupied { (result ≡ Err PlayError.Occupied)
-            ↔ IsOccupied self.old.standing made.vertex }
-        ensures repeats { (k : ℕ) → result ≡ Err (PlayError.Repeats k)
-            → Repeats self.old.standing made.colour made.vertex k }
-        ensures legal { OnOk result (IsLegal self.old.standing made.colour made.vertex) }
-        ensures played { OnOk result (self.new.standing ≡ with_move self.old.standing made) }
-        ensures taken { IfOk result (λ taken. (of : Colour) → share_of made.colour taken of
-            ≡ stones_taken self.old.standing made.colour made.vertex of) }
-        ensures err { OnErr result (self.new ≡ self.old) }
-    {
-        match made.vertex {
-            Vertex::Pass => self.pass(made.colour),
-            Vertex::At(p) => self.put(made.colour, p),
-        }
-    }
-
-    /// Passes: always legal, refused for want of memory alone.
-    fn pass(&mut self, colour: Colour) -> Result<Taken, PlayError>
-        ensures ok { IfOk result (λ taken. (taken.theirs ≡ 0) × (taken.own ≡ 0)) }
-        ensures played { OnOk result (self.new.standing
-            ≡ with_move self.old.standing (record { colour = colour; vertex = Vertex.Pass })) }
-        ensures err { OnErr result (self.new ≡ self.old) }
-        ensures memory { IfErr result (λ e. e ≡ PlayError.Memory) }
-    {
-        let taken = Taken { theirs: 0, own: 0 };
-        let after = self.present().copy();
-        let made = Move {
-            colour,
-            vertex: Vertex::Pass,
-        };
-        match self.keep(Step { made, after, taken }) {
-            Ok(()) => Ok(taken),
-            Err(_) => Err(PlayError::Memory),
-        }
-    }
-
-    /// Places a stone where that is legal.
-    fn put(&mut self, colour: Colour, p: Point) -> Result<Taken, PlayError>
-        ensures off_board { (result ≡ Err PlayError.OffBoard)
-            ↔ (IsOn self.old.standing.lines p → ⊥) }
-        ensures occupied { (result ≡ Err PlayError.Occupied)
-            ↔ IsOccupied self.old.standing (Vertex.At p) }
-        ensures repeats { (k : ℕ) → result ≡ Err (PlayError.Repeats k)
-            → Repeats self.old.standing colour (Vertex.At p) k }
-        ensures legal { OnOk result (IsLegal self.old.standing colour (Vertex.At p)) }
-        ensures played { OnOk result (self.new.standing
-            ≡ with_move self.old.standing (record { colour = colour; vertex = Vertex.At p })) }
-        ensures taken { IfOk result (λ taken. (of : Colour) → share_of colour taken of
-            ≡ stones_taken self.old.standing colour (Vertex.At p) of) }
-        ensures err { OnErr result (self.new ≡ self.old) }
-    {
-        if !p.on(self.size()) {
-            return Err(PlayError::OffBoard);
-        }
-        if self.colour_at(p).is_some() {
-            return Err(PlayError::Occupied);
-        }
-        let mut after = self.present().copy();
-        let taken = place(&mut after, colour, p);
-        if let Some(count) = self.first_repeat(&after) {
-            return Err(PlayError::Repeats(count));
-        }
-        let made = Move {
-            colour,
-            vertex: Vertex::At(p),
-        };
-        match self.keep(Step { made, after, taken }) {
-            Ok(()) => Ok(taken),
-            Err(_) => Err(PlayError::Memory),
-        }
-    }
-
-    /// After how many moves a grid of this size stood first, if it did.
-    fn first_repeat(&self, grid: &Grid) -> Option<usize>
-        requires { grid.now.lines ≡ self.now.standing.lines }
-        ensures none { IfNone result
-            (Contains (positions_of self.now.standing) grid.now.colours → ⊥) }
-        ensures some { IfSome result (IsFirstAt (positions_of self.now.standing) grid.now.colours) }
-    {
-        if self.start.is_same_as(grid) {
-            return Some(0);
-        }
-        for (count, step) in self.steps.iter().enumerate() {
-            if step.after.is_same_as(grid) {
-                return Some(count + 1);
-            }
-        }
-        None
-    }
-
-    /// Keeps one more step, of a legal move.
-    fn keep(&mut self, step: Step) -> Result<(), AllocError>
-        requires few { MAX_POINTS * length self.old.standing.moves < 2 ^ 63 }
-        requires played { IsPlayed self.old.standing.lines (board_of self.old.standing) step }
-        requires legal { IsLegal self.old.standing step.made.colour step.made.vertex }
-        ensures ok { OnOk result (self.new.standing ≡ with_move self.old.standing step.made) }
-        ensures err { OnErr result (self.new ≡ self.old) }
-    {
-        vanished_at_most_all();
-        let made = step.made;
-        let taken = step.taken;
-        self.steps.push(step)?;
-        self.prisoners.add(made.colour, taken);
-        Ok(())
-    }
-
-    /// A game that starts from this grid, with komi 0 and this colour to move.
-    pub fn start_from(alloc: A, grid: &Grid, first: Colour) -> Result<Game<A>, SetupError>
-        ensures ok { IfOk result (λ game. game.standing ≡ started grid.now first) }
-        ensures no_liberty { (p : Point) → result ≡ Err (SetupError.NoLiberty p)
-            → IsFirstDead grid.now.lines grid.now.colours p }
-        ensures alive { OnOk result ((k : ℕ) → k < grid.now.lines * grid.now.lines
-            → is_dead grid.now.lines grid.now.colours k ≡ false) }
-    {
-        match first_dead(grid) {
-            Some(p) => Err(SetupError::NoLiberty(p)),
-            None => Ok(Game {
-                start: grid.copy(),
-                komi: 0,
-                first,
-                steps: Vec::new(alloc),
-                prisoners: Prisoners { black: 0, white: 0 },
-            }),
-        }
     }
 }

@@ -5,9 +5,14 @@ mod choice;
 mod errors;
 mod game;
 mod handicap;
+mod history;
+#[cfg(test)]
+mod history_tests;
 pub mod laws;
+mod play;
 mod prisoners;
 mod score;
+mod start;
 mod step;
 
 pub use errors::{PlayError, SetupError};

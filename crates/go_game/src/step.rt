@@ -1,9 +1,8 @@
-use go_board::{Grid, Move, Taken};
+use go_board::{Move, Taken};
 
-/// A move, the grid after it, and what it took.
-#[derive(Drop)]
+/// A move, and what it took.
+#[derive(Clone, Copy)]
 pub struct Step {
     pub made: Move,
-    pub after: Grid,
     pub taken: Taken,
 }

@@ -8,3 +8,6 @@ invariant_of-result c = IsKept-zeros (lines_of c.args.size) COUNT c.new.result c
 
 pub returns-clause-colours : goal.returns-clause-colours
 returns-clause-colours c = colouring-zeros (lines_of c.args.size) COUNT c.new.result c.new.ensures
+
+pub returns-clause-kept : goal.returns-clause-kept
+returns-clause-kept c = IsKept-zeros (lines_of c.args.size) COUNT c.new.result c.new.ensures c.args.size.in_range

@@ -1,16 +1,11 @@
-use Rattle.std.proofs.Common.{◌≡◌, ◌∙◌, ◌-◌, List, Some, ap, length, subst, sym}
-use Rattle.std.specs.List.{slice_get}
-use Rattle.go_game.specs.declared.step.Step.{Step}
+use Rattle.std.proofs.Common.{◌∙◌, ℕ, ap}
+use Rattle.go_board.specs.Colours.{Colouring}
 use Rattle.go_game.specs.Standings.{GameValue, board_of}
-use Rattle.go_game.proofs.Played.{played_last}
+use Rattle.go_game.proofs.Keeping.{seen_as}
 use Rattle.go_game.proofs.game.Game.present.Goals as goal
 
-pub returns-in-Some-clause-lines : goal.returns-in-Some-clause-lines
-returns-in-Some-clause-lines g c =
-    let last = subst (λ (xs : List Step). slice_get xs (length xs - 1) ≡ Some c.in-Some.step.now) c.deref.ensures.value (sym c.in-Some.ensures.value) in
-    (played_last c.self.inside.start.lines c.self.inside.start.colours c.self.inside.steps.items c.in-Some.step.now last c.self.invariant.played).0 ∙ ap (λ (v : GameValue). v.standing.lines) c.self.view_is
-
-pub returns-in-Some-clause-colours : goal.returns-in-Some-clause-colours
-returns-in-Some-clause-colours g c =
-    let last = subst (λ (xs : List Step). slice_get xs (length xs - 1) ≡ Some c.in-Some.step.now) c.deref.ensures.value (sym c.in-Some.ensures.value) in
-    (played_last c.self.inside.start.lines c.self.inside.start.colours c.self.inside.steps.items c.in-Some.step.now last c.self.invariant.played).1 ∙ ap (λ (v : GameValue). board_of v.standing) c.self.view_is
+pub returns-clause-colours : goal.returns-clause-colours
+returns-clause-colours g c =
+    let f : ℕ → Colouring → Colouring = λ n k. k in
+    let seen = seen_as f c.self.inside.start c.self.inside.komi c.self.inside.first c.self.inside.steps.items c.self.inside.board c.self.inside.log c.self.inside.history c.self.inside.prisoners.black c.self.inside.prisoners.white c.self.invariant ∙ ap (λ (v : GameValue). f v.standing.lines (board_of v.standing)) c.self.view_is in
+    c.grid.ensures.colours ∙ seen

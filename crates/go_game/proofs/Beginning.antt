@@ -1,0 +1,84 @@
+-- What a game keeps before its first move.
+use Rattle.std.specs.Prelude.{pos, replicate}
+use Rattle.std.proofs.Common.{arith, rules, ◌≡◌, ◌≢◌, ◌<◌, ◌≤◌, ◌*◌, ◌∙◌, ◌&&◌, true, false, not, inl, inr, ℕ, ℤ, IsTrue, List, [], Option, Some, None, length, refl, sym, ap, subst}
+use Rattle.std.proofs.lemmas.Bool.{cases_Bool, false≢true}
+use Rattle.std.proofs.lemmas.List.{get_or-replicate, length-replicate}
+use Rattle.go_board.specs.declared.colour.Colour.{Colour}
+use Rattle.go_board.specs.declared.colour.Colour.TheVariants.{Black, White}
+use Rattle.go_board.specs.declared.pack.Packed.{Packed}
+use Rattle.go_board.specs.declared.size.TheConstants.{MAX_LINES}
+use Rattle.go_board.specs.Colours.{Colouring, colour_at}
+use Rattle.go_board.specs.Grids.{GridValue}
+use Rattle.go_board.specs.Reaching.{has_colour, is_dead, is_same, reaches}
+use Rattle.go_chains.specs.declared.log.Change.{Change}
+use Rattle.go_chains.specs.Sound.{BoardValue, IsKept, colouring_of, grid_of}
+use Rattle.go_game.specs.declared.history.History.{History}
+use Rattle.go_game.specs.declared.step.Step.{Step}
+use Rattle.go_game.specs.Building.{AreAlive}
+use Rattle.go_game.specs.Held.{IsHeld, IsKeeping}
+use Rattle.go_game.specs.Histories.{IsBegun, IsPackOf}
+use Rattle.go_game.specs.Standings.{IsKomi}
+use Rattle.go_game.proofs.Played.{square-le}
+use Rattle.go_game.proofs.Remembered.{TellApart, history_begun}
+
+-- an empty board has no dead stone
+pub none_alive : (n : ℕ) (g : Colouring) → g ≡ replicate (n * n) None → AreAlive n g
+none_alive n g is k low =
+    let none : colour_at g k ≡ None = ap (λ (h : Colouring). colour_at h k) is ∙ get_or-replicate (n * n) k None None low in
+    ap (λ (v : Option Colour). not (is_same v None) && not (reaches n g k None)) none
+
+-- a stone that isn't dead reaches empty
+alive_reaches : (n : ℕ) (g : Colouring) (k : ℕ) → is_dead n g k ≡ false → colour_at g k ≢ None → IsTrue (reaches n g k None)
+alive_reaches n g k alive stone = elim (cases_Bool (reaches n g k None)) [
+  | inl lives ↦ lives
+  | inr dead ↦ absurd (false≢true (sym alive ∙ ap (λ b. not (has_colour g k None) && not b) dead ∙ held (colour_at g k) refl))
+]
+  where
+    held : (v : Option Colour) → colour_at g k ≡ v → (not (is_same v None) && not false) ≡ true
+    held None e = absurd (stone e)
+    held (Some Black) e = refl
+    held (Some White) e = refl
+
+pub held_begun : (start : GridValue) (komi : ℤ) (first : Colour) → (0 < start.lines) × (start.lines ≤ MAX_LINES) → length start.colours ≡ start.lines * start.lines → IsKomi komi → AreAlive start.lines start.colours
+    → IsHeld start komi first [] 0 0
+held_begun start komi first size whole komi_is alive = record {
+  played = tt;
+  sound = record {
+    size = size;
+    whole = whole;
+    komi = komi_is;
+    alive = λ p low stone. alive_reaches start.lines start.colours p (alive p low) stone;
+    legal = λ k m low. absurd (omega (arith, low));
+  };
+  black_taken = refl;
+  white_taken = refl;
+}
+
+pub keeping_begun : {A : Type 0} → TellApart → (start : GridValue) (komi : ℤ) (first : Colour) (b : BoardValue) (log : List (List Change)) (history : History A) (p : Packed)
+    → IsHeld start komi first [] 0 0 → b.lines ≡ start.lines → grid_of b ≡ start.colours → IsKept b.lines b.cells → log ≡ [] → IsBegun history p → IsPackOf p start.colours
+    → IsKeeping start komi first [] b log history 0 0
+keeping_begun law start komi first b log history p held lines colours kept empty begun packs = record {
+  held = held;
+  tracked = record {
+    lines = lines;
+    first = b.cells;
+    kept = subst (λ (n : ℕ). IsKept n b.cells) lines kept;
+    begun = ap (λ (n : ℕ). colouring_of n b.cells) (sym lines) ∙ colours;
+    went = (empty, refl);
+  };
+  told = history_begun law (start.lines * start.lines) (square-le start.lines held.sound.size.1) history p start.colours begun packs held.sound.whole;
+}
+
+pub komi_none : IsKomi (pos 0)
+komi_none = search rules
+
+-- the same on an empty board
+pub keeping_empty : {A : Type 0} → TellApart → (n : ℕ) → (0 < n) × (n ≤ MAX_LINES) → (start : GridValue) (komi : ℤ) (first : Colour) (steps : List Step) (b : BoardValue) (log : List (List Change)) (history : History A) (p : Packed)
+    → start.lines ≡ n → start.colours ≡ replicate (n * n) None → IsKomi komi → b.lines ≡ n → grid_of b ≡ replicate (n * n) None → IsKept b.lines b.cells → log ≡ [] → steps ≡ [] → IsBegun history p → IsPackOf p start.colours
+    → IsKeeping start komi first steps b log history 0 0
+keeping_empty {A} law n size start komi first steps b log history p lines colours komi_is b_lines b_colours kept empty none begun packs =
+    let here : start.colours ≡ replicate (start.lines * start.lines) None = colours ∙ ap (λ m. let g : Colouring = replicate (m * m) None in g) (sym lines) in
+    let held = held_begun start komi first (subst (λ (m : ℕ). (0 < m) × (m ≤ MAX_LINES)) (sym lines) size)
+    (ap length here ∙ length-replicate {A = Option Colour} (start.lines * start.lines) None) komi_is (none_alive start.lines start.colours here) in
+    subst (λ (xs : List Step). IsKeeping start komi first xs b log history 0 0) (sym none)
+    (keeping_begun law start komi first b log history p held (b_lines ∙ sym lines) (b_colours ∙ sym colours) kept empty begun packs)

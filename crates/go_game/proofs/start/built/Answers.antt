@@ -1,0 +1,25 @@
+use Rattle.std.proofs.Common.{arith, ◌≡◌, ◌∙◌, ◌*◌, ℕ, None, ap}
+use Rattle.std.specs.Prelude.{replicate}
+use Rattle.go_board.specs.Colours.{Colouring}
+use Rattle.go_board.specs.Sizes.{lines_of}
+use Rattle.go_chains.specs.Sound.{grid_of}
+use Rattle.go_game.proofs.Building.{front_all, front_none}
+use Rattle.go_game.proofs.start.built.Goals as goal
+
+pub loop-number-init : goal.loop-number-init
+loop-number-init g c =
+    let lines : c.new-board.result.lines ≡ c.args.grid.now.lines = c.new-board.ensures.lines ∙ c.size-size.ensures.lines in
+    record {
+      lines = lines;
+      kept = c.new-board.ensures.kept;
+      front = front_none c.args.grid.now.lines c.args.grid.now.colours (grid_of c.new-board.result)
+          (c.new-board.ensures.colours ∙ ap (λ m. let empty : Colouring = replicate (m * m) None in empty) c.size-size.ensures.lines);
+    }
+
+pub returns-clause-colours : goal.returns-clause-colours
+returns-clause-colours g c =
+    let n = c.args.grid.now.lines in
+    let square : lines_of c.size-size.result * lines_of c.size-size.result ≡ n * n = ap (λ m. let k : ℕ = m * m in k) c.size-size.ensures.lines in
+    front_all n c.args.grid.now.colours (grid_of c.loop-number.board) c.loop-number.number
+    (let a = c.loop-number-test.false in let b = c.points-number-end.ensures.value in omega arith)
+    (c.size-size.ensures.whole ∙ square) c.loop-number.invariant.front

@@ -1,0 +1,11 @@
+use Rattle.std.proofs.Common.{◌≡◌}
+use Rattle.go_chains.specs.Sound.{IsKept, grid_of}
+use Rattle.go_game.specs.Building.{IsFront}
+use Rattle.go_game.proofs.start.built.Given as goal
+
+abbrev pub invariant-loop-number : goal.invariant-loop-number
+invariant-loop-number g l = record {
+  lines : l.board.lines ≡ l.grid.lines;
+  kept : IsKept l.board.lines l.board.cells;
+  front : IsFront l.grid.lines l.grid.colours l.number (grid_of l.board);
+}

@@ -1,0 +1,61 @@
+ghost use Rattle.std.specs.Prelude.{◌≡◌, OnOk, OnErr};
+ghost use Rattle.go_game.specs.Histories.{IsBegun, IsChangedAt, IsUnchanged, number_at};
+
+use go_board::Packed;
+use std::alloc::{AllocError, Allocator};
+use std::collections::HashMap;
+use std::hash::{BuildHasherDefault, FoldHasher};
+
+/// After how many moves each colouring of a game stood first, by its pack. The start's is kept
+/// beside the others, so that a game without moves takes no memory.
+#[derive(Drop)]
+pub struct History<A: Allocator + Copy> {
+    start: Packed,
+    later: HashMap<Packed, usize, BuildHasherDefault<FoldHasher>, A>,
+}
+
+impl<A: Allocator + Copy> History<A> {
+    /// The history of a game without moves. It takes no memory.
+    pub fn new(alloc: A, start: Packed) -> History<A>
+        ensures { IsBegun result start }
+    {
+        History {
+            start,
+            later: HashMap::new(alloc),
+        }
+    }
+
+    /// After how many moves the colouring with this pack stood first, if it did.
+    pub fn find(&self, pack: &Packed) -> Option<usize>
+        ensures { result ≡ number_at self.now pack.now }
+    {
+        if self.start == *pack {
+            return Some(0);
+        }
+        self.later.get(pack).copied()
+    }
+
+    /// Notes that the colouring with this pack stands after so many moves.
+    pub fn remember(&mut self, pack: Packed, number: usize) -> Result<(), AllocError>
+        ensures ok { OnOk result (IsChangedAt self.old self.new pack (Some number)) }
+        ensures err { OnErr result (IsUnchanged self.old self.new) }
+    {
+        self.later.insert(pack, number)?;
+        Ok(())
+    }
+
+    /// Takes back what was noted of a pack. It takes no memory.
+    pub fn forget(&mut self, pack: &Packed)
+        ensures { IsChangedAt self.old self.new pack.now None }
+    {
+        self.later.remove(pack);
+    }
+
+    /// Begins anew. It takes no memory.
+    pub fn restart(&mut self, start: Packed)
+        ensures { IsBegun self.new start }
+    {
+        self.start = start;
+        self.later.clear();
+    }
+}

@@ -1,0 +1,72 @@
+use crate::history::History;
+use go_board::{Colour, Grid, Packed, Point, Size};
+use std::alloc::{AllocError, Global};
+use std::process::Abort;
+use std::test::Fail;
+
+/// The pack of a board with one stone, or of one with none where no point has this number.
+fn pack_with(rt: &impl Abort, number: u16) -> Packed {
+    let size = Size::new(19).expect(rt, "a size");
+    let mut grid = Grid::new(size);
+    if let Some(point) = Point::nth(size, number) {
+        grid.set(point, Some(Colour::White));
+    }
+    grid.pack()
+}
+
+const NO_STONE: u16 = 361;
+
+/// A history of so many stones on the empty board, each taken away by the next.
+fn history_of(rt: &impl Abort, alloc: Global, moves: u16) -> Result<History<Global>, AllocError> {
+    let mut history = History::new(alloc, pack_with(rt, NO_STONE));
+    for number in 0..moves {
+        history.remember(pack_with(rt, number), usize::from(number) + 1)?;
+    }
+    Ok(history)
+}
+
+#[test]
+fn what_is_noted_is_found(rt: HostRuntime) -> Result<(), Fail> {
+    let history = history_of(&rt, rt.alloc(), 300)?;
+    assert!(rt; history.find(&pack_with(&rt, NO_STONE)) == Some(0));
+    for number in 0..300u16 {
+        let found = history.find(&pack_with(&rt, number));
+        assert!(rt; found == Some(usize::from(number) + 1), "stone {number}");
+    }
+    for number in 300..NO_STONE {
+        assert!(rt;
+            history.find(&pack_with(&rt, number)).is_none(),
+            "stone {number}"
+        );
+    }
+    Ok(())
+}
+
+#[test]
+fn what_is_taken_back_is_not_found(rt: HostRuntime) -> Result<(), Fail> {
+    let mut history = history_of(&rt, rt.alloc(), 300)?;
+    for number in 150..300u16 {
+        history.forget(&pack_with(&rt, 449 - number));
+    }
+    history.forget(&pack_with(&rt, 320));
+    assert!(rt; history.find(&pack_with(&rt, NO_STONE)) == Some(0));
+    for number in 0..300u16 {
+        let found = history.find(&pack_with(&rt, number)).is_some();
+        assert!(rt; found == (number < 150), "stone {number}");
+    }
+    Ok(())
+}
+
+#[test]
+fn begun_anew_the_start_alone_is_found(rt: HostRuntime) -> Result<(), Fail> {
+    let mut history = history_of(&rt, rt.alloc(), 40)?;
+    history.restart(pack_with(&rt, 7));
+    for number in 0..NO_STONE {
+        let found = history.find(&pack_with(&rt, number)).is_some();
+        assert!(rt; found == (number == 7), "stone {number}");
+    }
+    assert!(rt; history.find(&pack_with(&rt, NO_STONE)).is_none());
+    history.remember(pack_with(&rt, NO_STONE), 1)?;
+    assert!(rt; history.find(&pack_with(&rt, NO_STONE)) == Some(1));
+    Ok(())
+}

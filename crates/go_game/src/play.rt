@@ -1,0 +1,184 @@
+//! Moves played and taken back.
+ghost use Rattle.std.specs.Prelude.{◌≡◌, ◌<◌, ◌++◌, ◌∷◌, ◌*◌, [], ◌↔◌, ℕ, Err, IfErr, IfNone, IfOk, IfSome, List, OnErr, OnOk, Some, None, Contains, ◌+◌, ◌⊎◌, length};
+ghost use Rattle.go_board.specs.Points.{IsOn};
+ghost use Rattle.go_chains.specs.declared.cells.TheConstants.{COUNT};
+ghost use Rattle.go_chains.specs.declared.log.Change.{Change};
+ghost use Rattle.go_chains.specs.Rewound.{IsRewound, NamesCells, rewound};
+ghost use Rattle.go_chains.specs.Sound.{IsKept, grid_of};
+ghost use Rattle.go_game.specs.Histories.{IsForgotten, IsNoted, IsUnchanged, KnowsAt, Lacks};
+ghost use Rattle.go_game.specs.Prisoners.{share_of};
+ghost use Rattle.go_game.specs.Standings.{IsLegal, IsOccupied, IsOffBoard, Repeats, with_move, without_last};
+ghost use Rattle.go_game.specs.Playing.{stones_taken};
+
+use crate::history::History;
+use crate::step::Step;
+use crate::{Game, PlayError};
+use go_board::laws::{packs_tell_colourings_apart, taken_and_left};
+use go_board::{Colour, Meter, Move, Point, Taken, Vertex};
+use go_chains::{Board, Log, PlaceError};
+use std::alloc::Allocator;
+
+impl<A: Allocator + Copy> Game<A> {
+    /// Plays a move: a pass, or a stone on an empty point of the board whose colouring didn't stand
+    /// before. Captured stones are taken, and then stones of the player's own that have no liberty.
+    /// A refused move changes nothing.
+    pub fn play(&mut self, made: Move) -> Result<Taken, PlayError>
+        ensures off_board { (result ≡ Err PlayError.OffBoard)
+            ↔ IsOffBoard self.old.standing made.vertex }
+        ensures occupied { (result ≡ Err PlayError.Occupied)
+            ↔ IsOccupied self.old.standing made.vertex }
+        ensures repeats { (k : ℕ) → result ≡ Err (PlayError.Repeats k)
+            → Repeats self.old.standing made.colour made.vertex k }
+        ensures legal { OnOk result (IsLegal self.old.standing made.colour made.vertex) }
+        ensures played { OnOk result (self.new.standing ≡ with_move self.old.standing made) }
+        ensures taken { IfOk result (λ taken. (of : Colour) → share_of made.colour taken of
+            ≡ stones_taken self.old.standing made.colour made.vertex of) }
+        ensures err { OnErr result (self.new ≡ self.old) }
+    {
+        match made.vertex {
+            Vertex::Pass => self.pass(made.colour),
+            Vertex::At(p) => self.put(made.colour, p),
+        }
+    }
+
+    /// Passes: always legal, refused for want of memory alone.
+    fn pass(&mut self, colour: Colour) -> Result<Taken, PlayError>
+        ensures ok { IfOk result (λ taken. (taken.theirs ≡ 0) × (taken.own ≡ 0)) }
+        ensures played { OnOk result (self.new.standing
+            ≡ with_move self.old.standing (record { colour = colour; vertex = Vertex.Pass })) }
+        ensures err { OnErr result (self.new ≡ self.old) }
+        ensures memory { IfErr result (λ e. e ≡ PlayError.Memory) }
+    {
+        let taken = Taken { theirs: 0, own: 0 };
+        let made = Move {
+            colour,
+            vertex: Vertex::Pass,
+        };
+        if self.steps.push(Step { made, taken }).is_err() {
+            return Err(PlayError::Memory);
+        }
+        Ok(taken)
+    }
+
+    /// Places a stone where that is legal. The board is played on first, and the play taken back
+    /// where its colouring stood before or there is no memory to keep it.
+    fn put(&mut self, colour: Colour, p: Point) -> Result<Taken, PlayError>
+        ensures off_board { (result ≡ Err PlayError.OffBoard)
+            ↔ (IsOn self.old.standing.lines p → ⊥) }
+        ensures occupied { (result ≡ Err PlayError.Occupied)
+            ↔ IsOccupied self.old.standing (Vertex.At p) }
+        ensures repeats { (k : ℕ) → result ≡ Err (PlayError.Repeats k)
+            → Repeats self.old.standing colour (Vertex.At p) k }
+        ensures legal { OnOk result (IsLegal self.old.standing colour (Vertex.At p)) }
+        ensures played { OnOk result (self.new.standing
+            ≡ with_move self.old.standing (record { colour = colour; vertex = Vertex.At p })) }
+        ensures taken { IfOk result (λ taken. (of : Colour) → share_of colour taken of
+            ≡ stones_taken self.old.standing colour (Vertex.At p) of) }
+        ensures err { OnErr result (self.new ≡ self.old) }
+    {
+        taken_and_left();
+        packs_tell_colourings_apart();
+        if !p.on(self.size()) {
+            return Err(PlayError::OffBoard);
+        }
+        let taken = match self.board.play(&mut self.log, &mut self.meter, colour, p) {
+            Ok(taken) => taken,
+            Err(PlaceError::Occupied) => return Err(PlayError::Occupied),
+            Err(PlaceError::Memory) => return Err(PlayError::Memory),
+        };
+        let made = Move {
+            colour,
+            vertex: Vertex::At(p),
+        };
+        let step = Step { made, taken };
+        match note(&self.board, &mut self.history, &mut self.steps, step) {
+            Ok(()) => {
+                self.prisoners.add(colour, taken);
+                Ok(taken)
+            }
+            Err(error) => {
+                self.board.rewind(&mut self.log, &mut self.meter);
+                Err(error)
+            }
+        }
+    }
+
+    /// Takes back the last move, and gives it. It takes no memory.
+    pub fn undo(&mut self) -> Option<Move>
+        ensures none { IfNone result ((self.old.standing.moves ≡ []) × (self.new ≡ self.old)) }
+        ensures some { IfSome result
+            (λ m. self.old.standing.moves ≡ self.new.standing.moves ++ m ∷ []) }
+        ensures after { self.new.standing ≡ without_last 1 self.old.standing }
+    {
+        packs_tell_colourings_apart();
+        let step = self.steps.pop()?;
+        match step.made.vertex {
+            Vertex::Pass => Some(step.made),
+            Vertex::At(_) => {
+                take_back(
+                    &mut self.board,
+                    &mut self.log,
+                    &mut self.meter,
+                    &mut self.history,
+                );
+                self.prisoners.give_back(step.made.colour, step.taken);
+                Some(step.made)
+            }
+        }
+    }
+}
+
+/// Notes a step in the history and among the steps, unless the board's colouring stood before.
+fn note<A: Allocator + Copy>(
+    board: &Board,
+    history: &mut History<A>,
+    steps: &mut Vec<Step, A>,
+    step: Step,
+) -> Result<(), PlayError>
+    ensures noted { OnOk result (IsNoted history.old history.new (grid_of board.now)
+        (length steps.old.items + 1)) }
+    ensures lacked { OnOk result (Lacks history.old (grid_of board.now)) }
+    ensures pushed { OnOk result (steps.new.items ≡ steps.old.items ++ step ∷ []) }
+    ensures repeats { (k : ℕ) → result ≡ Err (PlayError.Repeats k)
+        → KnowsAt history.old (grid_of board.now) k }
+    ensures history { OnErr result (IsUnchanged history.old history.new) }
+    ensures steps { OnErr result (steps.new.items ≡ steps.old.items) }
+    ensures others { IfErr result (λ e. (e ≡ PlayError.Memory)
+        ⊎ ((k : ℕ) × (e ≡ PlayError.Repeats k))) }
+{
+    let pack = board.grid().pack();
+    if let Some(number) = history.find(&pack) {
+        return Err(PlayError::Repeats(number));
+    }
+    if steps.reserve(1).is_err() {
+        return Err(PlayError::Memory);
+    }
+    if history.remember(pack, steps.len() + 1).is_err() {
+        return Err(PlayError::Memory);
+    }
+    let pushed = steps.push(step);
+    prove!(pushed.is_ok());
+    let _ = pushed;
+    Ok(())
+}
+
+/// Takes the last play off a board, and its colouring out of the history.
+fn take_back<A: Allocator + Copy>(
+    board: &mut Board,
+    log: &mut Log<A>,
+    meter: &mut Meter,
+    history: &mut History<A>,
+)
+    requires play { 0 < length log.old }
+    requires cells { (earlier : List (List Change)) (changes : List Change)
+        → log.old ≡ earlier ++ changes ∷ []
+        → NamesCells COUNT changes × IsKept board.old.lines (rewound board.old.cells changes) }
+    ensures rewound { (earlier : List (List Change)) (changes : List Change)
+        → log.old ≡ earlier ++ changes ∷ []
+        → IsRewound board.old board.new log.new earlier changes meter.old meter.new }
+    ensures forgotten { IsForgotten history.old history.new (grid_of board.old) }
+{
+    let pack = board.grid().pack();
+    history.forget(&pack);
+    board.rewind(log, meter);
+}
