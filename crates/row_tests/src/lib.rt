@@ -2,6 +2,8 @@
 #![tactic(auto)]
 
 #[cfg(test)]
+mod again;
+#[cfg(test)]
 mod board;
 #[cfg(test)]
 mod boards;
@@ -33,5 +35,7 @@ mod replays;
 mod scripts;
 #[cfg(test)]
 mod tidying;
+#[cfg(test)]
+mod turns;
 #[cfg(test)]
 mod watched;
