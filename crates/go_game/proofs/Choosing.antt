@@ -15,7 +15,7 @@ use Rattle.go_board.specs.Reaching.{moved}
 use Rattle.go_game.specs.declared.choice.Trial.{Trial}
 use Rattle.go_game.specs.Choices.{chosen, first_or_pass, is_better, lead_after, lead_of, lead_on, liberties_after, liberties_on, may_play, outranks, raises_margin}
 use Rattle.go_game.specs.Legal.{is_legal}
-use Rattle.go_game.specs.Standings.{GameValue, Standing, board_of, with_move}
+use Rattle.go_game.specs.Standings.{Standing, board_of, with_move}
 use Rattle.go_game.specs.Trials.{IsBestBelow, IsBestTrial, beats, better_of, trial_at, tried}
 use Rattle.go_game.proofs.Played.{board_push}
 
@@ -270,8 +270,8 @@ module _ (s : Standing) (c : Colour) (i : ℕ) where
       taken false under = (h.0, best_kept h.0 h.1 (λ legal. ap (beats (trial_at s c i)) (sym h.2) ∙ under), h.2)
 
 -- one turn of the search, over a game that stays as it was
-pub best_more : (start now : GameValue) (c : Colour) (i : ℕ) (best trial best' : Option Trial) → now ≡ start → IsBestTrial start.standing c i best → trial ≡ tried now.standing c i
-    → best' ≡ better_of best trial → IsBestTrial start.standing c (i + 1) best'
+pub best_more : (start now : Standing) (c : Colour) (i : ℕ) (best trial best' : Option Trial) → now ≡ start → IsBestTrial start c i best → trial ≡ tried now c i
+    → best' ≡ better_of best trial → IsBestTrial start c (i + 1) best'
 best_more start now c i best trial best' same h tried_here better =
-    subst (IsBestTrial start.standing c (i + 1)) (sym (better ∙ ap (better_of best) (tried_here ∙ ap (λ (v : GameValue). tried v.standing c i) same)))
-    (tried_next start.standing c i (may_play start.standing c i) best refl h)
+    subst (IsBestTrial start c (i + 1)) (sym (better ∙ ap (better_of best) (tried_here ∙ ap (λ (s : Standing). tried s c i) same)))
+    (tried_next start c i (may_play start c i) best refl h)

@@ -16,3 +16,4 @@ pub mod Beginning
 pub mod Turns
 pub mod Puts
 pub mod Undoing
+pub mod Counting

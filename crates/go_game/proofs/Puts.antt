@@ -17,6 +17,7 @@ use Rattle.go_board.specs.Grids.{GridValue}
 use Rattle.go_board.specs.Points.{IsOn, number_of}
 use Rattle.go_board.specs.Reaching.{after_clearing, cleared, moved, vanished}
 use Rattle.go_chains.specs.declared.log.Change.{Change}
+use Rattle.go_chains.specs.Playing.{most_of}
 use Rattle.go_chains.specs.Sound.{BoardValue, IsStoneOf, grid_of}
 use Rattle.go_game.specs.declared.history.History.{History}
 use Rattle.go_game.specs.declared.step.Step.{Step}
@@ -61,6 +62,9 @@ module _ {A : Type 0} (start : GridValue) (komi : ℤ) (first : Colour) (steps :
 
   pub moved_is : moved b.lines (grid_of b) c (number_of b.lines p) ≡ moved start.lines now c (number_of start.lines p)
   moved_is = let f : ℕ → Colouring → Colouring = λ m g. moved m g c (number_of m p) in seen_as f start komi first steps b log history black white k
+
+  pub most_is : most_of b.lines (grid_of b) c (number_of b.lines p) ≡ most_of start.lines now c (number_of start.lines p)
+  most_is = let f : ℕ → Colouring → ℕ = λ m g. most_of m g c (number_of m p) in seen_as f start komi first steps b log history black white k
 
   module _ (b' : BoardValue) (moved_to : grid_of b' ≡ moved b.lines (grid_of b) c (number_of b.lines p)) where
     then_is : grid_of b' ≡ moved start.lines now c (number_of start.lines p)

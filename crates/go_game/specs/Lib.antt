@@ -11,3 +11,5 @@ pub mod Held
 pub mod Trails
 pub mod Histories
 pub mod Building
+pub mod Changes
+pub mod Counts

@@ -12,6 +12,7 @@ use Rattle.go_board.specs.Colours.{Colouring, colour_at, other}
 use Rattle.go_board.specs.Grids.{GridValue}
 use Rattle.go_board.specs.Points.{IsOn, number_of}
 use Rattle.go_board.specs.Reaching.{moved, reaches}
+use Rattle.go_chains.specs.declared.log.Change.{Change}
 
 -- the size, the komi in hundredths, the colouring and the mover at the start, and the moves
 pub record Standing : Type 0 where
@@ -21,9 +22,13 @@ pub record Standing : Type 0 where
   pub first : Colour
   pub moves : List Move
 
--- what contracts see of a game
+-- what contracts see of a game: what it stands for, the cells of its board, the changes of each move that stands, and how many
+-- cells were read or written
 pub record GameValue : Type 0 where
   pub standing : Standing
+  pub cells : List ℕ
+  pub changes : List (List Change)
+  pub count : ℕ
 
 -- the colouring that a turn leaves: a pass leaves it as it is
 abbrev pub after_vertex : ℕ → Colouring → Colour → Vertex → Colouring

@@ -1,6 +1,6 @@
 //! What is legal, and the plain choice of a play: by trials on the game itself, each of which is
 //! taken back.
-ghost use Rattle.std.specs.Prelude.{◌≡◌, ◌<◌, ◌*◌, ◌↔◌, ◌-ℤ◌, pos, IfOk, IsTrue, OnErr, if◌then◌else◌};
+ghost use Rattle.std.specs.Prelude.{◌≡◌, ◌<◌, ◌*◌, ◌↔◌, ◌-ℤ◌, pos, false, true, IfOk, IsTrue, OnErr, if◌then◌else◌};
 ghost use Rattle.go_game.specs.Trials.{better_of};
 
 use crate::{Game, PlayError};
@@ -48,6 +48,7 @@ fn ahead(own: u16, theirs: u16) -> i32
 
 impl<A: Allocator + Copy> Game<A> {
     ghost use Rattle.go_game.specs.Choices.{chosen, lead_of};
+    ghost use Rattle.go_game.specs.Counts.{IsAsBefore, IsLogged, most_for};
     ghost use Rattle.go_game.specs.Legal.{is_legal};
     ghost use Rattle.go_game.specs.Standings.{IsLegal, with_move};
     ghost use Rattle.go_game.specs.Trials.{IsBestTrial, tried};
@@ -59,7 +60,7 @@ impl<A: Allocator + Copy> Game<A> {
             (λ legal. IsTrue legal ↔ IsLegal self.old.standing made.colour made.vertex) }
         ensures test { IfOk result
             (λ legal. legal ≡ is_legal self.old.standing made.colour made.vertex) }
-        ensures same { self.new ≡ self.old }
+        ensures same { IsAsBefore self.old self.new }
     {
         let legal = self.try_play(made)?;
         if legal {
@@ -74,7 +75,10 @@ impl<A: Allocator + Copy> Game<A> {
             (λ legal. legal ≡ is_legal self.old.standing made.colour made.vertex) }
         ensures played { IfOk result (λ legal. self.new.standing
             ≡ (if legal then with_move self.old.standing made else self.old.standing)) }
-        ensures err { OnErr result (self.new ≡ self.old) }
+        ensures refused { IfOk result (λ legal. legal ≡ false → IsAsBefore self.old self.new) }
+        ensures logged { IfOk result (λ legal. legal ≡ true → IsLogged self.old self.new
+            (most_for self.old.standing made.colour made.vertex)) }
+        ensures err { OnErr result (IsAsBefore self.old self.new) }
     {
         match self.play(made) {
             Ok(_) => Ok(true),
@@ -91,7 +95,7 @@ impl<A: Allocator + Copy> Game<A> {
     /// tried on the game, and taken back also where there was no memory for it.
     pub fn choose(&mut self, colour: Colour) -> Result<Vertex, AllocError>
         ensures ok { IfOk result (λ vertex. vertex ≡ chosen self.old.standing colour) }
-        ensures same { self.new ≡ self.old }
+        ensures same { IsAsBefore self.old self.new }
     {
         let present = self.lead(colour);
         match self.best_trial(colour)? {
@@ -104,7 +108,7 @@ impl<A: Allocator + Copy> Game<A> {
     fn best_trial(&mut self, colour: Colour) -> Result<Option<Trial>, AllocError>
         ensures ok { IfOk result (IsBestTrial self.old.standing colour
             (self.old.standing.lines * self.old.standing.lines)) }
-        ensures same { self.new ≡ self.old }
+        ensures same { IsAsBefore self.old self.new }
     {
         let size = self.size();
         let mut best = None;
@@ -119,7 +123,7 @@ impl<A: Allocator + Copy> Game<A> {
     fn try_at(&mut self, colour: Colour, number: u16) -> Result<Option<Trial>, AllocError>
         requires { number < self.old.standing.lines * self.old.standing.lines }
         ensures ok { IfOk result (λ trial. trial ≡ tried self.old.standing colour number) }
-        ensures same { self.new ≡ self.old }
+        ensures same { IsAsBefore self.old self.new }
     {
         let point = Point::numbered(self.size(), number);
         let vertex = Vertex::At(point);

@@ -30,11 +30,18 @@ pub struct Game<A: Allocator + Copy> {
 
 impl<A: Allocator + Copy> Model for Game<A> {
     ghost use Rattle.go_game.specs.Standings.{GameValue};
-    ghost use Rattle.go_game.specs.Held.{IsKeeping, standing_of};
+    ghost use Rattle.std.specs.Prelude.{map};
+    ghost use Rattle.go_game.specs.Changes.{changes_of};
+    ghost use Rattle.go_game.specs.Held.{IsKeeping, made_of, standing_of};
 
     ghost Value = { GameValue };
 
-    ghost view = { λ a. record { standing = standing_of a.start a.komi a.first a.steps.items } };
+    ghost view = { λ a. record {
+      standing = standing_of a.start a.komi a.first a.steps.items;
+      cells = a.board.cells;
+      changes = changes_of (map made_of a.steps.items) a.log;
+      count = a.meter;
+    } };
 
     ghost invariant = { λ a. IsKeeping a.start a.komi a.first a.steps.items a.board a.log
         a.history a.prisoners.black a.prisoners.white };
@@ -49,6 +56,7 @@ impl<A: Allocator + Copy> Game<A> {
     ghost use Rattle.go_board.specs.declared.colour.Colour.{Colour};
     ghost use Rattle.go_board.specs.declared.point.Point.{Point};
     ghost use Rattle.go_board.specs.declared.size.TheConstants.{MAX_POINTS};
+    ghost use Rattle.go_chains.specs.Sound.{IsKept, colouring_of};
     ghost use Rattle.go_game.specs.Choices.{liberties_on};
     ghost use Rattle.go_game.specs.Held.{IsPlayed};
     ghost use Rattle.go_game.specs.Prisoners.{share_of};
@@ -58,7 +66,8 @@ impl<A: Allocator + Copy> Game<A> {
 
     /// An empty board, Black to move, komi 0.
     pub fn new(alloc: A, size: Size) -> Game<A>
-        ensures { IsEmptyStart result.standing (lines_of size) (pos 0) }
+        ensures start { IsEmptyStart result.standing (lines_of size) (pos 0) }
+        ensures count { result.count ≡ 0 }
     {
         packs_tell_colourings_apart();
         let start = Grid::new(size);
@@ -80,6 +89,10 @@ impl<A: Allocator + Copy> Game<A> {
     pub fn size(&self) -> Size
         ensures lines { lines_of result ≡ self.now.standing.lines }
         ensures sound { IsSound self.now.standing }
+        ensures kept { IsKept self.now.standing.lines self.now.cells }
+        ensures colours { colouring_of self.now.standing.lines self.now.cells
+            ≡ board_of self.now.standing }
+        ensures changes { length self.now.changes ≡ length self.now.standing.moves }
     {
         self.start.size()
     }
@@ -94,7 +107,8 @@ impl<A: Allocator + Copy> Game<A> {
     /// Sets the komi, in hundredths of a point. It is no move: undo leaves it.
     pub fn set_komi(&mut self, komi: i64)
         requires { IsKomi komi }
-        ensures { self.new.standing ≡ record self.old.standing { komi = komi } }
+        ensures komi { self.new.standing ≡ record self.old.standing { komi = komi } }
+        ensures others { self.new ≡ record self.old { standing = self.new.standing } }
     {
         self.komi = komi;
     }
@@ -140,14 +154,17 @@ impl<A: Allocator + Copy> Game<A> {
 
     /// Back to the empty board, Black to move. The komi stays.
     pub fn clear(&mut self)
-        ensures { IsEmptyStart self.new.standing self.old.standing.lines self.old.standing.komi }
+        ensures start { IsEmptyStart self.new.standing self.old.standing.lines
+            self.old.standing.komi }
+        ensures count { self.new.count ≡ self.old.count }
     {
         self.resize(self.size());
     }
 
     /// An empty board of this size, Black to move. The komi stays.
     pub fn resize(&mut self, size: Size)
-        ensures { IsEmptyStart self.new.standing (lines_of size) self.old.standing.komi }
+        ensures start { IsEmptyStart self.new.standing (lines_of size) self.old.standing.komi }
+        ensures count { self.new.count ≡ self.old.count }
     {
         packs_tell_colourings_apart();
         let alloc = *self.steps.allocator();

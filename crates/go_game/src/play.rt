@@ -1,10 +1,11 @@
 //! Moves played and taken back.
-ghost use Rattle.std.specs.Prelude.{◌≡◌, ◌<◌, ◌++◌, ◌∷◌, ◌*◌, [], ◌↔◌, ℕ, Err, IfErr, IfNone, IfOk, IfSome, List, OnErr, OnOk, Some, None, Contains, ◌+◌, ◌⊎◌, length};
+ghost use Rattle.std.specs.Prelude.{◌≡◌, ◌<◌, ◌≤◌, ◌++◌, ◌∷◌, ◌*◌, [], ◌↔◌, ℕ, Err, IfErr, IfNone, IfOk, IfSome, List, OnErr, OnOk, Some, None, Contains, ◌+◌, ◌⊎◌, length};
 ghost use Rattle.go_board.specs.Points.{IsOn};
 ghost use Rattle.go_chains.specs.declared.cells.TheConstants.{COUNT};
 ghost use Rattle.go_chains.specs.declared.log.Change.{Change};
 ghost use Rattle.go_chains.specs.Rewound.{IsRewound, NamesCells, rewound};
 ghost use Rattle.go_chains.specs.Sound.{IsKept, grid_of};
+ghost use Rattle.go_game.specs.Counts.{IsAsBefore, IsLogged, IsTakenBack, most_for};
 ghost use Rattle.go_game.specs.Histories.{IsForgotten, IsNoted, IsUnchanged, KnowsAt, Lacks};
 ghost use Rattle.go_game.specs.Prisoners.{share_of};
 ghost use Rattle.go_game.specs.Standings.{IsLegal, IsOccupied, IsOffBoard, Repeats, with_move, without_last};
@@ -33,7 +34,16 @@ impl<A: Allocator + Copy> Game<A> {
         ensures played { OnOk result (self.new.standing ≡ with_move self.old.standing made) }
         ensures taken { IfOk result (λ taken. (of : Colour) → share_of made.colour taken of
             ≡ stones_taken self.old.standing made.colour made.vertex of) }
-        ensures err { OnErr result (self.new ≡ self.old) }
+        ensures err { OnErr result (IsAsBefore self.old self.new) }
+        ensures logged { OnOk result (IsLogged self.old self.new
+            (most_for self.old.standing made.colour made.vertex)) }
+        ensures count { OnOk result (self.new.count
+            ≤ self.old.count + 3 * most_for self.old.standing made.colour made.vertex) }
+        ensures refused { OnErr result (self.new.count
+            ≤ self.old.count + 4 * most_for self.old.standing made.colour made.vertex) }
+        ensures uncounted { (result ≡ Err PlayError.OffBoard) ⊎ (result ≡ Err PlayError.Occupied)
+            → self.new.count ≡ self.old.count }
+        ensures pass { made.vertex ≡ Vertex.Pass → self.new.count ≡ self.old.count }
     {
         match made.vertex {
             Vertex::Pass => self.pass(made.colour),
@@ -48,6 +58,8 @@ impl<A: Allocator + Copy> Game<A> {
             ≡ with_move self.old.standing (record { colour = colour; vertex = Vertex.Pass })) }
         ensures err { OnErr result (self.new ≡ self.old) }
         ensures memory { IfErr result (λ e. e ≡ PlayError.Memory) }
+        ensures logged { OnOk result (IsLogged self.old self.new 0) }
+        ensures count { self.new.count ≡ self.old.count }
     {
         let taken = Taken { theirs: 0, own: 0 };
         let made = Move {
@@ -74,12 +86,23 @@ impl<A: Allocator + Copy> Game<A> {
             ≡ with_move self.old.standing (record { colour = colour; vertex = Vertex.At p })) }
         ensures taken { IfOk result (λ taken. (of : Colour) → share_of colour taken of
             ≡ stones_taken self.old.standing colour (Vertex.At p) of) }
-        ensures err { OnErr result (self.new ≡ self.old) }
+        ensures err { OnErr result (IsAsBefore self.old self.new) }
+        ensures logged { OnOk result (IsLogged self.old self.new
+            (most_for self.old.standing colour (Vertex.At p))) }
+        ensures count { OnOk result (self.new.count
+            ≤ self.old.count + 3 * most_for self.old.standing colour (Vertex.At p)) }
+        ensures refused { OnErr result (self.new.count
+            ≤ self.old.count + 4 * most_for self.old.standing colour (Vertex.At p)) }
+        ensures uncounted { (result ≡ Err PlayError.OffBoard) ⊎ (result ≡ Err PlayError.Occupied)
+            → self.new.count ≡ self.old.count }
     {
         taken_and_left();
         packs_tell_colourings_apart();
         if !p.on(self.size()) {
             return Err(PlayError::OffBoard);
+        }
+        if self.board.colour_at(p).is_some() {
+            return Err(PlayError::Occupied);
         }
         let taken = match self.board.play(&mut self.log, &mut self.meter, colour, p) {
             Ok(taken) => taken,
@@ -109,6 +132,7 @@ impl<A: Allocator + Copy> Game<A> {
         ensures some { IfSome result
             (λ m. self.old.standing.moves ≡ self.new.standing.moves ++ m ∷ []) }
         ensures after { self.new.standing ≡ without_last 1 self.old.standing }
+        ensures back { IfSome result (λ m. IsTakenBack self.old self.new) }
     {
         packs_tell_colourings_apart();
         let step = self.steps.pop()?;

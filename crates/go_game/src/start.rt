@@ -23,6 +23,7 @@ impl<A: Allocator + Copy> Game<A> {
     /// A game that starts from this grid, with komi 0 and this colour to move.
     pub fn start_from(alloc: A, grid: &Grid, first: Colour) -> Result<Game<A>, SetupError>
         ensures ok { IfOk result (λ game. game.standing ≡ started grid.now first) }
+        ensures count { IfOk result (λ game. game.count ≡ 0) }
         ensures no_liberty { (p : Point) → result ≡ Err (SetupError.NoLiberty p)
             → IsFirstDead grid.now.lines grid.now.colours p }
         ensures alive { OnOk result ((k : ℕ) → k < grid.now.lines * grid.now.lines

@@ -1,6 +1,7 @@
 ghost use Rattle.std.specs.Prelude.{◌≡◌, ◌<◌, ◌*◌, [], IfOk, false, if◌then◌else◌, replicate, slice_index_or};
 ghost use Rattle.go_board.specs.Device.{Adds, place};
 ghost use Rattle.go_board.specs.Sizes.{lines_of};
+ghost use Rattle.go_game.specs.Counts.{IsAsBefore};
 ghost use Rattle.goref_results.specs.ChainLines.{spaced_vertex};
 ghost use Rattle.goref_results.specs.Plays.{marked_plays, plays_text};
 ghost use Rattle.goref_results.specs.Results.{result_text};
@@ -26,7 +27,7 @@ pub fn legal_plays<A: Allocator + Copy>(
     colour: Colour,
 ) -> Result<Plays, AllocError>
     ensures ok { IfOk result (λ plays. plays ≡ marked_plays game.old.standing colour) }
-    ensures same { game.new ≡ game.old }
+    ensures same { IsAsBefore game.old game.new }
 {
     let size = game.size();
     let mut plays = no_plays();

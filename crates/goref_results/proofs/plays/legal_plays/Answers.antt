@@ -4,6 +4,7 @@ use Rattle.go_board.specs.declared.vertex.Vertex.TheVariants.{At}
 use Rattle.go_board.specs.Points.{point_at}
 use Rattle.go_game.specs.Choices.{may_play}
 use Rattle.go_game.specs.Legal.{is_legal}
+use Rattle.go_game.specs.Standings.{Standing}
 use Rattle.goref_results.specs.Plays.{marked_below}
 use Rattle.goref_results.proofs.Marking.{mark_more}
 use Rattle.goref_results.proofs.plays.legal_plays.Goals as goal
@@ -13,12 +14,16 @@ loop-number-preserved g c =
     let s = c.args.game.now.standing in
     let k = c.loop-number.number in
     let is : c.in_ok-plays.field-0 ≡ may_play s c.args.colour k =
-    c.in_ok-plays.ensures.test ∙ ap (λ game. is_legal game.standing c.args.colour (At c.numbered.result)) c.loop-number.invariant.same
+    c.in_ok-plays.ensures.test ∙ ap (λ (now : Standing). is_legal now c.args.colour (At c.numbered.result)) c.loop-number.invariant.same.standing
     ∙ ap (λ p. is_legal s c.args.colour (At p)) (c.numbered.ensures.value ∙ ap (λ n. point_at n k) c.size-size.ensures.lines) in
     record {
       plays = rw (c.from.ensures, c.loop-number.invariant.plays)
           (mark_more (may_play s c.args.colour) MAX_POINTS k c.in_ok-plays.field-0 (omega (arith, c.loop-number-test.true, c.points-number-end.ensures.range)) is);
-      same = c.in_ok-plays.ensures.same ∙ c.loop-number.invariant.same;
+      same = record {
+        standing = c.in_ok-plays.ensures.same.standing ∙ c.loop-number.invariant.same.standing;
+        cells = c.in_ok-plays.ensures.same.cells ∙ c.loop-number.invariant.same.cells;
+        changes = c.in_ok-plays.ensures.same.changes ∙ c.loop-number.invariant.same.changes;
+      };
     }
 
 pub returns-clause-ok : goal.returns-clause-ok

@@ -1,14 +1,18 @@
-use Rattle.std.proofs.Common.{arith, ◌∙◌, ℕ, refl, sym, ap, subst}
+use Rattle.std.proofs.Common.{arith, ◌≡◌, ◌∙◌, ℕ, refl, sym, ap, subst}
 use Rattle.std.proofs.Math.ListN.{length-map}
 use Rattle.go_board.specs.declared.vertex.Vertex.TheVariants.{At}
 use Rattle.go_board.specs.Colours.{colour_at}
 use Rattle.go_board.specs.Points.{IsOn, number_of}
 use Rattle.go_chains.specs.Sound.{grid_of}
+use Rattle.go_chains.specs.Playing.{most_of}
+use Rattle.go_game.specs.Counts.{IsLogged, most_for}
 use Rattle.go_game.specs.Held.{made_of}
 use Rattle.go_game.specs.Playing.{stones_taken}
 use Rattle.go_game.specs.Standings.{GameValue, IsLegal, Repeats, board_of}
+use Rattle.go_game.proofs.Counting.{logged_put, seen}
+use Rattle.go_game.proofs.Keeping.{some_of}
 use Rattle.go_game.proofs.Played.{room_held}
-use Rattle.go_game.proofs.Puts.{colour_is, free_memory, free_ok, noted_apart, occupied_stone, same_error, legal_put, played_put, repeats_put, some_stone, stone_some, taken_put, whole_put}
+use Rattle.go_game.proofs.Puts.{colour_is, free_memory, free_ok, most_is, noted_apart, occupied_stone, same_error, legal_put, played_put, repeats_put, some_stone, stone_some, taken_put, whole_put}
 use Rattle.go_game.proofs.Turns.{keep_put, placed, rewinds}
 use Rattle.go_game.proofs.game.Game.put.Goals as goal
 
@@ -86,7 +90,7 @@ invariant_of-self-in-Ok-note g c =
     (record {
       lines = c.play.ensures.lines;
       moved_to = c.in-Ok.ensures.moved;
-      most = _;
+      most = most_of c.self.inside.board.lines (grid_of c.self.inside.board) c.args.colour (number_of c.self.inside.board.lines c.args.p);
       logged = c.in-Ok.ensures.logged;
       kept = c.play.ensures.kept;
       whole = whole_put c.self.inside.start c.self.inside.komi c.self.inside.first c.self.inside.steps.items c.self.inside.board c.self.inside.log c.self.inside.history c.self.inside.prisoners.black c.self.inside.prisoners.white c.self.invariant c.args.colour c.args.p c.play.new.self c.in-Ok.ensures.moved c.play.ensures.lines;
@@ -95,3 +99,44 @@ invariant_of-self-in-Ok-note g c =
     })
     (played_put c.self.inside.start c.self.inside.komi c.self.inside.first c.self.inside.steps.items c.self.inside.board c.self.inside.log c.self.inside.history c.self.inside.prisoners.black c.self.inside.prisoners.white c.self.invariant c.args.colour c.args.p c.play.new.self c.in-Ok.ensures.moved c.in-Ok.taken c.in-Ok.ensures.theirs c.in-Ok.ensures.own on free)
     (legal_put c.self.inside.start c.self.inside.komi c.self.inside.first c.self.inside.steps.items c.self.inside.board c.self.inside.log c.self.inside.history c.self.inside.prisoners.black c.self.inside.prisoners.white c.self.invariant c.args.colour c.args.p c.play.new.self c.in-Ok.ensures.moved on free c.in-Ok-note.ensures.lacked) c.add.ensures.black c.add.ensures.white
+
+pub returns-in-Ok-note-clause-logged : goal.returns-in-Ok-note-clause-logged
+returns-in-Ok-note-clause-logged g c =
+    let most : most_of c.self.inside.board.lines (grid_of c.self.inside.board) c.args.colour (number_of c.self.inside.board.lines c.args.p) ≡ most_for c.args.self.now.standing c.args.colour (At c.args.p) =
+    most_is c.self.inside.start c.self.inside.komi c.self.inside.first c.self.inside.steps.items c.self.inside.board c.self.inside.log c.self.inside.history c.self.inside.prisoners.black c.self.inside.prisoners.white c.self.invariant c.args.colour c.args.p ∙ ap (λ (v : GameValue). most_for v.standing c.args.colour (At c.args.p)) c.self.view_is in
+    let before : c.self.inside.meter ≡ c.args.self.now.count = ap (λ (v : GameValue). v.count) c.self.view_is in
+    let new : GameValue = seen c.self.inside.start c.self.inside.komi c.self.inside.first c.note.new.steps.items c.play.new.self c.play.new.log c.play.new.meter in
+    subst (λ (v : GameValue). IsLogged v new (most_for c.args.self.now.standing c.args.colour (At c.args.p))) c.self.view_is
+    (logged_put c.self.inside.start c.self.inside.komi c.self.inside.first c.self.inside.steps.items c.self.inside.board c.self.inside.log c.self.inside.history c.self.inside.prisoners.black c.self.inside.prisoners.white c.self.invariant c.note.new.steps.items (placed c.args.colour c.args.p c.in-Ok.taken) c.in-Ok-note.ensures.pushed c.args.p refl
+    c.play.new.self c.play.new.log (most_of c.self.inside.board.lines (grid_of c.self.inside.board) c.args.colour (number_of c.self.inside.board.lines c.args.p)) (most_for c.args.self.now.standing c.args.colour (At c.args.p)) c.self.inside.meter c.play.new.meter c.in-Ok.ensures.logged most)
+
+pub returns-in-Ok-note-clause-count : goal.returns-in-Ok-note-clause-count
+returns-in-Ok-note-clause-count g c =
+    let most : most_of c.self.inside.board.lines (grid_of c.self.inside.board) c.args.colour (number_of c.self.inside.board.lines c.args.p) ≡ most_for c.args.self.now.standing c.args.colour (At c.args.p) =
+    most_is c.self.inside.start c.self.inside.komi c.self.inside.first c.self.inside.steps.items c.self.inside.board c.self.inside.log c.self.inside.history c.self.inside.prisoners.black c.self.inside.prisoners.white c.self.invariant c.args.colour c.args.p ∙ ap (λ (v : GameValue). most_for v.standing c.args.colour (At c.args.p)) c.self.view_is in
+    let before : c.self.inside.meter ≡ c.args.self.now.count = ap (λ (v : GameValue). v.count) c.self.view_is in
+    let ticks = c.play.ensures.count in omega (arith, most, before, ticks)
+
+pub returns-in-Err-Memory-clause-refused : goal.returns-in-Err-Memory-clause-refused
+returns-in-Err-Memory-clause-refused g c =
+    let most : most_of c.self.inside.board.lines (grid_of c.self.inside.board) c.args.colour (number_of c.self.inside.board.lines c.args.p) ≡ most_for c.args.self.now.standing c.args.colour (At c.args.p) =
+    most_is c.self.inside.start c.self.inside.komi c.self.inside.first c.self.inside.steps.items c.self.inside.board c.self.inside.log c.self.inside.history c.self.inside.prisoners.black c.self.inside.prisoners.white c.self.invariant c.args.colour c.args.p ∙ ap (λ (v : GameValue). most_for v.standing c.args.colour (At c.args.p)) c.self.view_is in
+    let before : c.self.inside.meter ≡ c.args.self.now.count = ap (λ (v : GameValue). v.count) c.self.view_is in
+    let ticks = c.play.ensures.count in omega (arith, most, before, ticks)
+
+pub returns-in-Err-clause-refused : goal.returns-in-Err-clause-refused
+returns-in-Err-clause-refused g c =
+    let most : most_of c.self.inside.board.lines (grid_of c.self.inside.board) c.args.colour (number_of c.self.inside.board.lines c.args.p) ≡ most_for c.args.self.now.standing c.args.colour (At c.args.p) =
+    most_is c.self.inside.start c.self.inside.komi c.self.inside.first c.self.inside.steps.items c.self.inside.board c.self.inside.log c.self.inside.history c.self.inside.prisoners.black c.self.inside.prisoners.white c.self.invariant c.args.colour c.args.p ∙ ap (λ (v : GameValue). most_for v.standing c.args.colour (At c.args.p)) c.self.view_is in
+    let before : c.self.inside.meter ≡ c.args.self.now.count = ap (λ (v : GameValue). v.count) c.self.view_is in
+    let ticks = c.play.ensures.count in
+    let logged = c.in-Ok.ensures.logged in
+    let few = logged.few in
+    let back = (c.rewind.ensures.rewound c.self.inside.log logged.changes logged.gained).count in
+    omega (arith, most, before, ticks, few, back)
+
+pub returns-then-is_some-clause-occupied : goal.returns-then-is_some-clause-occupied
+returns-then-is_some-clause-occupied g c =
+    let on_now : IsOn c.args.self.now.standing.lines c.args.p = subst (λ (m : ℕ). IsOn m c.args.p) c.size.ensures.lines (c.on.ensures.0 c.if-not-on.false) in
+    let seen = colour_is c.self.inside.start c.self.inside.komi c.self.inside.first c.self.inside.steps.items c.self.inside.board c.self.inside.log c.self.inside.history c.self.inside.prisoners.black c.self.inside.prisoners.white c.self.invariant c.args.colour c.args.p ∙ ap (λ (v : GameValue). colour_at (board_of v.standing) (number_of v.standing.lines c.args.p)) c.self.view_is in
+    ((λ e. (on_now, stone_some (colour_at (grid_of c.self.inside.board) (number_of c.self.inside.board.lines c.args.p)) (colour_at (board_of c.args.self.now.standing) (number_of c.args.self.now.standing.lines c.args.p)) seen (let s = some_of c.colour_at.result (sym c.is_some.ensures ∙ c.if-is_some.true) in (s.0, sym c.colour_at.ensures ∙ s.1)))), λ h. refl)

@@ -1,0 +1,104 @@
+-- What a move's changes are among those of a game, and what taking it back gives.
+use Rattle.std.proofs.Common.{arith, ◌≡◌, ◌≤◌, ◌+◌, ◌∙◌, ℕ, ℤ, List, [], ◌∷◌, ◌++◌, length, map, refl, sym, ap, ap₂, subst}
+use Rattle.std.proofs.lemmas.List.{append-nil, same_from_push}
+use Rattle.go_board.specs.declared.colour.Colour.{Colour}
+use Rattle.go_board.specs.declared.point.Point.{Point}
+use Rattle.go_board.specs.declared.vertex.Move.{Move}
+use Rattle.go_board.specs.declared.vertex.Vertex.{Vertex}
+use Rattle.go_board.specs.declared.vertex.Vertex.TheVariants.{Pass, At}
+use Rattle.go_board.specs.Grids.{GridValue}
+use Rattle.go_chains.specs.declared.log.Change.{Change}
+use Rattle.go_chains.specs.Rewound.{PlayLogged, rewound}
+use Rattle.go_chains.specs.Sound.{BoardValue}
+use Rattle.go_game.specs.declared.history.History.{History}
+use Rattle.go_game.specs.declared.step.Step.{Step}
+use Rattle.go_game.specs.Changes.{changes_of, own_changes, plays_behind}
+use Rattle.go_game.specs.Counts.{IsAsBefore, IsLogged, IsTakenBack}
+use Rattle.go_game.specs.Held.{IsKeeping, made_of, standing_of}
+use Rattle.go_game.specs.Standings.{GameValue}
+use Rattle.go_game.specs.Trails.{IsTurn, WentThrough}
+use Rattle.go_game.proofs.Played.{made_push}
+
+own_more : (n : ℕ) (cells : List ℕ) (c : Colour) (v : Vertex) (plays : List (List Change)) (next : List ℕ) (rest tail : List (List Change)) → IsTurn n cells c v plays next rest → own_changes v (plays ++ tail) ≡ own_changes v plays
+own_more n cells c Pass plays next rest tail turn = refl
+own_more n cells c (At p) plays next rest tail turn =
+    ap (λ (l : List (List Change)). own_changes (At p) (l ++ tail)) turn.1 ∙ sym (ap (λ (l : List (List Change)). own_changes (At p) l) turn.1)
+
+behind_is : (n : ℕ) (cells : List ℕ) (c : Colour) (v : Vertex) (plays : List (List Change)) (next : List ℕ) (rest : List (List Change)) → IsTurn n cells c v plays next rest → plays_behind v plays ≡ rest
+behind_is n cells c Pass plays next rest turn = sym turn.1
+behind_is n cells c (At p) plays next rest turn = ap (λ (l : List (List Change)). plays_behind (At p) l) turn.1
+
+behind_more : (n : ℕ) (cells : List ℕ) (c : Colour) (v : Vertex) (plays : List (List Change)) (next : List ℕ) (rest tail : List (List Change)) → IsTurn n cells c v plays next rest → plays_behind v (plays ++ tail) ≡ rest ++ tail
+behind_more n cells c Pass plays next rest tail turn = ap (λ (l : List (List Change)). l ++ tail) (sym turn.1)
+behind_more n cells c (At p) plays next rest tail turn = ap (λ (l : List (List Change)). plays_behind (At p) (l ++ tail)) turn.1
+
+-- one move more has its changes behind those of the earlier ones
+changes_push : (n : ℕ) (first : List ℕ) (moves : List Move) (plays : List (List Change)) (last : List ℕ) (m : Move) (tail : List (List Change))
+    → WentThrough n first moves plays last → changes_of (moves ++ m ∷ []) (plays ++ tail) ≡ changes_of moves plays ++ own_changes m.vertex tail ∷ []
+changes_push n first [] plays last m tail went = ap (λ (l : List (List Change)). own_changes m.vertex (l ++ tail) ∷ []) went.0
+changes_push n first (x ∷ moves) plays last m tail went =
+    let own : List Change = own_changes x.vertex plays in
+    ap₂ (λ (mine : List Change) (l : List (List Change)). mine ∷ changes_of (moves ++ m ∷ []) l) (own_more n first x.colour x.vertex plays went.0 went.1 tail went.2) (behind_more n first x.colour x.vertex plays went.0 went.1 tail went.2)
+    ∙ ap (λ (l : List (List Change)). own ∷ l) (changes_push n went.0 moves went.1 last m tail went.3)
+    ∙ ap (λ (l : List (List Change)). own ∷ changes_of moves l ++ own_changes m.vertex tail ∷ []) (sym (behind_is n first x.colour x.vertex plays went.0 went.1 went.2))
+
+-- each move has its changes
+pub as_many : (moves : List Move) (plays : List (List Change)) → length (changes_of moves plays) ≡ length moves
+as_many [] plays = refl
+as_many (m ∷ moves) plays = let same = as_many moves (plays_behind m.vertex plays) in omega (arith, same)
+
+-- what contracts see of what a game keeps
+abbrev pub seen : GridValue → ℤ → Colour → List Step → BoardValue → List (List Change) → ℕ → GameValue
+seen start komi first steps b log count = record { standing = standing_of start komi first steps; cells = b.cells; changes = changes_of (map made_of steps) log; count = count }
+
+module _ {A : Type 0} (start : GridValue) (komi : ℤ) (first : Colour) (steps : List Step) (b : BoardValue) (log : List (List Change)) (history : History A) (black white : ℕ)
+    (k : IsKeeping start komi first steps b log history black white) (more : List Step) (s : Step) (is : more ≡ steps ++ s ∷ []) where
+  all : map made_of more ≡ map made_of steps ++ made_of s ∷ []
+  all = ap (λ (xs : List Step). map made_of xs) is ∙ made_push steps s
+
+  changes_pass : s.made.vertex ≡ Pass → changes_of (map made_of more) log ≡ changes_of (map made_of steps) log ++ [] ∷ []
+  changes_pass pass =
+      ap (λ (ms : List Move). changes_of ms log) all
+      ∙ ap (λ (l : List (List Change)). changes_of (map made_of steps ++ made_of s ∷ []) l) (sym (append-nil log))
+      ∙ changes_push start.lines k.tracked.first (map made_of steps) log b.cells (made_of s) [] k.tracked.went
+      ∙ ap (λ (v : Vertex). changes_of (map made_of steps) log ++ own_changes v [] ∷ []) pass
+
+  changes_put : (p : Point) → s.made.vertex ≡ At p → (log' : List (List Change)) (own : List Change) → log' ≡ log ++ own ∷ [] → changes_of (map made_of more) log' ≡ changes_of (map made_of steps) log ++ own ∷ []
+  changes_put p at log' own gained =
+      ap₂ changes_of all gained
+      ∙ changes_push start.lines k.tracked.first (map made_of steps) log b.cells (made_of s) (own ∷ []) k.tracked.went
+      ∙ ap (λ (v : Vertex). changes_of (map made_of steps) log ++ own_changes v (own ∷ []) ∷ []) at
+
+  pub logged_pass : s.made.vertex ≡ Pass → (count : ℕ) → IsLogged (seen start komi first steps b log count) (seen start komi first more b log count) 0
+  logged_pass pass count = record { own = []; gained = changes_pass pass; back = refl; few = omega arith }
+
+  pub logged_put : (p : Point) → s.made.vertex ≡ At p → (b' : BoardValue) (log' : List (List Change)) (most most' count count' : ℕ) → PlayLogged b.cells b'.cells log log' most → most ≡ most'
+      → IsLogged (seen start komi first steps b log count) (seen start komi first more b' log' count') most'
+  logged_put p at b' log' most most' count count' logged is_most =
+      record { own = logged.changes; gained = changes_put p at log' logged.changes logged.gained; back = logged.back; few = subst (λ m. let few : Type 0 = length logged.changes ≤ m in few) is_most logged.few }
+
+  -- the move taken back again
+  pub taken_back_pass : s.made.vertex ≡ Pass → (count : ℕ) → IsTakenBack (seen start komi first more b log count) (seen start komi first steps b log count)
+  taken_back_pass pass count = record { own = []; lost = changes_pass pass; cells = refl; count = omega arith }
+
+  pub taken_back_put : (p : Point) → s.made.vertex ≡ At p → (b' : BoardValue) (log' : List (List Change)) (own : List Change) (count count' : ℕ) → log' ≡ log ++ own ∷ [] → b.cells ≡ rewound b'.cells own → count' ≡ count + length own
+      → IsTakenBack (seen start komi first more b' log' count) (seen start komi first steps b log count')
+  taken_back_put p at b' log' own count count' gained cells ticks = record { own = own; lost = changes_put p at log' own gained; cells = cells; count = ticks }
+
+-- a move played and taken back
+pub as_before : (old mid new : GameValue) (most : ℕ) → IsLogged old mid most → IsTakenBack mid new → new.standing ≡ old.standing → IsAsBefore old new
+as_before old mid new most logged back standing =
+    let same = same_from_push _ _ _ _ (sym logged.gained ∙ back.lost) in
+    record {
+      standing = standing;
+      cells = back.cells ∙ ap (λ (l : List Change). rewound mid.cells l) (sym same.1) ∙ logged.back;
+      changes = sym same.0;
+    }
+
+-- the game is as before what left it as before
+pub again_as_before : (old mid new : GameValue) → IsAsBefore old mid → IsAsBefore mid new → IsAsBefore old new
+again_as_before old mid new first second = record {
+  standing = second.standing ∙ first.standing;
+  cells = second.cells ∙ first.cells;
+  changes = second.changes ∙ first.changes;
+}

@@ -1,0 +1,35 @@
+-- The cells of a game's board, the changes of each move, and how many reads and writes they took.
+use Rattle.std.specs.Prelude.{◌≡◌, ◌≤◌, ◌+◌, ◌++◌, ◌∷◌, [], ℕ, List, length}
+use Rattle.go_board.specs.declared.colour.Colour.{Colour}
+use Rattle.go_board.specs.declared.vertex.Vertex.{Vertex}
+use Rattle.go_board.specs.declared.vertex.Vertex.TheVariants.{Pass, At}
+use Rattle.go_board.specs.Points.{number_of}
+use Rattle.go_chains.specs.declared.log.Change.{Change}
+use Rattle.go_chains.specs.Playing.{most_of}
+use Rattle.go_chains.specs.Rewound.{rewound}
+use Rattle.go_game.specs.Standings.{GameValue, Standing, board_of}
+
+-- the most changes that a turn makes: a pass makes none
+abbrev pub most_for : Standing → Colour → Vertex → ℕ
+most_for s c Pass = 0
+most_for s c (At p) = most_of s.lines (board_of s) c (number_of s.lines p)
+
+-- the game is as it was, the count aside
+pub record IsAsBefore (old new : GameValue) : Type 0 where
+  pub standing : new.standing ≡ old.standing
+  pub cells : new.cells ≡ old.cells
+  pub changes : new.changes ≡ old.changes
+
+-- a turn's changes came behind those of the earlier moves: at most so many, and put back they give the cells before it
+pub record IsLogged (old new : GameValue) (most : ℕ) : Type 0 where
+  pub own : List Change
+  pub gained : new.changes ≡ old.changes ++ own ∷ []
+  pub back : rewound new.cells own ≡ old.cells
+  pub few : length own ≤ most
+
+-- the last move's changes were put back, each at one tick, and those of the earlier moves stay
+pub record IsTakenBack (old new : GameValue) : Type 0 where
+  pub own : List Change
+  pub lost : old.changes ≡ new.changes ++ own ∷ []
+  pub cells : new.cells ≡ rewound old.cells own
+  pub count : new.count ≡ old.count + length own
