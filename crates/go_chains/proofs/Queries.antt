@@ -1,15 +1,17 @@
 -- What the cells of a kept board answer.
 use Rattle.std.specs.Prelude.{None, replicate, IsTrue}
 use Rattle.std.specs.Int.{bit_at}
-use Rattle.std.proofs.Common.{ℕ, ◌*◌, ◌/◌, ◌%◌, ◌^◌, ◌<◌, ◌≤◌, ◌≡◌, ◌↔◌, ◌++◌, ◌∷◌, [], refl, sym, ap, ◌∙◌, arith, inl, inr, Bool, true, false, List, length, nat_eq, bit_and, get_or}
+use Rattle.std.proofs.Common.{zero, suc, ℕ, ◌*◌, ◌/◌, ◌%◌, ◌^◌, ◌<◌, ◌≤◌, ◌≡◌, ◌↔◌, ◌++◌, ◌∷◌, [], refl, sym, ap, ◌∙◌, arith, inl, inr, Bool, true, false, List, length, nat_eq, bit_and, get_or, slice_index_or}
 use Rattle.std.proofs.lemmas.Bool.{cases_lt, eq-eqb, eqb-true, false_from_ne_true}
 use Rattle.std.proofs.lemmas.List.{ext_get_or, get_or-replicate, get_or_past, length-replicate}
 use Rattle.std.proofs.lemmas.List.FromFn.{length-range_with_len}
 use Rattle.std.proofs.lemmas.List.Sums.{count_by-le-length, length-filter}
 use Rattle.std.proofs.lemmas.Nat.Bits.{shr_and_one}
+use Rattle.go_board.specs.declared.pack.TheConstants.{PACK_CODES}
 use Rattle.go_board.specs.declared.size.TheConstants.{MAX_LINES, MAX_POINTS}
 use Rattle.go_board.specs.Chains.{members}
 use Rattle.go_board.specs.Colours.{Colouring, colour_at}
+use Rattle.go_board.specs.Packs.{AreCodes, code_of}
 use Rattle.go_board.specs.Paths.{Joined}
 use Rattle.go_board.specs.Points.{is_adjacent}
 use Rattle.go_board.specs.Reaching.{is_liberty_of, joined, points}
@@ -139,3 +141,18 @@ pub last_split : {X : Type 0} → (xs : List X) → 0 < length xs → (front : L
 last_split [] some = absurd (omega arith)
 last_split (x ∷ []) some = ([], x, refl)
 last_split (x ∷ y ∷ ys) some = let rest = last_split (y ∷ ys) (omega arith) in (x ∷ rest.0, rest.1, ap (λ l. x ∷ l) rest.2)
+
+-- a colour cell is the code of its colour
+code_back : (k : ℕ) → k < 3 → code_of (value_of k) ≡ k
+code_back zero low = refl
+code_back (suc zero) low = refl
+code_back (suc (suc zero)) low = refl
+code_back (suc (suc (suc k))) low = absurd (omega arith)
+
+-- so the colour cells are the codes of the points, and 0 past them
+pub codes_filled : (n : ℕ) (cells : List ℕ) (codes : List ℕ) → IsKept n cells
+    → ((k : ℕ) → k < n * n → slice_index_or codes k 0 ≡ colour_of cells k) → ((k : ℕ) → n * n ≤ k → k < PACK_CODES → slice_index_or codes k 0 ≡ 0) → AreCodes codes (colouring_of n cells)
+codes_filled n cells codes kept done rest k low = elim (cases_lt k (n * n)) [
+  | inl inside ↦ done k inside ∙ sym (code_back (colour_of cells k) (kept.sound.coded k inside)) ∙ ap code_of (sym (colouring-at n cells k inside))
+  | inr past ↦ rest k past low ∙ ap code_of (sym (get_or_past (colouring_of n cells) k None (omega (arith, length-colouring n cells, past))))
+]

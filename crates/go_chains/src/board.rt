@@ -1,9 +1,12 @@
 ghost use Rattle.std.specs.Prelude.{◌≡◌, ◌<◌, ◌≤◌, ◌+◌, ◌*◌, ◌++◌, ◌∷◌, ◌↔◌, [], List, None, Some, IfOk, IsErrOf, OnErr, OnOk, length, replicate, slice_set};
 ghost use Rattle.go_board.specs.Chains.{liberties, members};
 ghost use Rattle.go_board.specs.Colours.{colour_at, other};
+ghost use Rattle.go_board.specs.PackBytes.{bytes_of};
+ghost use Rattle.go_board.specs.Packs.{AreCodes, packed_of};
 ghost use Rattle.go_board.specs.Points.{IsOn, number_of};
 ghost use Rattle.go_board.specs.Reaching.{is_liberty_of, joined, moved, vanished};
 ghost use Rattle.go_board.specs.Sizes.{lines_of};
+ghost use Rattle.go_board.specs.declared.pack.TheConstants.{PACK_CODES};
 ghost use Rattle.go_board.specs.declared.size.TheConstants.{MAX_POINTS};
 ghost use Rattle.go_chains.specs.declared.cells.TheConstants.{COUNT, WORDS};
 ghost use Rattle.go_chains.specs.declared.log.Change.{Change};
@@ -20,7 +23,7 @@ use crate::log::{Log, reserve_play, seal};
 use crate::masks::mask_of;
 use crate::place::{ROOM, place};
 use go_board::laws::{joined_by_a_path, liberty_by_a_path, points_by_number};
-use go_board::{Colour, Grid, Meter, Point, Size, Taken};
+use go_board::{Codes, Colour, Grid, Meter, PACK_CODES, Packed, Point, Size, Taken};
 use std::alloc::Allocator;
 use std::marker::Model;
 
@@ -88,6 +91,26 @@ impl Board {
             grid.set(at, self.colour_at(at));
         }
         grid
+    }
+
+    /// The colours in two bits a point, as `Grid::pack` has them.
+    pub fn pack(&self) -> Packed
+        ensures { bytes_of result ≡ packed_of (grid_of self.now) }
+    {
+        let mut codes = [0; PACK_CODES];
+        self.fill_codes(&mut codes);
+        Packed::of_codes(&codes)
+    }
+
+    /// Writes the codes of the points. A colour cell is a point's code.
+    fn fill_codes(&self, codes: &mut Codes)
+        requires none { codes.old ≡ replicate PACK_CODES 0 }
+        ensures { AreCodes codes.new (grid_of self.now) }
+    {
+        let mut meter = Meter::new();
+        for number in 0..usize::from(self.size.points()) {
+            codes[number] = self.cells.get(number, &mut meter) as u8;
+        }
     }
 
     /// The label of a stone's chain.

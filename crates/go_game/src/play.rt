@@ -170,7 +170,7 @@ fn note<A: Allocator + Copy>(
     ensures others { IfErr result (λ e. (e ≡ PlayError.Memory)
         ⊎ ((k : ℕ) × (e ≡ PlayError.Repeats k))) }
 {
-    let pack = board.grid().pack();
+    let pack = board.pack();
     if let Some(number) = history.find(&pack) {
         return Err(PlayError::Repeats(number));
     }
@@ -202,7 +202,7 @@ fn take_back<A: Allocator + Copy>(
         → IsRewound board.old board.new log.new earlier changes meter.old meter.new }
     ensures forgotten { IsForgotten history.old history.new (grid_of board.old) }
 {
-    let pack = board.grid().pack();
+    let pack = board.pack();
     history.forget(&pack);
     board.rewind(log, meter);
 }
