@@ -28,10 +28,11 @@ fn any_colour(random: &mut Pcg32) -> Colour {
     }
 }
 
-/// Whether a board and a grid have the same size, and the same colour at each point.
+/// Whether a board and a grid have the same size, the same pack, and the same colour at each point.
 fn same_colours(rt: &impl Abort, board: &Board, grid: &Grid) {
     let size = board.size();
     assert!(rt; grid.size() == size);
+    assert!(rt; board.pack() == grid.pack());
     let copy = board.grid();
     for number in 0..size.points() {
         let p = Point::numbered(size, number);
