@@ -4,7 +4,7 @@ ghost use Rattle.go_board.specs.Colours.{colour_at};
 ghost use Rattle.go_board.specs.Points.{IsOn, number_of};
 ghost use Rattle.go_board.specs.Flood.{Grows, HasRoom, IsJoinedTo, IsMarked, IsStep};
 
-use crate::{Colour, Grid, MAX_POINTS, Point, neighbours};
+use crate::{Colour, Grid, MAX_POINTS, Point, put_neighbours};
 use arrayvec::ArrayVec;
 
 /// A set of points, by their numbers in point order.
@@ -67,7 +67,8 @@ fn mark_beside(grid: &Grid, p: Point, marks: &mut Marks, waiting: &mut Waiting)
         → IsMarked marks.new j }
 {
     let colour = grid.get(p);
-    let beside = neighbours(p, grid.size());
+    let mut beside = ArrayVec::new();
+    put_neighbours(p, grid.size(), &mut beside);
     for q in beside.as_slice() {
         mark_coloured(grid, *q, colour, marks, waiting);
     }

@@ -25,7 +25,7 @@ pub use grid::Grid;
 pub use meter::Meter;
 pub use pack::{Codes, PACK_BYTES, PACK_CODES, Packed};
 pub use pen::{Pen, send};
-pub use point::{Point, neighbours};
+pub use point::{Point, neighbours, put_neighbours};
 pub use size::{MAX_LINES, MAX_POINTS, Size};
 pub use taken::Taken;
 pub use vertex::{

@@ -1,4 +1,4 @@
-ghost use Rattle.std.specs.Prelude.{◌≡◌, ◌<◌, ◌≤◌, ◌*◌, ◌↔◌, ℕ, IsTrue, IsSome, IfSome, All, Contains, map};
+ghost use Rattle.std.specs.Prelude.{◌≡◌, ◌<◌, ◌≤◌, ◌*◌, ◌↔◌, ℕ, [], IsTrue, IsSome, IfSome, All, Contains, map};
 ghost use Rattle.std.specs.List.Sorted.{IsStrictlyIncreasing};
 ghost use Rattle.go_board.specs.Points.{IsOn, are_beside, number_of, point_at};
 ghost use Rattle.go_board.specs.Sizes.{lines_of};
@@ -94,6 +94,21 @@ pub fn neighbours(p: Point, size: Size) -> ArrayVec<Point, 4>
     ensures order { IsStrictlyIncreasing (map (number_of (lines_of size)) result.items) }
 {
     let mut beside = ArrayVec::new();
+    put_neighbours(p, size, &mut beside);
+    beside
+}
+
+/// Puts the points that share a side with this one into an empty list, in point order. A loop
+/// that is run often does without the copy of a list that is handed back.
+pub fn put_neighbours(p: Point, size: Size, beside: &mut ArrayVec<Point, 4>)
+    requires on { IsOn (lines_of size) p }
+    requires empty { beside.old.items ≡ [] }
+    ensures on { All (λ q. IsOn (lines_of size) q) beside.new.items }
+    ensures beside { All (λ q. IsTrue (are_beside p q)) beside.new.items }
+    ensures each { (q : Point) → IsOn (lines_of size) q → IsTrue (are_beside p q)
+        → Contains beside.new.items q }
+    ensures order { IsStrictlyIncreasing (map (number_of (lines_of size)) beside.new.items) }
+{
     let last = size.lines() - 1;
     if p.row > 0 {
         beside.push(Point {
@@ -119,5 +134,4 @@ pub fn neighbours(p: Point, size: Size) -> ArrayVec<Point, 4>
             ..p
         });
     }
-    beside
 }

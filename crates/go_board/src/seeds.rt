@@ -7,7 +7,7 @@ ghost use Rattle.go_board.specs.Flood.{AreJoined, AreReaching, Grows, HasRoom, I
 
 use crate::colour::is_same;
 use crate::flood::{Marks, Waiting, mark, no_marks, spread};
-use crate::{Colour, Grid, Point, neighbours};
+use crate::{Colour, Grid, Point, put_neighbours};
 use arrayvec::ArrayVec;
 
 /// Whether a point has a neighbour of this colour.
@@ -16,7 +16,8 @@ fn is_beside(grid: &Grid, p: Point, colour: Option<Colour>) -> bool
     ensures { IsTrue result
         ↔ IsBeside grid.now.lines grid.now.colours (number_of grid.now.lines p) colour }
 {
-    let beside = neighbours(p, grid.size());
+    let mut beside = ArrayVec::new();
+    put_neighbours(p, grid.size(), &mut beside);
     for q in beside.as_slice() {
         if is_same(grid.get(*q), colour) {
             return true;

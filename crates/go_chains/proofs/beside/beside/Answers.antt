@@ -14,8 +14,8 @@ returns c =
     let p_in : p < n * n = c.requires in
     let few : n * n ≤ MAX_POINTS = square-le n c.args.size.in_range in
     are_beside_by_number (record { number = c.points_by_number.ensures.number; back = c.points_by_number.ensures.back; on = c.points_by_number.ensures.on; same = c.points_by_number.ensures.same })
-    n p c.numbered.result c.neighbours-near.result.items c.loop-q.numbers.items
+    n p c.numbered.result c.put_neighbours.new.beside.items c.loop-q.numbers.items
     p_in (c.numbered.ensures.value)
     (let f = shown.ensures.fits in let v = ap length shown.ensures.value in omega arith)
-    c.neighbours-near.ensures.on c.neighbours-near.ensures.beside c.neighbours-near.ensures.each
+    c.put_neighbours.ensures.on c.put_neighbours.ensures.beside c.put_neighbours.ensures.each
     (c.loop-q.invariant.numbers ∙ ap (map (number_of n)) (take_all c.loop-q.q-index shown.result.now c.loop-q-test.false ∙ shown.ensures.value))
