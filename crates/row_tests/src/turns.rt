@@ -76,7 +76,60 @@ impl Plain {
     }
 }
 
-/// Compares all that a game answers of its colours and its moves with the plain body.
+const KOMI: i64 = 650;
+
+/// By how many points a colour is ahead on a grid, and the liberties of the chain of a point.
+fn worth(grid: &Grid, colour: Colour, p: Point) -> (i32, u16) {
+    let area = plain::areas(grid);
+    let (own, theirs) = match colour {
+        Colour::Black => (area.black, area.white),
+        Colour::White => (area.white, area.black),
+    };
+    let lead = i32::from(own) - i32::from(theirs);
+    if p.on(grid.size()) && grid.get(p).is_some() {
+        (lead, plain::liberties_of(grid, p))
+    } else {
+        (lead, 0)
+    }
+}
+
+/// The choice by the plain body: the first of the best plays that put a colour further ahead.
+fn choice(plain: &Plain, colour: Colour) -> Vertex {
+    let (lead, _) = worth(&plain.present(), colour, Point::default());
+    let mut most = (lead, u16::MAX);
+    let mut best = Vertex::Pass;
+    for number in 0..plain.size.points() {
+        let p = Point::numbered(plain.size, number);
+        let vertex = Vertex::At(p);
+        if let Ok((after, _)) = plain.outcome(Move { colour, vertex }) {
+            let (lead, free) = worth(&after, colour, p);
+            if lead > most.0 || lead == most.0 && free > most.1 {
+                most = (lead, free);
+                best = vertex;
+            }
+        }
+    }
+    best
+}
+
+/// Compares the turns that a game tells with the plain body.
+fn same_turns<A: Allocator + Copy>(rt: &impl Abort, game: &Game<A>, plain: &Plain) {
+    let moves = plain.made.len();
+    assert_eq!(rt; game.move_count(), moves);
+    assert!(rt; game.is_vacant() == plain.made.is_empty());
+    assert!(rt; game.start_mover() == Colour::Black);
+    for number in 0..moves {
+        let made = plain.made.get(number).map(|(made, _)| *made);
+        assert!(rt; game.move_at(number) == made, "move {number}");
+    }
+    assert!(rt; game.move_at(moves).is_none());
+    match plain.made.last() {
+        Some((made, _)) => assert!(rt; game.mover() == made.colour.other()),
+        None => assert!(rt; game.mover() == Colour::Black),
+    }
+}
+
+/// Compares what a game says of its colours and its score with the plain body.
 fn same_game<A: Allocator + Copy>(rt: &impl Abort, game: &Game<A>, plain: &Plain) {
     let size = game.size();
     let grid = plain.present();
@@ -86,8 +139,8 @@ fn same_game<A: Allocator + Copy>(rt: &impl Abort, game: &Game<A>, plain: &Plain
         if p.on(grid.size()) {
             assert!(rt; game.colour_at(p) == grid.get(p), "point {number}");
         }
+        assert!(rt; game.start_at(p).is_none());
     }
-    assert_eq!(rt; game.move_count(), plain.made.len());
     assert_eq!(rt;
         game.prisoners(Colour::Black),
         plain.prisoners(Colour::Black)
@@ -96,7 +149,11 @@ fn same_game<A: Allocator + Copy>(rt: &impl Abort, game: &Game<A>, plain: &Plain
         game.prisoners(Colour::White),
         plain.prisoners(Colour::White)
     );
-    assert!(rt; game.area() == plain::areas(&grid));
+    let area = plain::areas(&grid);
+    assert!(rt; game.area() == area);
+    assert_eq!(rt; game.komi(), KOMI);
+    let margin = i64::from(area.black) * 100 - i64::from(area.white) * 100 - KOMI;
+    assert_eq!(rt; game.margin(), margin);
 }
 
 /// Compares the chains and the liberties of one point with the plain body.
@@ -159,6 +216,24 @@ fn take_back<A: Allocator + Copy>(
     }
 }
 
+/// Compares all that a game answers with the plain body, but its choice where that would take long.
+fn same_answers(
+    rt: &impl Abort,
+    game: &mut Game<Global>,
+    plain: &Plain,
+    random: &mut Pcg32,
+) -> Result<(), Fail> {
+    same_turns(rt, game, plain);
+    same_game(rt, game, plain);
+    same_chains(rt, game, plain, (random.next_u32() % 400) as u16);
+    if plain.size.lines() < 6 || random.next_u32().is_multiple_of(64) {
+        for colour in [Colour::Black, Colour::White] {
+            assert!(rt; game.choose(colour)? == choice(plain, colour));
+        }
+    }
+    Ok(())
+}
+
 /// Plays drawn moves on both, and compares them after each.
 fn play_along(
     rt: &impl Abort,
@@ -169,6 +244,7 @@ fn play_along(
 ) -> Result<(), Fail> {
     let size = size_of(rt, lines);
     let mut game = Game::new(alloc, size);
+    game.set_komi(KOMI);
     let mut plain = Plain::new(alloc, size);
     let mut random = Pcg32::new(seed, u64::from(lines));
     for _ in 0..moves {
@@ -189,8 +265,7 @@ fn play_along(
             (Err(why), Err(same)) => assert!(rt; why == same),
             _ => panic!(rt; "one of two plays"),
         }
-        same_game(rt, &game, &plain);
-        same_chains(rt, &game, &plain, (random.next_u32() % 400) as u16);
+        same_answers(rt, &mut game, &plain, &mut random)?;
     }
     Ok(())
 }
