@@ -137,6 +137,15 @@ module _ {A : Type 0} where
       number_kept : (old new : History A) (q : Packed) → IsUnchanged old new → number_at new q ≡ number_at old q
       number_kept old new q kept = ap (λ (s : Packed). cond (packed_eq s q) (Some 0) (later_at new q)) kept.0 ∙ ap (λ o. cond (packed_eq old.start q) (Some 0) o) (kept.1 q)
 
+  -- a number that was written over and is put back
+  pub number_back : (old mid new : History A) (p : Packed) (j k : ℕ) → later_at old p ≡ Some k → ((q : Packed) → later_at mid q ≡ cond (packed_eq p q) (Some j) (later_at old q))
+      → ((q : Packed) → later_at new q ≡ cond (packed_eq p q) (Some k) (later_at mid q)) → (q : Packed) → later_at new q ≡ later_at old q
+  number_back old mid new p j k was over again q = again q ∙ ap (λ o. cond (packed_eq p q) (Some k) o) (over q) ∙ back (packed_eq p q) refl
+    where
+      back : (b : Bool) → packed_eq p q ≡ b → cond b (Some k) (cond b (Some j) (later_at old q)) ≡ later_at old q
+      back true e = sym was ∙ ap (λ (bytes : List ℕ). later_at old (record { bytes = bytes })) ((bytes_eq-Decides (bytes_of p) (bytes_of q)).0 e)
+      back false e = refl
+
   -- what a changed history has
   number_changed : (old new : History A) (p : Packed) (w : Option ℕ) (q : Packed) → IsChangedAt old new p w
       → number_at new q ≡ cond (packed_eq old.start q) (Some 0) (cond (packed_eq p q) w (later_at old q))

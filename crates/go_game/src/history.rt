@@ -1,4 +1,4 @@
-ghost use Rattle.std.specs.Prelude.{◌≡◌, OnOk, OnErr};
+ghost use Rattle.std.specs.Prelude.{◌≡◌, ℕ, IfOk, None, Ok, OnErr, Some};
 ghost use Rattle.go_game.specs.Histories.{IsBegun, IsChangedAt, IsUnchanged, number_at};
 
 use go_board::Packed;
@@ -25,23 +25,25 @@ impl<A: Allocator + Copy> History<A> {
         }
     }
 
-    /// After how many moves the colouring with this pack stood first, if it did.
-    pub fn find(&self, pack: &Packed) -> Option<usize>
-        ensures { result ≡ number_at self.now pack.now }
-    {
-        if self.start == *pack {
-            return Some(0);
-        }
-        self.later.get(pack).copied()
-    }
-
-    /// Notes that the colouring with this pack stands after so many moves.
-    pub fn remember(&mut self, pack: Packed, number: usize) -> Result<(), AllocError>
-        ensures ok { OnOk result (IsChangedAt self.old self.new pack (Some number)) }
+    /// After how many moves the colouring with this pack stood first; or none where it didn't stand,
+    /// and then it is noted with this number.
+    pub fn note(&mut self, pack: Packed, number: usize) -> Result<Option<usize>, AllocError>
+        ensures known { IfOk result (λ known. known ≡ number_at self.old pack) }
+        ensures noted { result ≡ Ok None → IsChangedAt self.old self.new pack (Some number) }
+        ensures stood { (k : ℕ) → result ≡ Ok (Some k) → IsUnchanged self.old self.new }
         ensures err { OnErr result (IsUnchanged self.old self.new) }
     {
-        self.later.insert(pack, number)?;
-        Ok(())
+        if self.start == pack {
+            return Ok(Some(0));
+        }
+        let known = self.later.insert(pack, number)?;
+        match known {
+            None => Ok(None),
+            Some(earlier) => {
+                self.later.insert(pack, earlier)?;
+                Ok(Some(earlier))
+            }
+        }
     }
 
     /// Takes back what was noted of a pack. It takes no memory.

@@ -20,22 +20,23 @@ const NO_STONE: u16 = 361;
 fn history_of(rt: &impl Abort, alloc: Global, moves: u16) -> Result<History<Global>, AllocError> {
     let mut history = History::new(alloc, pack_with(rt, NO_STONE));
     for number in 0..moves {
-        history.remember(pack_with(rt, number), usize::from(number) + 1)?;
+        history.note(pack_with(rt, number), usize::from(number) + 1)?;
     }
     Ok(history)
 }
 
 #[test]
 fn what_is_noted_is_found(rt: HostRuntime) -> Result<(), Fail> {
-    let history = history_of(&rt, rt.alloc(), 300)?;
-    assert!(rt; history.find(&pack_with(&rt, NO_STONE)) == Some(0));
-    for number in 0..300u16 {
-        let found = history.find(&pack_with(&rt, number));
+    let mut history = history_of(&rt, rt.alloc(), 300)?;
+    assert!(rt; history.note(pack_with(&rt, NO_STONE), 1)? == Some(0));
+    // Asked once more, since to ask is to note.
+    for number in (0..300u16).chain(0..300u16) {
+        let found = history.note(pack_with(&rt, number), 1)?;
         assert!(rt; found == Some(usize::from(number) + 1), "stone {number}");
     }
     for number in 300..NO_STONE {
         assert!(rt;
-            history.find(&pack_with(&rt, number)).is_none(),
+            history.note(pack_with(&rt, number), 1)?.is_none(),
             "stone {number}"
         );
     }
@@ -49,9 +50,9 @@ fn what_is_taken_back_is_not_found(rt: HostRuntime) -> Result<(), Fail> {
         history.forget(&pack_with(&rt, 449 - number));
     }
     history.forget(&pack_with(&rt, 320));
-    assert!(rt; history.find(&pack_with(&rt, NO_STONE)) == Some(0));
+    assert!(rt; history.note(pack_with(&rt, NO_STONE), 1)? == Some(0));
     for number in 0..300u16 {
-        let found = history.find(&pack_with(&rt, number)).is_some();
+        let found = history.note(pack_with(&rt, number), 1)?.is_some();
         assert!(rt; found == (number < 150), "stone {number}");
     }
     Ok(())
@@ -62,11 +63,10 @@ fn begun_anew_the_start_alone_is_found(rt: HostRuntime) -> Result<(), Fail> {
     let mut history = history_of(&rt, rt.alloc(), 40)?;
     history.restart(pack_with(&rt, 7));
     for number in 0..NO_STONE {
-        let found = history.find(&pack_with(&rt, number)).is_some();
+        let found = history.note(pack_with(&rt, number), 1)?.is_some();
         assert!(rt; found == (number == 7), "stone {number}");
     }
-    assert!(rt; history.find(&pack_with(&rt, NO_STONE)).is_none());
-    history.remember(pack_with(&rt, NO_STONE), 1)?;
-    assert!(rt; history.find(&pack_with(&rt, NO_STONE)) == Some(1));
+    assert!(rt; history.note(pack_with(&rt, NO_STONE), 1)?.is_none());
+    assert!(rt; history.note(pack_with(&rt, NO_STONE), 2)? == Some(1));
     Ok(())
 }

@@ -170,15 +170,13 @@ fn note<A: Allocator + Copy>(
     ensures others { IfErr result (λ e. (e ≡ PlayError.Memory)
         ⊎ ((k : ℕ) × (e ≡ PlayError.Repeats k))) }
 {
-    let pack = board.pack();
-    if let Some(number) = history.find(&pack) {
-        return Err(PlayError::Repeats(number));
-    }
     if steps.reserve(1).is_err() {
         return Err(PlayError::Memory);
     }
-    if history.remember(pack, steps.len() + 1).is_err() {
-        return Err(PlayError::Memory);
+    match history.note(board.pack(), steps.len() + 1) {
+        Ok(None) => {}
+        Ok(Some(number)) => return Err(PlayError::Repeats(number)),
+        Err(_) => return Err(PlayError::Memory),
     }
     let pushed = steps.push(step);
     prove!(pushed.is_ok());
