@@ -62,19 +62,24 @@ last_play lengths count front tail earlier changes whole as_long split =
     same_from_push _ _ _ _ (sym e ∙ split)
 
 -- the log gains the stretch of changes as one play
+pub one_gained : (old new : List ℕ) (before after : List Change) (lengths lengths' : List ℕ) (log : List (List Change)) (most : ℕ)
+    → total lengths ≡ length before → plays_of lengths before ≡ log → (logged : Logged old new before after most)
+    → lengths' ≡ lengths ++ (length after - length before) ∷ [] → plays_of lengths' after ≡ log ++ logged.added ∷ []
+one_gained old new before after lengths lengths' log most whole is logged longer =
+    let size : length after - length before ≡ length logged.added = omega (arith, ap length logged.grown, length-append before logged.added) in
+    ap (λ l. plays_of l after) (longer ∙ ap (λ n. lengths ++ n ∷ []) size) ∙ ap (λ l. plays_of (lengths ++ length logged.added ∷ []) l) logged.grown
+    ∙ plays_of-append lengths before logged.added whole ∙ ap (λ l. l ++ logged.added ∷ []) is
+
 pub play_gained : (old new : List ℕ) (before after : List Change) (lengths lengths' : List ℕ) (log : List (List Change)) (most : ℕ)
     → total lengths ≡ length before → plays_of lengths before ≡ log → Logged old new before after most
     → lengths' ≡ lengths ++ (length after - length before) ∷ [] → PlayLogged old new log (plays_of lengths' after) most
-play_gained old new before after lengths lengths' log most whole is logged longer =
-    let size : length after - length before ≡ length logged.added = omega (arith, ap length logged.grown, length-append before logged.added) in
-    record {
-      changes = logged.added;
-      gained = ap (λ l. plays_of l after) (longer ∙ ap (λ n. lengths ++ n ∷ []) size) ∙ ap (λ l. plays_of (lengths ++ length logged.added ∷ []) l) logged.grown
-          ∙ plays_of-append lengths before logged.added whole ∙ ap (λ l. l ++ logged.added ∷ []) is;
-      back = logged.back;
-      few = logged.few;
-      names = logged.names;
-    }
+play_gained old new before after lengths lengths' log most whole is logged longer = record {
+  changes = logged.added;
+  gained = one_gained old new before after lengths lengths' log most whole is logged longer;
+  back = logged.back;
+  few = logged.few;
+  names = logged.names;
+}
 
 -- the lengths still add up to the changes
 pub total_gained : (old new : List ℕ) (before after : List Change) (lengths lengths' : List ℕ) (most : ℕ)
@@ -84,13 +89,14 @@ total_gained old new before after lengths lengths' most whole logged longer =
     omega (arith, ap total longer, total-append lengths ((length after - length before) ∷ []), ap length logged.grown, length-append before logged.added)
 
 -- what one push on the lengths makes of a log: it has one play more, of the changes since, and is whole
-pub record IsClosed (old new : List ℕ) (after : List Change) (lengths : List ℕ) (log : List (List Change)) (most : ℕ) : Type 0 where
+pub record IsClosed (old new : List ℕ) (before after : List Change) (lengths : List ℕ) (log : List (List Change)) (most : ℕ) : Type 0 where
   pub logged : PlayLogged old new log (plays_of lengths after) most
   pub whole : total lengths ≡ length after
+  pub size : (changes : List Change) → plays_of lengths after ≡ log ++ changes ∷ [] → length before + length changes ≡ length after
 
 pub closed : (old new : List ℕ) (before before' after : List Change) (lengths lengths' lengths'' : List ℕ) (log : List (List Change)) (most count : ℕ)
     → total lengths ≡ length before → plays_of lengths before ≡ log → before' ≡ before → lengths' ≡ lengths
-    → Logged old new before' after most → count ≡ length after - length before' → lengths'' ≡ lengths' ++ count ∷ [] → IsClosed old new after lengths'' log most
+    → Logged old new before' after most → count ≡ length after - length before' → lengths'' ≡ lengths' ++ count ∷ [] → IsClosed old new before' after lengths'' log most
 closed old new before before' after lengths lengths' lengths'' log most count whole is same same_lengths logged counted longer =
     let from_start : Logged old new before after most = subst (λ (changes : List Change). Logged old new changes after most) same logged in
     let count_is : count ≡ length after - length before = omega (arith, ap length same) in
@@ -98,6 +104,10 @@ closed old new before before' after lengths lengths' lengths'' log most count wh
     record {
       logged = play_gained old new before after lengths lengths'' log most whole is from_start longer_is;
       whole = total_gained old new before after lengths lengths'' most whole from_start longer_is;
+      size = λ changes split.
+          let gained = one_gained old new before after lengths lengths'' log most whole is from_start longer_is in
+          let own : length from_start.added ≡ length changes = ap length (same_from_push _ _ _ _ (sym gained ∙ split)).1 in
+          omega (arith, ap length from_start.grown, ap length same, length-append before from_start.added);
     }
 
 -- a log whose last length is known has a last play, made of the last changes

@@ -229,6 +229,9 @@ impl Board {
             (most_of self.old.lines (grid_of self.old) colour (number_of self.old.lines p))) }
         ensures count { meter.new ≤ meter.old
             + 3 * most_of self.old.lines (grid_of self.old) colour (number_of self.old.lines p) }
+        ensures ticked { (changes : List Change) → log.new ≡ log.old ++ changes ∷ []
+            → meter.old + length changes ≤ meter.new }
+        ensures onward { meter.old ≤ meter.new }
         ensures same { OnErr result (self.new ≡ self.old) }
         ensures log { OnErr result (log.new ≡ log.old) }
         ensures kept { IsKept self.new.lines self.new.cells }

@@ -23,6 +23,7 @@ pub fn is_dead(cells: &Cells, meter: &mut Meter, size: Size, label: usize) -> bo
     ensures dead { IsTrue result ↔ IsDead (lines_of size * lines_of size) (tables_of cells.now)
         label }
     ensures count { meter.new ≤ meter.old + WORDS }
+    ensures onward { meter.old ≤ meter.new }
 {
     let points = usize::from(size.points());
     for word in 0..WORDS {
@@ -72,6 +73,7 @@ pub fn take_one<A: Allocator + Copy>(
     ensures capacity { vec_capacity changes.old ≤ vec_capacity changes.new }
     ensures length { vec_len changes.new ≤ vec_len changes.old + 5 * MAX_POINTS }
     ensures count { meter.new ≤ meter.old + (WORDS + 4 + 18 * result) }
+    ensures ticked { meter.old + vec_len changes.new ≤ meter.new + vec_len changes.old }
 {
     if cells.get(near, meter) != own {
         return 0;
@@ -121,6 +123,7 @@ pub fn capture<A: Allocator + Copy>(
     ensures capacity { vec_capacity changes.old ≤ vec_capacity changes.new }
     ensures length { vec_len changes.new ≤ vec_len changes.old + 20 * MAX_POINTS }
     ensures count { meter.new ≤ meter.old + (4 * (WORDS + 4) + 18 * result) }
+    ensures ticked { meter.old + vec_len changes.new ≤ meter.new + vec_len changes.old }
 {
     let mut taken = 0;
     for near in beside {

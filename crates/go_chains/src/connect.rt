@@ -43,6 +43,7 @@ fn connect_one<A: Allocator + Copy>(
     ensures count { meter.new ≤ meter.old
         + (3 * (size_of cells.new (label_of cells.new point)
         - size_of cells.old (label_of cells.old point)) + 3 * WORDS + 15) }
+    ensures ticked { meter.old + vec_len changes.new ≤ meter.new + vec_len changes.old }
 {
     if cells.get(near, meter) != cells.get(point, meter) {
         return;
@@ -85,6 +86,7 @@ pub fn connect<A: Allocator + Copy>(
     ensures count { meter.new ≤ meter.old
         + (3 * (size_of cells.new (label_of cells.new point)
         - size_of cells.old (label_of cells.old point)) + 4 * (3 * WORDS + 15)) }
+    ensures ticked { meter.old + vec_len changes.new ≤ meter.new + vec_len changes.old }
 {
     for near in beside {
         connect_one(cells, changes, meter, size, point, *near);

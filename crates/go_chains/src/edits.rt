@@ -26,6 +26,7 @@ pub(crate) fn replace<A: Allocator + Copy>(
     ensures capacity { vec_capacity changes.old ≤ vec_capacity changes.new }
     ensures length { vec_len changes.new ≤ vec_len changes.old + 1 }
     ensures count { meter.new ≤ meter.old + 1 }
+    ensures ticked { meter.old + vec_len changes.new ≤ meter.new + vec_len changes.old }
 {
     if old == number {
         return;
@@ -51,6 +52,7 @@ pub(crate) fn put<A: Allocator + Copy>(
     ensures capacity { vec_capacity changes.old ≤ vec_capacity changes.new }
     ensures length { vec_len changes.new ≤ vec_len changes.old + 1 }
     ensures count { meter.new ≤ meter.old + 2 }
+    ensures ticked { meter.old + vec_len changes.new ≤ meter.new + vec_len changes.old }
 {
     let old = cells.get(place, meter);
     replace(cells, changes, meter, place, old, number);

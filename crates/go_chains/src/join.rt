@@ -33,6 +33,7 @@ fn relabel<A: Allocator + Copy>(
     ensures capacity { vec_capacity changes.old ≤ vec_capacity changes.new }
     ensures length { vec_len changes.new ≤ vec_len changes.old + stones }
     ensures count { meter.new ≤ meter.old + 3 * stones }
+    ensures ticked { meter.old + vec_len changes.new ≤ meter.new + vec_len changes.old }
 {
     let mut at = from;
     for _ in 0..stones {
@@ -58,6 +59,7 @@ fn merge_words<A: Allocator + Copy>(
     ensures capacity { vec_capacity changes.old ≤ vec_capacity changes.new }
     ensures length { vec_len changes.new ≤ vec_len changes.old + WORDS }
     ensures count { meter.new ≤ meter.old + 3 * WORDS }
+    ensures ticked { meter.old + vec_len changes.new ≤ meter.new + vec_len changes.old }
 {
     for word in 0..WORDS {
         let place = word_place(keep, word);
@@ -93,6 +95,7 @@ pub fn join<A: Allocator + Copy>(
         ≤ vec_len changes.old + (size_of cells.old (label_of cells.old second) + WORDS + 3) }
     ensures count { meter.new
         ≤ meter.old + (3 * size_of cells.old (label_of cells.old second) + 3 * WORDS + 9) }
+    ensures ticked { meter.old + vec_len changes.new ≤ meter.new + vec_len changes.old }
 {
     let keep = cells.get(LABELS + first, meter) as usize;
     let gone = cells.get(LABELS + second, meter) as usize;

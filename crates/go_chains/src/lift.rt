@@ -32,6 +32,7 @@ fn set_liberty<A: Allocator + Copy>(
     ensures capacity { vec_capacity changes.old ≤ vec_capacity changes.new }
     ensures length { vec_len changes.new ≤ vec_len changes.old + 1 }
     ensures count { meter.new ≤ meter.old + 2 }
+    ensures ticked { meter.old + vec_len changes.new ≤ meter.new + vec_len changes.old }
 {
     let place = word_place(label, point / 64);
     let word = cells.get(place, meter);
@@ -57,6 +58,7 @@ fn give_one<A: Allocator + Copy>(
     ensures capacity { vec_capacity changes.old ≤ vec_capacity changes.new }
     ensures length { vec_len changes.new ≤ vec_len changes.old + 1 }
     ensures count { meter.new ≤ meter.old + 4 }
+    ensures ticked { meter.old + vec_len changes.new ≤ meter.new + vec_len changes.old }
 {
     if cells.get(near, meter) != colour {
         return;
@@ -86,6 +88,7 @@ fn give_back<A: Allocator + Copy>(
     ensures capacity { vec_capacity changes.old ≤ vec_capacity changes.new }
     ensures length { vec_len changes.new ≤ vec_len changes.old + 4 }
     ensures count { meter.new ≤ meter.old + 16 }
+    ensures ticked { meter.old + vec_len changes.new ≤ meter.new + vec_len changes.old }
 {
     for near in beside {
         give_one(cells, changes, meter, *near, point, colour);
@@ -112,6 +115,7 @@ fn lift<A: Allocator + Copy>(
     ensures capacity { vec_capacity changes.old ≤ vec_capacity changes.new }
     ensures length { vec_len changes.new ≤ vec_len changes.old + 5 }
     ensures count { meter.new ≤ meter.old + 17 }
+    ensures ticked { meter.old + vec_len changes.new ≤ meter.new + vec_len changes.old }
 {
     replace(cells, changes, meter, point, own, 0);
     let near = beside(size, point);
@@ -146,6 +150,7 @@ pub fn take_off<A: Allocator + Copy>(
     ensures capacity { vec_capacity changes.old ≤ vec_capacity changes.new }
     ensures length { vec_len changes.new ≤ vec_len changes.old + 5 * MAX_POINTS }
     ensures count { meter.new ≤ meter.old + (2 + 18 * result) }
+    ensures ticked { meter.old + vec_len changes.new ≤ meter.new + vec_len changes.old }
 {
     let label = cells.get(LABELS + stone, meter) as usize;
     let stones = cells.get(SIZES + label, meter) as usize;

@@ -39,7 +39,7 @@ fn empty_of(cells: &Cells, meter: &mut Meter, beside: &[usize]) -> Words
     requires on { All (λ near. near < MAX_POINTS) beside.now }
     ensures marks { MarksEmpty cells.now result beside.now (length beside.now) }
     ensures words { length result ≡ WORDS }
-    ensures count { meter.new ≤ meter.old + 4 }
+    ensures count { meter.new ≡ meter.old + length beside.now }
 {
     let mut words = [0; WORDS];
     for near in beside {
@@ -64,6 +64,7 @@ fn clear_liberty<A: Allocator + Copy>(
     ensures capacity { vec_capacity changes.old ≤ vec_capacity changes.new }
     ensures length { vec_len changes.new ≤ vec_len changes.old + 1 }
     ensures count { meter.new ≤ meter.old + 2 }
+    ensures ticked { meter.old + vec_len changes.new ≤ meter.new + vec_len changes.old }
 {
     let place = word_place(label, point / 64);
     let word = cells.get(place, meter);
@@ -95,6 +96,7 @@ fn deprive_one<A: Allocator + Copy>(
     ensures capacity { vec_capacity changes.old ≤ vec_capacity changes.new }
     ensures length { vec_len changes.new ≤ vec_len changes.old + 1 }
     ensures count { meter.new ≤ meter.old + 4 }
+    ensures ticked { meter.old + vec_len changes.new ≤ meter.new + vec_len changes.old }
 {
     if cells.get(near, meter) == 0 {
         return;
@@ -123,6 +125,7 @@ fn deprive<A: Allocator + Copy>(
     ensures capacity { vec_capacity changes.old ≤ vec_capacity changes.new }
     ensures length { vec_len changes.new ≤ vec_len changes.old + 4 }
     ensures count { meter.new ≤ meter.old + 16 }
+    ensures ticked { meter.old + vec_len changes.new ≤ meter.new + vec_len changes.old }
 {
     for near in beside {
         deprive_one(cells, changes, meter, *near, point);
@@ -145,6 +148,7 @@ fn fill_words<A: Allocator + Copy>(
     ensures capacity { vec_capacity changes.old ≤ vec_capacity changes.new }
     ensures length { vec_len changes.new ≤ vec_len changes.old + WORDS }
     ensures count { meter.new ≤ meter.old + 2 * WORDS }
+    ensures ticked { meter.old + vec_len changes.new ≤ meter.new + vec_len changes.old }
 {
     for word in 0..WORDS {
         let place = word_place(label, word);
@@ -175,6 +179,7 @@ pub fn occupy<A: Allocator + Copy>(
     ensures capacity { vec_capacity changes.old ≤ vec_capacity changes.new }
     ensures length { vec_len changes.new ≤ vec_len changes.old + (WORDS + 8) }
     ensures count { meter.new ≤ meter.old + (2 * WORDS + 27) }
+    ensures ticked { meter.old + vec_len changes.new ≤ meter.new + vec_len changes.old }
 {
     let words = empty_of(cells, meter, beside);
     deprive(cells, changes, meter, beside, point);

@@ -51,6 +51,7 @@ pub fn place<A: Allocator + Copy>(
         (most_of (lines_of size) (colouring_of (lines_of size) cells.old) colour point) }
     ensures count { meter.new + 1 ≤ meter.old
         + 3 * most_of (lines_of size) (colouring_of (lines_of size) cells.old) colour point }
+    ensures ticked { meter.old + vec_len changes.new ≤ meter.new + vec_len changes.old }
 {
     joined_by_a_path();
     reaches_by_a_path();

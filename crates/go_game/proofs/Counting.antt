@@ -70,12 +70,18 @@ module _ {A : Type 0} (start : GridValue) (komi : ℤ) (first : Colour) (steps :
       ∙ ap (λ (v : Vertex). changes_of (map made_of steps) log ++ own_changes v (own ∷ []) ∷ []) at
 
   pub logged_pass : s.made.vertex ≡ Pass → (count : ℕ) → IsLogged (seen start komi first steps b log count) (seen start komi first more b log count) 0
-  logged_pass pass count = record { own = []; gained = changes_pass pass; back = refl; few = omega arith }
+  logged_pass pass count = record { own = []; gained = changes_pass pass; back = refl; few = omega arith; ticked = omega arith }
 
   pub logged_put : (p : Point) → s.made.vertex ≡ At p → (b' : BoardValue) (log' : List (List Change)) (most most' count count' : ℕ) → PlayLogged b.cells b'.cells log log' most → most ≡ most'
+      → ((own : List Change) → log' ≡ log ++ own ∷ [] → count + length own ≤ count')
       → IsLogged (seen start komi first steps b log count) (seen start komi first more b' log' count') most'
-  logged_put p at b' log' most most' count count' logged is_most =
-      record { own = logged.changes; gained = changes_put p at log' logged.changes logged.gained; back = logged.back; few = subst (λ m. let few : Type 0 = length logged.changes ≤ m in few) is_most logged.few }
+  logged_put p at b' log' most most' count count' logged is_most ticked = record {
+    own = logged.changes;
+    gained = changes_put p at log' logged.changes logged.gained;
+    back = logged.back;
+    few = subst (λ m. let few : Type 0 = length logged.changes ≤ m in few) is_most logged.few;
+    ticked = ticked logged.changes logged.gained;
+  }
 
   -- the move taken back again
   pub taken_back_pass : s.made.vertex ≡ Pass → (count : ℕ) → IsTakenBack (seen start komi first more b log count) (seen start komi first steps b log count)
@@ -93,6 +99,7 @@ as_before old mid new most logged back standing =
       standing = standing;
       cells = back.cells ∙ ap (λ (l : List Change). rewound mid.cells l) (sym same.1) ∙ logged.back;
       changes = sym same.0;
+      onward = omega (arith, logged.ticked, back.count, ap length same.1);
     }
 
 -- the game is as before what left it as before
@@ -101,4 +108,5 @@ again_as_before old mid new first second = record {
   standing = second.standing ∙ first.standing;
   cells = second.cells ∙ first.cells;
   changes = second.changes ∙ first.changes;
+  onward = omega (arith, first.onward, second.onward);
 }

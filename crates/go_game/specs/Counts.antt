@@ -14,18 +14,21 @@ abbrev pub most_for : Standing → Colour → Vertex → ℕ
 most_for s c Pass = 0
 most_for s c (At p) = most_of s.lines (board_of s) c (number_of s.lines p)
 
--- the game is as it was, the count aside
+-- the game is as it was, and the count at least
 pub record IsAsBefore (old new : GameValue) : Type 0 where
   pub standing : new.standing ≡ old.standing
   pub cells : new.cells ≡ old.cells
   pub changes : new.changes ≡ old.changes
+  pub onward : old.count ≤ new.count
 
--- a turn's changes came behind those of the earlier moves: at most so many, and put back they give the cells before it
+-- a turn's changes came behind those of the earlier moves: at most so many, each of them counted,
+-- and put back they give the cells before it
 pub record IsLogged (old new : GameValue) (most : ℕ) : Type 0 where
   pub own : List Change
   pub gained : new.changes ≡ old.changes ++ own ∷ []
   pub back : rewound new.cells own ≡ old.cells
   pub few : length own ≤ most
+  pub ticked : old.count + length own ≤ new.count
 
 -- the last move's changes were put back, each at one tick, and those of the earlier moves stay
 pub record IsTakenBack (old new : GameValue) : Type 0 where

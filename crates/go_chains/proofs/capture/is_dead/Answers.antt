@@ -24,4 +24,5 @@ loop-word-preserved c =
           (c.get.ensures.value ∙ ap (slice_index c.args.cells.now) c.word_place.ensures.value) c.if-get-mask_of-ne0.false
           (λ i i_in within. c.mask_of.ensures.inside i i_in (omega arith));
       count = let e = c.loop-word.invariant.count in let f = c.get.ensures.count in omega arith;
+      onward = let e = c.loop-word.invariant.onward in let f = c.get.ensures.count in omega arith;
     }

@@ -20,4 +20,5 @@ invariant-loop-near g l =
       capacity : vec_capacity l.fn.changes ≤ vec_capacity l.changes;
       length : vec_len l.changes ≤ vec_len l.fn.changes + l.near-index * (MAX_POINTS + WORDS + 3);
       count : l.meter ≤ l.fn.meter + (3 * grown + l.near-index * (3 * WORDS + 15));
+      ticked : l.fn.meter + vec_len l.changes ≤ l.meter + vec_len l.fn.changes;
     }

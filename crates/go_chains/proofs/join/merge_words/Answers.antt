@@ -18,4 +18,5 @@ loop-word-preserved g c = record {
   capacity = let e = c.loop-word.invariant.capacity in let f = c.replace.ensures.capacity in omega arith;
   length = let e = c.loop-word.invariant.length in let f = c.replace.ensures.length in omega arith;
   count = let e = c.loop-word.invariant.count in let f = c.replace.ensures.count in let h = c.get-here.ensures.count in let k = c.get-there.ensures.count in omega arith;
+  ticked = let e = c.loop-word.invariant.ticked in let f = c.replace.ensures.ticked in let h = c.get-here.ensures.count in let k = c.get-there.ensures.count in omega arith;
 }

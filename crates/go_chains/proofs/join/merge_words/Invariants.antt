@@ -10,4 +10,5 @@ invariant-loop-word g l = record {
   capacity : vec_capacity l.fn.changes ≤ vec_capacity l.changes;
   length : vec_len l.changes ≤ vec_len l.fn.changes + l.word;
   count : l.meter ≤ l.fn.meter + 3 * l.word;
+  ticked : l.fn.meter + vec_len l.changes ≤ l.meter + vec_len l.fn.changes;
 }

@@ -18,4 +18,5 @@ loop-preserved g c =
       capacity = let e = inv.capacity in let f = c.put.ensures.capacity in omega arith;
       length = let e = inv.length in let f = c.put.ensures.length in omega arith;
       count = let e = inv.count in let f = c.put.ensures.count in let h = c.get-at.ensures.count in omega arith;
+      ticked = let e = inv.ticked in let f = c.put.ensures.ticked in let h = c.get-at.ensures.count in omega arith;
     }

@@ -13,4 +13,5 @@ invariant-loop g l = record {
   capacity : vec_capacity l.fn.changes ≤ vec_capacity l.changes;
   length : vec_len l.changes ≤ vec_len l.fn.changes + l.counter;
   count : l.meter ≤ l.fn.meter + 3 * l.counter;
+  ticked : l.fn.meter + vec_len l.changes ≤ l.meter + vec_len l.fn.changes;
 }

@@ -88,6 +88,7 @@ loop-preserved g c =
       capacity = let e = inv.capacity in let f = c.lift.ensures.capacity in omega arith;
       length = let e = inv.length in let f = c.lift.ensures.length in omega arith;
       count = let e = inv.count in let f = c.lift.ensures.count in let h = c.get-next.ensures.count in omega arith;
+      ticked = let e = inv.ticked in let f = c.lift.ensures.ticked in let h = c.get-next.ensures.count in omega arith;
     }
 
 pub returns-clause-removed : goal.returns-clause-removed

@@ -14,4 +14,5 @@ loop-near-preserved g c =
       capacity = let e = inv.capacity in let f = one.capacity in omega arith;
       length = let e = inv.length in let f = one.length in omega arith;
       count = let e = inv.count in let f = one.count in omega arith;
+      ticked = let e = inv.ticked in let f = one.ticked in omega arith;
     }

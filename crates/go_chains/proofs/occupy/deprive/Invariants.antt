@@ -10,4 +10,5 @@ invariant-loop-near g l = record {
   capacity : vec_capacity l.fn.changes ≤ vec_capacity l.changes;
   length : vec_len l.changes ≤ vec_len l.fn.changes + l.near-index;
   count : l.meter ≤ l.fn.meter + 4 * l.near-index;
+  ticked : l.fn.meter + vec_len l.changes ≤ l.meter + vec_len l.fn.changes;
 }

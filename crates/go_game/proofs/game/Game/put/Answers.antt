@@ -108,7 +108,7 @@ returns-in-Ok-note-clause-logged g c =
     let new : GameValue = seen c.self.inside.start c.self.inside.komi c.self.inside.first c.note.new.steps.items c.play.new.self c.play.new.log c.play.new.meter in
     subst (λ (v : GameValue). IsLogged v new (most_for c.args.self.now.standing c.args.colour (At c.args.p))) c.self.view_is
     (logged_put c.self.inside.start c.self.inside.komi c.self.inside.first c.self.inside.steps.items c.self.inside.board c.self.inside.log c.self.inside.history c.self.inside.prisoners.black c.self.inside.prisoners.white c.self.invariant c.note.new.steps.items (placed c.args.colour c.args.p c.in-Ok.taken) c.in-Ok-note.ensures.pushed c.args.p refl
-    c.play.new.self c.play.new.log (most_of c.self.inside.board.lines (grid_of c.self.inside.board) c.args.colour (number_of c.self.inside.board.lines c.args.p)) (most_for c.args.self.now.standing c.args.colour (At c.args.p)) c.self.inside.meter c.play.new.meter c.in-Ok.ensures.logged most)
+    c.play.new.self c.play.new.log (most_of c.self.inside.board.lines (grid_of c.self.inside.board) c.args.colour (number_of c.self.inside.board.lines c.args.p)) (most_for c.args.self.now.standing c.args.colour (At c.args.p)) c.self.inside.meter c.play.new.meter c.in-Ok.ensures.logged most c.play.ensures.ticked)
 
 pub returns-in-Ok-note-clause-count : goal.returns-in-Ok-note-clause-count
 returns-in-Ok-note-clause-count g c =
