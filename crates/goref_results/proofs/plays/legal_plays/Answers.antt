@@ -23,6 +23,7 @@ loop-number-preserved g c =
         standing = c.in_ok-plays.ensures.same.standing ∙ c.loop-number.invariant.same.standing;
         cells = c.in_ok-plays.ensures.same.cells ∙ c.loop-number.invariant.same.cells;
         changes = c.in_ok-plays.ensures.same.changes ∙ c.loop-number.invariant.same.changes;
+        onward = omega (arith, c.loop-number.invariant.same.onward, c.in_ok-plays.ensures.same.onward);
       };
     }
 
