@@ -93,25 +93,6 @@ fn worth(grid: &Grid, colour: Colour, p: Point) -> (i32, u16) {
     }
 }
 
-/// The choice by the plain body: the first of the best plays that put a colour further ahead.
-fn choice(plain: &Plain, colour: Colour) -> Vertex {
-    let (lead, _) = worth(&plain.present(), colour, Point::default());
-    let mut most = (lead, u16::MAX);
-    let mut best = Vertex::Pass;
-    for number in 0..plain.size.points() {
-        let p = Point::numbered(plain.size, number);
-        let vertex = Vertex::At(p);
-        if let Ok((after, _)) = plain.outcome(Move { colour, vertex }) {
-            let (lead, free) = worth(&after, colour, p);
-            if lead > most.0 || lead == most.0 && free > most.1 {
-                most = (lead, free);
-                best = vertex;
-            }
-        }
-    }
-    best
-}
-
 /// Compares the turns that a game tells with the plain body.
 fn same_turns<A: Allocator + Copy>(rt: &impl Abort, game: &Game<A>, plain: &Plain) {
     let moves = plain.made.len();
@@ -156,45 +137,157 @@ fn same_game<A: Allocator + Copy>(rt: &impl Abort, game: &Game<A>, plain: &Plain
     assert_eq!(rt; game.margin(), margin);
 }
 
-/// Compares the chains and the liberties of one point with the plain body.
-fn same_chains<A: Allocator + Copy>(rt: &impl Abort, game: &Game<A>, plain: &Plain, number: u16) {
+/// Compares the chain and the liberties of one point with the plain body.
+fn same_chain_of<A: Allocator + Copy>(rt: &impl Abort, game: &Game<A>, grid: &Grid, p: Point) {
     let size = game.size();
-    let grid = plain.present();
-    let Some(p) = Point::nth(size, number) else {
-        return;
-    };
-    for other in 0..size.points() {
-        let q = Point::numbered(size, other);
-        if p.on(grid.size()) && q.on(grid.size()) {
-            assert!(rt; game.same_chain(p, q) == plain::same_chain(&grid, p, q));
-            assert!(rt; game.is_liberty(p, q) == plain::is_liberty(&grid, p, q));
+    for number in 0..size.points() {
+        let q = Point::numbered(size, number);
+        if p.on(size) && grid.size() == size {
+            assert!(rt; game.same_chain(p, q) == plain::same_chain(grid, p, q));
+            assert!(rt; game.is_liberty(p, q) == plain::is_liberty(grid, p, q));
         }
     }
 }
 
-/// Draws a move: a pass now and then, a point that may be off the board.
+/// Compares the chains and the liberties of each stone with the plain body, and of each empty point
+/// too on small boards. On others those are of one drawn point, since each takes a flood.
+fn same_chains<A: Allocator + Copy>(
+    rt: &impl Abort,
+    game: &Game<A>,
+    plain: &Plain,
+    random: &mut Pcg32,
+) {
+    let size = game.size();
+    let grid = plain.present();
+    assert!(rt; grid.size() == size);
+    for number in 0..size.points() {
+        let p = Point::numbered(size, number);
+        if size.lines() < 10 || grid.get(p).is_some() {
+            same_chain_of(rt, game, &grid, p);
+        }
+    }
+    let drawn = random.next_u32() % u32::from(size.points());
+    same_chain_of(rt, game, &grid, Point::numbered(size, drawn as u16));
+}
+
+/// Compares which plays of a colour are legal with the plain body, and the choice among them: the
+/// first of the best plays that put the colour further ahead.
+fn same_plays<A: Allocator + Copy>(
+    rt: &impl Abort,
+    game: &mut Game<A>,
+    plain: &Plain,
+    colour: Colour,
+) -> Result<(), Fail> {
+    let (lead, _) = worth(&plain.present(), colour, Point::default());
+    let mut most = (lead, u16::MAX);
+    let mut best = Vertex::Pass;
+    for number in 0..plain.size.points() {
+        let p = Point::numbered(plain.size, number);
+        let vertex = Vertex::At(p);
+        let made = Move { colour, vertex };
+        let outcome = plain.outcome(made);
+        let legal = game.legal(made)?;
+        assert!(rt; legal == outcome.is_ok(), "point {number}");
+        if let Ok((after, _)) = outcome {
+            let (lead, free) = worth(&after, colour, p);
+            if lead > most.0 || lead == most.0 && free > most.1 {
+                most = (lead, free);
+                best = vertex;
+            }
+        }
+    }
+    assert!(rt; game.choose(colour)? == best);
+    Ok(())
+}
+
+/// Draws a vertex: a pass now and then, a point that may be off the board. On large boards most are
+/// in two corners, so that chains meet there.
+fn any_vertex(random: &mut Pcg32, size: Size) -> Vertex {
+    if random.next_u32().is_multiple_of(16) {
+        return Vertex::Pass;
+    }
+    let all = u32::from(size.lines()) + 1;
+    let corner = if all > 5 && !random.next_u32().is_multiple_of(8) {
+        5
+    } else {
+        all
+    };
+    let skipped = if random.next_u32().is_multiple_of(2) {
+        0
+    } else {
+        all - corner
+    };
+    let col = skipped + random.next_u32() % corner;
+    let row = skipped + random.next_u32() % corner;
+    Vertex::At(Point {
+        col: col as u8,
+        row: row as u8,
+    })
+}
+
+/// Draws a move.
 fn any_move(random: &mut Pcg32, size: Size) -> Move {
     let colour = if random.next_u32().is_multiple_of(2) {
         Colour::Black
     } else {
         Colour::White
     };
-    if random.next_u32().is_multiple_of(16) {
-        return Move {
-            colour,
-            vertex: Vertex::Pass,
-        };
+    let vertex = any_vertex(random, size);
+    Move { colour, vertex }
+}
+
+/// Whether a move takes stones or is refused for a repetition.
+fn is_rare(plain: &Plain, made: Move) -> bool {
+    match plain.outcome(made) {
+        Ok((_, taken)) => taken.theirs > 0 || taken.own > 0,
+        Err(why) => matches!(why, PlayError::Repeats(_)),
     }
-    let most = u32::from(size.lines()) + 1;
-    let col = random.next_u32() % most;
-    let row = random.next_u32() % most;
-    let near = Point {
-        col: col as u8,
-        row: row as u8,
-    };
-    Move {
-        colour,
-        vertex: Vertex::At(near),
+}
+
+/// Draws a move, one that takes stones or repeats if a few tries find such.
+fn next_move(random: &mut Pcg32, plain: &Plain) -> Move {
+    for _ in 0..7 {
+        let made = any_move(random, plain.size);
+        if is_rare(plain, made) {
+            return made;
+        }
+    }
+    any_move(random, plain.size)
+}
+
+/// How often drawn moves took the opponent's stones, took their own, and were refused for a repetition.
+#[derive(Clone, Copy)]
+struct Rare {
+    captures: u32,
+    suicides: u32,
+    repetitions: u32,
+}
+
+impl Rare {
+    fn new() -> Rare {
+        Rare {
+            captures: 0,
+            suicides: 0,
+            repetitions: 0,
+        }
+    }
+
+    fn count(&mut self, outcome: &Result<(Grid, Taken), PlayError>) {
+        match outcome {
+            Ok((_, taken)) => {
+                self.captures = self.captures.wrapping_add(u32::from(taken.theirs > 0));
+                self.suicides = self.suicides.wrapping_add(u32::from(taken.own > 0));
+            }
+            Err(why) => {
+                let repeats = matches!(why, PlayError::Repeats(_));
+                self.repetitions = self.repetitions.wrapping_add(u32::from(repeats));
+            }
+        }
+    }
+
+    /// Whether each of them came up.
+    fn has_all(&self) -> bool {
+        self.captures > 0 && self.suicides > 0 && self.repetitions > 0
     }
 }
 
@@ -216,81 +309,96 @@ fn take_back<A: Allocator + Copy>(
     }
 }
 
-/// Compares all that a game answers with the plain body, but its choice where that would take long.
-fn same_answers(
+/// Compares what a game answers with the plain body.
+fn same_answers<A: Allocator + Copy>(
     rt: &impl Abort,
-    game: &mut Game<Global>,
+    game: &mut Game<A>,
     plain: &Plain,
     random: &mut Pcg32,
 ) -> Result<(), Fail> {
     same_turns(rt, game, plain);
     same_game(rt, game, plain);
-    same_chains(rt, game, plain, (random.next_u32() % 400) as u16);
-    if plain.size.lines() < 6 || random.next_u32().is_multiple_of(64) {
-        for colour in [Colour::Black, Colour::White] {
-            assert!(rt; game.choose(colour)? == choice(plain, colour));
+    same_chains(rt, game, plain, random);
+    same_plays(rt, game, plain, Colour::Black)?;
+    same_plays(rt, game, plain, Colour::White)
+}
+
+/// Makes a move on both, where it is legal, and compares what that answers.
+fn play_on_both(
+    rt: &impl Abort,
+    game: &mut Game<Global>,
+    plain: &mut Plain,
+    made: Move,
+    expected: Result<(Grid, Taken), PlayError>,
+) -> Result<(), Fail> {
+    match (game.play(made), expected) {
+        (Ok(taken), Ok((after, took))) => {
+            assert!(rt; taken == took);
+            plain.grids.push(after)?;
+            plain.made.push((made, taken))?;
         }
+        (Err(why), Err(same)) => assert!(rt; why == same),
+        _ => panic!(rt; "one of two plays"),
     }
     Ok(())
 }
 
-/// Plays drawn moves on both, and compares them after each.
+/// Plays drawn moves on both, compares them after each, and counts what is rare.
 fn play_along(
     rt: &impl Abort,
     alloc: Global,
-    lines: u8,
+    size: Size,
     moves: u32,
     seed: u64,
+    rare: &mut Rare,
 ) -> Result<(), Fail> {
-    let size = size_of(rt, lines);
     let mut game = Game::new(alloc, size);
     game.set_komi(KOMI);
     let mut plain = Plain::new(alloc, size);
-    let mut random = Pcg32::new(seed, u64::from(lines));
+    let mut random = Pcg32::new(seed, u64::from(size.lines()));
+    let mut asked = Pcg32::new(seed, 0);
     for _ in 0..moves {
         if random.next_u32().is_multiple_of(9) {
             let back = random.next_u32() % 6;
             take_back(rt, &mut game, &mut plain, back);
         }
-        let made = any_move(&mut random, size);
+        let made = next_move(&mut random, &plain);
         let expected = plain.outcome(made);
-        let legal = game.legal(made)?;
-        assert!(rt; legal == expected.is_ok());
-        match (game.play(made), expected) {
-            (Ok(taken), Ok((after, took))) => {
-                assert!(rt; taken == took);
-                plain.grids.push(after)?;
-                plain.made.push((made, taken))?;
-            }
-            (Err(why), Err(same)) => assert!(rt; why == same),
-            _ => panic!(rt; "one of two plays"),
-        }
-        same_answers(rt, &mut game, &plain, &mut random)?;
+        rare.count(&expected);
+        play_on_both(rt, &mut game, &mut plain, made, expected)?;
+        same_answers(rt, &mut game, &plain, &mut asked)?;
     }
     Ok(())
 }
 
 #[test]
 fn small_games_as_the_plain_body(rt: HostRuntime) -> Result<(), Fail> {
+    let mut rare = Rare::new();
     for lines in 1..6u8 {
-        for seed in 0..3u64 {
-            play_along(&rt, rt.alloc(), lines, 300, seed)?;
+        for seed in 0..4u64 {
+            play_along(&rt, rt.alloc(), size_of(&rt, lines), 300, seed, &mut rare)?;
         }
     }
+    assert!(rt; rare.has_all());
     Ok(())
 }
 
 #[test]
 fn middle_games_as_the_plain_body(rt: HostRuntime) -> Result<(), Fail> {
+    let mut rare = Rare::new();
     for lines in 6..10u8 {
-        play_along(&rt, rt.alloc(), lines, 300, 4)?;
+        play_along(&rt, rt.alloc(), size_of(&rt, lines), 300, 1, &mut rare)?;
     }
+    assert!(rt; rare.has_all());
     Ok(())
 }
 
 #[test]
 fn a_large_game_as_the_plain_body(rt: HostRuntime) -> Result<(), Fail> {
-    play_along(&rt, rt.alloc(), 19, 500, 5)
+    let mut rare = Rare::new();
+    play_along(&rt, rt.alloc(), size_of(&rt, 19), 200, 0, &mut rare)?;
+    assert!(rt; rare.has_all());
+    Ok(())
 }
 
 #[test]
