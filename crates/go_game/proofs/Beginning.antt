@@ -12,11 +12,11 @@ use Rattle.go_board.specs.Grids.{GridValue}
 use Rattle.go_board.specs.Reaching.{has_colour, is_dead, is_same, reaches}
 use Rattle.go_chains.specs.declared.log.Change.{Change}
 use Rattle.go_chains.specs.Sound.{BoardValue, IsKept, colouring_of, grid_of}
-use Rattle.go_game.specs.declared.history.History.{History}
 use Rattle.go_game.specs.declared.step.Step.{Step}
 use Rattle.go_game.specs.Building.{AreAlive}
 use Rattle.go_game.specs.Held.{IsHeld, IsKeeping}
-use Rattle.go_game.specs.Histories.{IsBegun, IsPackOf}
+use Rattle.go_history.specs.Histories.{HistoryValue, IsBegun}
+use Rattle.go_game.specs.Histories.{IsPackOf}
 use Rattle.go_game.specs.Standings.{IsKomi}
 use Rattle.go_game.proofs.Played.{square-le}
 use Rattle.go_game.proofs.Remembered.{TellApart, history_begun}
@@ -54,7 +54,7 @@ held_begun start komi first size whole komi_is alive = record {
   white_taken = refl;
 }
 
-pub keeping_begun : {A : Type 0} → TellApart → (start : GridValue) (komi : ℤ) (first : Colour) (b : BoardValue) (log : List (List Change)) (history : History A) (p : Packed)
+pub keeping_begun : TellApart → (start : GridValue) (komi : ℤ) (first : Colour) (b : BoardValue) (log : List (List Change)) (history : HistoryValue) (p : Packed)
     → IsHeld start komi first [] 0 0 → b.lines ≡ start.lines → grid_of b ≡ start.colours → IsKept b.lines b.cells → log ≡ [] → IsBegun history p → IsPackOf p start.colours
     → IsKeeping start komi first [] b log history 0 0
 keeping_begun law start komi first b log history p held lines colours kept empty begun packs = record {
@@ -73,10 +73,10 @@ pub komi_none : IsKomi (pos 0)
 komi_none = search rules
 
 -- the same on an empty board
-pub keeping_empty : {A : Type 0} → TellApart → (n : ℕ) → (0 < n) × (n ≤ MAX_LINES) → (start : GridValue) (komi : ℤ) (first : Colour) (steps : List Step) (b : BoardValue) (log : List (List Change)) (history : History A) (p : Packed)
+pub keeping_empty : TellApart → (n : ℕ) → (0 < n) × (n ≤ MAX_LINES) → (start : GridValue) (komi : ℤ) (first : Colour) (steps : List Step) (b : BoardValue) (log : List (List Change)) (history : HistoryValue) (p : Packed)
     → start.lines ≡ n → start.colours ≡ replicate (n * n) None → IsKomi komi → b.lines ≡ n → grid_of b ≡ replicate (n * n) None → IsKept b.lines b.cells → log ≡ [] → steps ≡ [] → IsBegun history p → IsPackOf p start.colours
     → IsKeeping start komi first steps b log history 0 0
-keeping_empty {A} law n size start komi first steps b log history p lines colours komi_is b_lines b_colours kept empty none begun packs =
+keeping_empty law n size start komi first steps b log history p lines colours komi_is b_lines b_colours kept empty none begun packs =
     let here : start.colours ≡ replicate (start.lines * start.lines) None = colours ∙ ap (λ m. let g : Colouring = replicate (m * m) None in g) (sym lines) in
     let held = held_begun start komi first (subst (λ (m : ℕ). (0 < m) × (m ≤ MAX_LINES)) (sym lines) size)
     (ap length here ∙ length-replicate {A = Option Colour} (start.lines * start.lines) None) komi_is (none_alive start.lines start.colours here) in

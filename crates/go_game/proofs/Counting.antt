@@ -10,7 +10,7 @@ use Rattle.go_board.specs.Grids.{GridValue}
 use Rattle.go_chains.specs.declared.log.Change.{Change}
 use Rattle.go_chains.specs.Rewound.{PlayLogged, rewound}
 use Rattle.go_chains.specs.Sound.{BoardValue}
-use Rattle.go_game.specs.declared.history.History.{History}
+use Rattle.go_history.specs.Histories.{HistoryValue}
 use Rattle.go_game.specs.declared.step.Step.{Step}
 use Rattle.go_game.specs.Changes.{changes_of, own_changes, plays_behind}
 use Rattle.go_game.specs.Counts.{IsAsBefore, IsLogged, IsTakenBack}
@@ -51,7 +51,7 @@ as_many (m ∷ moves) plays = let same = as_many moves (plays_behind m.vertex pl
 abbrev pub seen : GridValue → ℤ → Colour → List Step → BoardValue → List (List Change) → ℕ → GameValue
 seen start komi first steps b log count = record { standing = standing_of start komi first steps; cells = b.cells; changes = changes_of (map made_of steps) log; count = count }
 
-module _ {A : Type 0} (start : GridValue) (komi : ℤ) (first : Colour) (steps : List Step) (b : BoardValue) (log : List (List Change)) (history : History A) (black white : ℕ)
+module _ (start : GridValue) (komi : ℤ) (first : Colour) (steps : List Step) (b : BoardValue) (log : List (List Change)) (history : HistoryValue) (black white : ℕ)
     (k : IsKeeping start komi first steps b log history black white) (more : List Step) (s : Step) (is : more ≡ steps ++ s ∷ []) where
   all : map made_of more ≡ map made_of steps ++ made_of s ∷ []
   all = ap (λ (xs : List Step). map made_of xs) is ∙ made_push steps s

@@ -12,7 +12,7 @@ use Rattle.go_game.specs.Choices.{liberties_on}
 use Rattle.go_board.specs.Grids.{GridValue}
 use Rattle.go_chains.specs.declared.log.Change.{Change}
 use Rattle.go_chains.specs.Sound.{BoardValue, colouring_of, grid_of}
-use Rattle.go_game.specs.declared.history.History.{History}
+use Rattle.go_history.specs.Histories.{HistoryValue}
 use Rattle.go_game.specs.declared.step.Step.{Step}
 use Rattle.go_game.specs.Held.{IsKeeping, IsTracked, made_of}
 use Rattle.go_game.specs.Standings.{board}
@@ -24,7 +24,7 @@ grid_is start moves b log t =
     ap (λ n. colouring_of n b.cells) t.lines ∙ (went_kept start.lines t.first moves log b.cells t.kept t.went).1 ∙ ap (λ (g : Colouring). board start.lines g moves) t.begun
 
 -- what is said by the board's lines and colouring is said by the standing
-pub seen_as : {X : Type 0} (f : ℕ → Colouring → X) {A : Type 0} (start : GridValue) (komi : ℤ) (first : Colour) (steps : List Step) (b : BoardValue) (log : List (List Change)) (history : History A) (black white : ℕ)
+pub seen_as : {X : Type 0} (f : ℕ → Colouring → X) (start : GridValue) (komi : ℤ) (first : Colour) (steps : List Step) (b : BoardValue) (log : List (List Change)) (history : HistoryValue) (black white : ℕ)
     → IsKeeping start komi first steps b log history black white → f b.lines (grid_of b) ≡ f start.lines (board start.lines start.colours (map made_of steps))
 seen_as f start komi first steps b log history black white k = ap₂ f k.tracked.lines (grid_is start (map made_of steps) b log k.tracked)
 

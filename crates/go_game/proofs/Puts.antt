@@ -19,7 +19,7 @@ use Rattle.go_board.specs.Reaching.{after_clearing, cleared, moved, vanished}
 use Rattle.go_chains.specs.declared.log.Change.{Change}
 use Rattle.go_chains.specs.Playing.{most_of}
 use Rattle.go_chains.specs.Sound.{BoardValue, IsStoneOf, grid_of}
-use Rattle.go_game.specs.declared.history.History.{History}
+use Rattle.go_history.specs.Histories.{HistoryValue}
 use Rattle.go_game.specs.declared.step.Step.{Step}
 use Rattle.go_game.specs.Held.{IsKeeping, IsPlayed, made_of, standing_of}
 use Rattle.go_game.specs.Histories.{KnowsAt, Lacks}
@@ -52,7 +52,7 @@ share_is Black t n before after theirs own White = theirs
 share_is White t n before after theirs own Black = theirs
 share_is White t n before after theirs own White = own
 
-module _ {A : Type 0} (start : GridValue) (komi : ℤ) (first : Colour) (steps : List Step) (b : BoardValue) (log : List (List Change)) (history : History A) (black white : ℕ)
+module _ (start : GridValue) (komi : ℤ) (first : Colour) (steps : List Step) (b : BoardValue) (log : List (List Change)) (history : HistoryValue) (black white : ℕ)
     (k : IsKeeping start komi first steps b log history black white) (c : Colour) (p : Point) where
   abbrev pub now : Colouring
   now = board start.lines start.colours (map made_of steps)

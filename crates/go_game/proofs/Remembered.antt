@@ -9,8 +9,8 @@ use Rattle.go_board.specs.declared.size.TheConstants.{MAX_POINTS}
 use Rattle.go_board.specs.Colours.{Colouring}
 use Rattle.go_board.specs.PackBytes.{bytes_of, packed_eq}
 use Rattle.go_board.specs.Packs.{packed_of}
-use Rattle.go_game.specs.declared.history.History.{History}
-use Rattle.go_game.specs.Histories.{IsBegun, IsChangedAt, IsPackOf, IsUnchanged, StandsFor, later_at, number_at}
+use Rattle.go_history.specs.Histories.{HistoryValue, IsBegun, IsChangedAt, IsUnchanged, later_at, number_at}
+use Rattle.go_game.specs.Histories.{IsPackOf, StandsFor}
 use Rattle.go_game.specs.Legal.{same_colours}
 use Rattle.go_game.specs.Standings.{IsFirstAt}
 use Rattle.go_game.specs.Whole.{first_at}
@@ -112,86 +112,76 @@ packs_agree law n few p q g h p_packs q_packs g_whole h_whole =
 
 -- ---- histories
 
-module _ {A : Type 0} where
-  -- what a look-up says
-  pub history_found : (n : ℕ) (h : History A) (gs : List Colouring) (p : Packed) (g : Colouring) (k : ℕ) → StandsFor n h gs → IsPackOf p g → length g ≡ n
-      → number_at h p ≡ Some k → IsFirstAt gs g k
-  history_found n h gs p g k stands packs whole e =
-      let found = first_found 0 gs g k (sym (stands p g packs whole) ∙ e) in
-      subst (IsFirstAt gs g) (let z : found.0 ≡ k = omega (arith, found.1) in z) found.2
+-- what a look-up says
+pub history_found : (n : ℕ) (h : HistoryValue) (gs : List Colouring) (p : Packed) (g : Colouring) (k : ℕ) → StandsFor n h gs → IsPackOf p g → length g ≡ n
+    → number_at h p ≡ Some k → IsFirstAt gs g k
+history_found n h gs p g k stands packs whole e =
+    let found = first_found 0 gs g k (sym (stands p g packs whole) ∙ e) in
+    subst (IsFirstAt gs g) (let z : found.0 ≡ k = omega (arith, found.1) in z) found.2
 
-  pub history_lacks : (n : ℕ) (h : History A) (gs : List Colouring) (p : Packed) (g : Colouring) → StandsFor n h gs → IsPackOf p g → length g ≡ n
-      → number_at h p ≡ None → Contains gs g → ⊥
-  history_lacks n h gs p g stands packs whole e = none_stands gs g (sym (stands p g packs whole) ∙ e)
+pub history_lacks : (n : ℕ) (h : HistoryValue) (gs : List Colouring) (p : Packed) (g : Colouring) → StandsFor n h gs → IsPackOf p g → length g ≡ n
+    → number_at h p ≡ None → Contains gs g → ⊥
+history_lacks n h gs p g stands packs whole e = none_stands gs g (sym (stands p g packs whole) ∙ e)
 
-  pub history_begun : TellApart → (n : ℕ) → n ≤ MAX_POINTS → (h : History A) (p : Packed) (g : Colouring) → IsBegun h p → IsPackOf p g → length g ≡ n
-      → StandsFor n h (g ∷ [])
-  history_begun law n few h p g begun packs whole q x q_packs x_whole =
-      ap (λ (s : Packed). cond (packed_eq s q) (Some 0) (later_at h q)) begun.0
-      ∙ ap (λ o. cond (packed_eq p q) (Some 0) o) (begun.1 q)
-      ∙ ap (λ b. if b then Some 0 else None) (packs_agree law n few p q g x packs q_packs whole x_whole)
+pub history_begun : TellApart → (n : ℕ) → n ≤ MAX_POINTS → (h : HistoryValue) (p : Packed) (g : Colouring) → IsBegun h p → IsPackOf p g → length g ≡ n
+    → StandsFor n h (g ∷ [])
+history_begun law n few h p g begun packs whole q x q_packs x_whole =
+    ap (λ (s : Packed). cond (packed_eq s q) (Some 0) (later_at h q)) begun.0
+    ∙ ap (λ o. cond (packed_eq p q) (Some 0) o) (begun.1 q)
+    ∙ ap (λ b. if b then Some 0 else None) (packs_agree law n few p q g x packs q_packs whole x_whole)
 
-  pub history_kept : (n : ℕ) (old new : History A) (gs : List Colouring) → IsUnchanged old new → StandsFor n old gs → StandsFor n new gs
-  history_kept n old new gs kept stands q x q_packs x_whole = number_kept old new q kept ∙ stands q x q_packs x_whole
-    where
-      number_kept : (old new : History A) (q : Packed) → IsUnchanged old new → number_at new q ≡ number_at old q
-      number_kept old new q kept = ap (λ (s : Packed). cond (packed_eq s q) (Some 0) (later_at new q)) kept.0 ∙ ap (λ o. cond (packed_eq old.start q) (Some 0) o) (kept.1 q)
+pub history_kept : (n : ℕ) (old new : HistoryValue) (gs : List Colouring) → IsUnchanged old new → StandsFor n old gs → StandsFor n new gs
+history_kept n old new gs kept stands q x q_packs x_whole = number_kept old new q kept ∙ stands q x q_packs x_whole
+  where
+    number_kept : (old new : HistoryValue) (q : Packed) → IsUnchanged old new → number_at new q ≡ number_at old q
+    number_kept old new q kept = ap (λ (s : Packed). cond (packed_eq s q) (Some 0) (later_at new q)) kept.0 ∙ ap (λ o. cond (packed_eq old.start q) (Some 0) o) (kept.1 q)
 
-  -- a number that was written over and is put back
-  pub number_back : (old mid new : History A) (p : Packed) (j k : ℕ) → later_at old p ≡ Some k → ((q : Packed) → later_at mid q ≡ cond (packed_eq p q) (Some j) (later_at old q))
-      → ((q : Packed) → later_at new q ≡ cond (packed_eq p q) (Some k) (later_at mid q)) → (q : Packed) → later_at new q ≡ later_at old q
-  number_back old mid new p j k was over again q = again q ∙ ap (λ o. cond (packed_eq p q) (Some k) o) (over q) ∙ back (packed_eq p q) refl
-    where
-      back : (b : Bool) → packed_eq p q ≡ b → cond b (Some k) (cond b (Some j) (later_at old q)) ≡ later_at old q
-      back true e = sym was ∙ ap (λ (bytes : List ℕ). later_at old (record { bytes = bytes })) ((bytes_eq-Decides (bytes_of p) (bytes_of q)).0 e)
-      back false e = refl
+-- what a changed history has
+number_changed : (old new : HistoryValue) (p : Packed) (w : Option ℕ) (q : Packed) → IsChangedAt old new p w
+    → number_at new q ≡ cond (packed_eq old.start q) (Some 0) (cond (packed_eq p q) w (later_at old q))
+number_changed old new p w q changed =
+    ap (λ (s : Packed). cond (packed_eq s q) (Some 0) (later_at new q)) changed.0
+    ∙ ap (λ o. cond (packed_eq old.start q) (Some 0) o) (changed.1 q)
 
-  -- what a changed history has
-  number_changed : (old new : History A) (p : Packed) (w : Option ℕ) (q : Packed) → IsChangedAt old new p w
-      → number_at new q ≡ cond (packed_eq old.start q) (Some 0) (cond (packed_eq p q) w (later_at old q))
-  number_changed old new p w q changed =
-      ap (λ (s : Packed). cond (packed_eq s q) (Some 0) (later_at new q)) changed.0
-      ∙ ap (λ o. cond (packed_eq old.start q) (Some 0) o) (changed.1 q)
+-- a colouring that didn't stand, noted with the number of those that did
+pub history_more : TellApart → (n : ℕ) → n ≤ MAX_POINTS → (old new : HistoryValue) (gs : List Colouring) (p : Packed) (g : Colouring) (k : ℕ)
+    → StandsFor n old gs → IsChangedAt old new p (Some k) → k ≡ length gs → IsPackOf p g → length g ≡ n → (Contains gs g → ⊥)
+    → StandsFor n new (gs ++ g ∷ [])
+history_more law n few old new gs p g k stands changed count packs whole novel q x q_packs x_whole =
+    number_changed old new p (Some k) q changed
+    ∙ more (packed_eq old.start q) (packed_eq p q) (later_at old q) (stands q x q_packs x_whole) (sym (packs_agree law n few p q g x packs q_packs whole x_whole))
+  where
+    more : (a b : Bool) (o : Option ℕ) → cond a (Some 0) o ≡ first_at 0 gs x → same_colours g x ≡ b → cond a (Some 0) (cond b (Some k) o) ≡ first_at 0 (gs ++ g ∷ []) x
+    more true b o is same = sym (first_stays 0 gs (g ∷ []) x 0 (sym is))
+    more false true o is same =
+        let absent = subst (λ (y : Colouring). first_at 0 gs y ≡ None) (colours_same g x same) (first_absent gs g novel) in
+        ap (λ (j : ℕ). Some j) (let z : k ≡ 0 + length gs = omega (arith, count) in z)
+        ∙ sym (first_last 0 gs g x absent ∙ ap (λ b. if b then Some (0 + length gs) else None) same)
+    more false false o is same = is ∙ sym (first_before gs g x same)
 
-  -- a colouring that didn't stand, noted with the number of those that did
-  pub history_more : TellApart → (n : ℕ) → n ≤ MAX_POINTS → (old new : History A) (gs : List Colouring) (p : Packed) (g : Colouring) (k : ℕ)
-      → StandsFor n old gs → IsChangedAt old new p (Some k) → k ≡ length gs → IsPackOf p g → length g ≡ n → (Contains gs g → ⊥)
-      → StandsFor n new (gs ++ g ∷ [])
-  history_more law n few old new gs p g k stands changed count packs whole novel q x q_packs x_whole =
-      number_changed old new p (Some k) q changed
-      ∙ more (packed_eq old.start q) (packed_eq p q) (later_at old q) (stands q x q_packs x_whole) (sym (packs_agree law n few p q g x packs q_packs whole x_whole))
-    where
-      more : (a b : Bool) (o : Option ℕ) → cond a (Some 0) o ≡ first_at 0 gs x → same_colours g x ≡ b → cond a (Some 0) (cond b (Some k) o) ≡ first_at 0 (gs ++ g ∷ []) x
-      more true b o is same = sym (first_stays 0 gs (g ∷ []) x 0 (sym is))
-      more false true o is same =
-          let absent = subst (λ (y : Colouring). first_at 0 gs y ≡ None) (colours_same g x same) (first_absent gs g novel) in
-          ap (λ (j : ℕ). Some j) (let z : k ≡ 0 + length gs = omega (arith, count) in z)
-          ∙ sym (first_last 0 gs g x absent ∙ ap (λ b. if b then Some (0 + length gs) else None) same)
-      more false false o is same = is ∙ sym (first_before gs g x same)
+-- the last colouring, which didn't stand before it, taken out
+pub history_less : TellApart → (n : ℕ) → n ≤ MAX_POINTS → (old new : HistoryValue) (gs : List Colouring) (p : Packed) (g : Colouring)
+    → StandsFor n old (gs ++ g ∷ []) → IsChangedAt old new p None → 0 < length gs → IsPackOf p g → length g ≡ n → (Contains gs g → ⊥)
+    → StandsFor n new gs
+history_less law n few old new gs p g stands changed some packs whole novel q x q_packs x_whole =
+    number_changed old new p None q changed
+    ∙ less (packed_eq old.start q) (packed_eq p q) (later_at old q) (stands q x q_packs x_whole) (sym (packs_agree law n few p q g x packs q_packs whole x_whole))
+  where
+    at_start : (o : Option ℕ) (b : Bool) → Some 0 ≡ first_at 0 (gs ++ g ∷ []) x → first_at 0 gs x ≡ o → same_colours g x ≡ b → Some 0 ≡ o
+    at_start (Some j) b is e same = is ∙ first_stays 0 gs (g ∷ []) x j e
+    at_start None true is e same =
+        let late : Some 0 ≡ Some (0 + length gs) = is ∙ first_last 0 gs g x e ∙ ap (λ b. if b then Some (0 + length gs) else None) same in
+        absurd (omega (arith, some, ap (λ (o : Option ℕ). unwrap_or o 0) late))
+    at_start None false is e same = is ∙ first_last 0 gs g x e ∙ ap (λ b. if b then Some (0 + length gs) else None) same
 
-  -- the last colouring, which didn't stand before it, taken out
-  pub history_less : TellApart → (n : ℕ) → n ≤ MAX_POINTS → (old new : History A) (gs : List Colouring) (p : Packed) (g : Colouring)
-      → StandsFor n old (gs ++ g ∷ []) → IsChangedAt old new p None → 0 < length gs → IsPackOf p g → length g ≡ n → (Contains gs g → ⊥)
-      → StandsFor n new gs
-  history_less law n few old new gs p g stands changed some packs whole novel q x q_packs x_whole =
-      number_changed old new p None q changed
-      ∙ less (packed_eq old.start q) (packed_eq p q) (later_at old q) (stands q x q_packs x_whole) (sym (packs_agree law n few p q g x packs q_packs whole x_whole))
-    where
-      at_start : (o : Option ℕ) (b : Bool) → Some 0 ≡ first_at 0 (gs ++ g ∷ []) x → first_at 0 gs x ≡ o → same_colours g x ≡ b → Some 0 ≡ o
-      at_start (Some j) b is e same = is ∙ first_stays 0 gs (g ∷ []) x j e
-      at_start None true is e same =
-          let late : Some 0 ≡ Some (0 + length gs) = is ∙ first_last 0 gs g x e ∙ ap (λ b. if b then Some (0 + length gs) else None) same in
-          absurd (omega (arith, some, ap (λ (o : Option ℕ). unwrap_or o 0) late))
-      at_start None false is e same = is ∙ first_last 0 gs g x e ∙ ap (λ b. if b then Some (0 + length gs) else None) same
+    less : (a b : Bool) (o : Option ℕ) → cond a (Some 0) o ≡ first_at 0 (gs ++ g ∷ []) x → same_colours g x ≡ b → cond a (Some 0) (cond b None o) ≡ first_at 0 gs x
+    less true b o is same = at_start (first_at 0 gs x) b is refl same
+    less false true o is same = sym (subst (λ (y : Colouring). first_at 0 gs y ≡ None) (colours_same g x same) (first_absent gs g novel))
+    less false false o is same = is ∙ first_before gs g x same
 
-      less : (a b : Bool) (o : Option ℕ) → cond a (Some 0) o ≡ first_at 0 (gs ++ g ∷ []) x → same_colours g x ≡ b → cond a (Some 0) (cond b None o) ≡ first_at 0 gs x
-      less true b o is same = at_start (first_at 0 gs x) b is refl same
-      less false true o is same = sym (subst (λ (y : Colouring). first_at 0 gs y ≡ None) (colours_same g x same) (first_absent gs g novel))
-      less false false o is same = is ∙ first_before gs g x same
+-- a colouring that stood already, once more or once less
+pub history_again : (n : ℕ) (h : HistoryValue) (gs : List Colouring) (g : Colouring) → StandsFor n h gs → Contains gs g → StandsFor n h (gs ++ g ∷ [])
+history_again n h gs g stands stood q x q_packs x_whole = stands q x q_packs x_whole ∙ sym (first_stood gs g x stood)
 
-  -- a colouring that stood already, once more or once less
-  pub history_again : (n : ℕ) (h : History A) (gs : List Colouring) (g : Colouring) → StandsFor n h gs → Contains gs g → StandsFor n h (gs ++ g ∷ [])
-  history_again n h gs g stands stood q x q_packs x_whole = stands q x q_packs x_whole ∙ sym (first_stood gs g x stood)
-
-  pub history_once : (n : ℕ) (h : History A) (gs : List Colouring) (g : Colouring) → StandsFor n h (gs ++ g ∷ []) → Contains gs g → StandsFor n h gs
-  history_once n h gs g stands stood q x q_packs x_whole = stands q x q_packs x_whole ∙ first_stood gs g x stood
+pub history_once : (n : ℕ) (h : HistoryValue) (gs : List Colouring) (g : Colouring) → StandsFor n h (gs ++ g ∷ []) → Contains gs g → StandsFor n h gs
+history_once n h gs g stands stood q x q_packs x_whole = stands q x q_packs x_whole ∙ first_stood gs g x stood

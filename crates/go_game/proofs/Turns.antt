@@ -19,10 +19,10 @@ use Rattle.std.proofs.lemmas.List.{same_from_push}
 use Rattle.go_chains.specs.declared.cells.TheConstants.{COUNT}
 use Rattle.go_chains.specs.Rewound.{IsRewound, NamesCells, PlayLogged, rewound}
 use Rattle.go_chains.specs.Sound.{BoardValue, IsKept, colouring_of, grid_of}
-use Rattle.go_game.specs.declared.history.History.{History}
 use Rattle.go_game.specs.declared.step.Step.{Step}
 use Rattle.go_game.specs.Held.{IsKeeping, IsPlayed, IsTracked, made_of, standing_of}
-use Rattle.go_game.specs.Histories.{IsNoted, IsUnchanged, Lacks, StandsFor}
+use Rattle.go_history.specs.Histories.{HistoryValue, IsUnchanged}
+use Rattle.go_game.specs.Histories.{IsNoted, Lacks, StandsFor}
 use Rattle.go_game.specs.Prisoners.{share_of}
 use Rattle.go_game.specs.Standings.{IsLegal, after_move, board, positions}
 use Rattle.go_game.specs.Trails.{IsTurn, WentThrough}
@@ -57,7 +57,7 @@ none_taken White Black = refl
 none_taken White White = refl
 
 -- a pass more
-pub keep_pass : {A : Type 0} → (start : GridValue) (komi : ℤ) (first : Colour) (steps more : List Step) (c : Colour) (b : BoardValue) (log : List (List Change)) (history : History A) (black white : ℕ)
+pub keep_pass : (start : GridValue) (komi : ℤ) (first : Colour) (steps more : List Step) (c : Colour) (b : BoardValue) (log : List (List Change)) (history : HistoryValue) (black white : ℕ)
     → IsKeeping start komi first steps b log history black white → more ≡ steps ++ passed c ∷ [] → IsKeeping start komi first more b log history black white
 keep_pass start komi first steps more c b log history black white k is =
     let moves = map made_of steps in
@@ -82,7 +82,7 @@ keep_pass start komi first steps more c b log history black white k is =
     }
 
 -- what a play on the board did, and what was noted of it
-pub record IsPut {A : Type 0} (b b' : BoardValue) (log log' : List (List Change)) (history history' : History A) (number : ℕ) (c : Colour) (p : Point) : Type 0 where
+pub record IsPut (b b' : BoardValue) (log log' : List (List Change)) (history history' : HistoryValue) (number : ℕ) (c : Colour) (p : Point) : Type 0 where
   pub lines : b'.lines ≡ b.lines
   pub moved_to : grid_of b' ≡ moved b.lines (grid_of b) c (number_of b.lines p)
   pub most : ℕ
@@ -93,7 +93,7 @@ pub record IsPut {A : Type 0} (b b' : BoardValue) (log log' : List (List Change)
   pub lacked : Lacks history (grid_of b')
 
 -- a play more
-pub keep_put : {A : Type 0} → TellApart → (start : GridValue) (komi : ℤ) (first : Colour) (steps more : List Step) (c : Colour) (p : Point) (t : Taken) (b b' : BoardValue) (log log' : List (List Change)) (history history' : History A) (black white black' white' : ℕ)
+pub keep_put : TellApart → (start : GridValue) (komi : ℤ) (first : Colour) (steps more : List Step) (c : Colour) (p : Point) (t : Taken) (b b' : BoardValue) (log log' : List (List Change)) (history history' : HistoryValue) (black white black' white' : ℕ)
     → IsKeeping start komi first steps b log history black white → more ≡ steps ++ placed c p t ∷ []
     → IsPut b b' log log' history history' (length steps + 1) c p
     → IsPlayed start.lines (board start.lines start.colours (map made_of steps)) (placed c p t) → IsLegal (standing_of start komi first steps) c (At p)
@@ -137,10 +137,10 @@ keep_put law start komi first steps more c p t b b' log log' history history' bl
     }
 
 -- a play taken back at once
-pub keep_back : {A : Type 0} → (start : GridValue) (komi : ℤ) (first : Colour) (steps steps' : List Step) (b b' : BoardValue) (log log' : List (List Change)) (history history' : History A) (black white : ℕ)
+pub keep_back : (start : GridValue) (komi : ℤ) (first : Colour) (steps steps' : List Step) (b b' : BoardValue) (log log' : List (List Change)) (history history' : HistoryValue) (black white : ℕ)
     → IsKeeping start komi first steps b log history black white → steps' ≡ steps → b'.lines ≡ b.lines → b'.cells ≡ b.cells → log' ≡ log → IsUnchanged history history'
     → IsKeeping start komi first steps' b' log' history' black white
-keep_back {A} start komi first steps steps' b b' log log' history history' black white k same lines cells log_is unchanged =
+keep_back start komi first steps steps' b b' log log' history history' black white k same lines cells log_is unchanged =
     let K : List Step → List (List Change) → List ℕ → Type 0 = λ xs l numbers. WentThrough start.lines k.tracked.first (map made_of xs) l numbers in
     subst (λ (xs : List Step). IsKeeping start komi first xs b' log' history' black white) (sym same) (record {
       held = k.held;
@@ -155,7 +155,7 @@ keep_back {A} start komi first steps steps' b b' log log' history history' black
     })
 
 -- what was just logged can be put back
-pub rewinds : {A : Type 0} → (start : GridValue) (komi : ℤ) (first : Colour) (steps : List Step) (b b' : BoardValue) (log log' : List (List Change)) (history : History A) (black white most : ℕ)
+pub rewinds : (start : GridValue) (komi : ℤ) (first : Colour) (steps : List Step) (b b' : BoardValue) (log log' : List (List Change)) (history : HistoryValue) (black white most : ℕ)
     → IsKeeping start komi first steps b log history black white → b'.lines ≡ b.lines → PlayLogged b.cells b'.cells log log' most
     → (earlier : List (List Change)) (changes : List Change) → log' ≡ earlier ++ changes ∷ [] → NamesCells COUNT changes × IsKept b'.lines (rewound b'.cells changes)
 rewinds start komi first steps b b' log log' history black white most k lines logged earlier changes split =
@@ -165,7 +165,7 @@ rewinds start komi first steps b b' log log' history black white most k lines lo
     subst R last.1 (logged.names, subst (λ (n : ℕ). IsKept n (rewound b'.cells logged.changes)) (sym (lines ∙ k.tracked.lines)) (subst (IsKept start.lines) (sym logged.back) here.0))
 
 -- the play taken back, as rewinding leaves it
-pub keep_rewound : {A : Type 0} → (start : GridValue) (komi : ℤ) (first : Colour) (steps steps' : List Step) (b b' b'' : BoardValue) (log log' log'' : List (List Change)) (history history' : History A) (black white most before after : ℕ)
+pub keep_rewound : (start : GridValue) (komi : ℤ) (first : Colour) (steps steps' : List Step) (b b' b'' : BoardValue) (log log' log'' : List (List Change)) (history history' : HistoryValue) (black white most before after : ℕ)
     → IsKeeping start komi first steps b log history black white → b'.lines ≡ b.lines → (logged : PlayLogged b.cells b'.cells log log' most)
     → IsRewound b' b'' log'' log logged.changes before after → steps' ≡ steps → IsUnchanged history history' → IsKeeping start komi first steps' b'' log'' history' black white
 keep_rewound start komi first steps steps' b b' b'' log log' log'' history history' black white most before after k lines logged back same unchanged =

@@ -17,7 +17,7 @@ use Rattle.go_chains.specs.declared.cells.TheConstants.{COUNT}
 use Rattle.go_chains.specs.declared.log.Change.{Change}
 use Rattle.go_chains.specs.Rewound.{IsRewound, NamesCells, rewound}
 use Rattle.go_chains.specs.Sound.{BoardValue, IsKept, grid_of}
-use Rattle.go_game.specs.declared.history.History.{History}
+use Rattle.go_history.specs.Histories.{HistoryValue}
 use Rattle.go_game.specs.declared.step.Step.{Step}
 use Rattle.go_game.specs.Held.{ArePlayed, IsKeeping, IsPlayed, made_of, standing_of}
 use Rattle.go_game.specs.Histories.{IsForgotten, StandsFor}
@@ -38,7 +38,7 @@ last_legal s moves m sound =
     subst (λ (ms : List Move). IsLegal (record s { moves = ms }) m.colour m.vertex) (take-append_seam moves (m ∷ []))
     (sound.legal (length moves) m (omega (arith, length-append moves (m ∷ []))) (get_or-append_seam moves m [] m))
 
-module _ {A : Type 0} (start : GridValue) (komi : ℤ) (first : Colour) (steps front : List Step) (s : Step) (b : BoardValue) (log : List (List Change)) (history : History A) (black white : ℕ)
+module _ (start : GridValue) (komi : ℤ) (first : Colour) (steps front : List Step) (s : Step) (b : BoardValue) (log : List (List Change)) (history : HistoryValue) (black white : ℕ)
     (k : IsKeeping start komi first steps b log history black white) (is : steps ≡ front ++ s ∷ []) where
   abbrev n : ℕ
   n = start.lines
@@ -111,7 +111,7 @@ module _ {A : Type 0} (start : GridValue) (komi : ℤ) (first : Colour) (steps f
       let R : List Change → Type 0 = λ xs. NamesCells COUNT xs × IsKept b.lines (rewound b.cells xs) in
       subst R same.1 (play.names, subst (λ (m : ℕ). IsKept m (rewound b.cells play.changes)) (sym k.tracked.lines) (subst (IsKept n) (sym play.back) play.kept))
 
-  pub keep_less_put : TellApart → (p : Point) → s.made.vertex ≡ At p → (b' : BoardValue) (log' : List (List Change)) (history' : History A) (black' white' ticks ticks' : ℕ)
+  pub keep_less_put : TellApart → (p : Point) → s.made.vertex ≡ At p → (b' : BoardValue) (log' : List (List Change)) (history' : HistoryValue) (black' white' ticks ticks' : ℕ)
       → ((earlier : List (List Change)) (changes : List Change) → log ≡ earlier ++ changes ∷ [] → IsRewound b b' log' earlier changes ticks ticks')
       → IsForgotten history history' (grid_of b) → black ≡ black' + share_of s.made.colour s.taken Black → white ≡ white' + share_of s.made.colour s.taken White
       → IsKeeping start komi first front b' log' history' black' white'

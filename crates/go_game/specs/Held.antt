@@ -11,7 +11,7 @@ use Rattle.go_board.specs.Grids.{GridValue}
 use Rattle.go_board.specs.Points.{IsOn, number_of}
 use Rattle.go_chains.specs.declared.log.Change.{Change}
 use Rattle.go_chains.specs.Sound.{BoardValue, IsKept, colouring_of}
-use Rattle.go_game.specs.declared.history.History.{History}
+use Rattle.go_history.specs.Histories.{HistoryValue}
 use Rattle.go_game.specs.declared.step.Step.{Step}
 use Rattle.go_game.specs.Histories.{StandsFor}
 use Rattle.go_game.specs.Standings.{IsSound, Standing, after_move, positions_of}
@@ -57,7 +57,7 @@ pub record IsHeld (start : GridValue) (komi : ℤ) (first : Colour) (steps : Lis
   pub white_taken : white ≡ prisoners_of (standing_of start komi first steps) White
 
 -- all that a game keeps
-pub record IsKeeping {A : Type 0} (start : GridValue) (komi : ℤ) (first : Colour) (steps : List Step) (board : BoardValue) (log : List (List Change)) (history : History A) (black white : ℕ) : Type 0 where
+pub record IsKeeping (start : GridValue) (komi : ℤ) (first : Colour) (steps : List Step) (board : BoardValue) (log : List (List Change)) (history : HistoryValue) (black white : ℕ) : Type 0 where
   pub held : IsHeld start komi first steps black white
   pub tracked : IsTracked start (map made_of steps) board log
   pub told : StandsFor (start.lines * start.lines) history (positions_of (standing_of start komi first steps))

@@ -5,9 +5,6 @@ mod choice;
 mod errors;
 mod game;
 mod handicap;
-mod history;
-#[cfg(test)]
-mod history_tests;
 pub mod laws;
 mod play;
 mod prisoners;

@@ -6,17 +6,18 @@ ghost use Rattle.go_chains.specs.declared.log.Change.{Change};
 ghost use Rattle.go_chains.specs.Rewound.{IsRewound, NamesCells, rewound};
 ghost use Rattle.go_chains.specs.Sound.{IsKept, grid_of};
 ghost use Rattle.go_game.specs.Counts.{IsAsBefore, IsLogged, IsTakenBack, most_for};
-ghost use Rattle.go_game.specs.Histories.{IsForgotten, IsNoted, IsUnchanged, KnowsAt, Lacks};
+ghost use Rattle.go_history.specs.Histories.{IsUnchanged};
+ghost use Rattle.go_game.specs.Histories.{IsForgotten, IsNoted, KnowsAt, Lacks};
 ghost use Rattle.go_game.specs.Prisoners.{share_of};
 ghost use Rattle.go_game.specs.Standings.{IsLegal, IsOccupied, IsOffBoard, Repeats, with_move, without_last};
 ghost use Rattle.go_game.specs.Playing.{stones_taken};
 
-use crate::history::History;
 use crate::step::Step;
 use crate::{Game, PlayError};
 use go_board::laws::{packs_tell_colourings_apart, taken_and_left};
 use go_board::{Colour, Meter, Move, Point, Taken, Vertex};
 use go_chains::{Board, Log, PlaceError};
+use go_history::History;
 use std::alloc::Allocator;
 
 impl<A: Allocator + Copy> Game<A> {

@@ -10,13 +10,13 @@ ghost use Rattle.go_chains.specs.Sound.{IsKept, grid_of};
 ghost use Rattle.go_game.specs.Building.{AreAlive, IsFront};
 ghost use Rattle.go_game.specs.Standings.{started};
 
-use crate::history::History;
 use crate::prisoners::Prisoners;
 use crate::{Game, SetupError};
 use go_board::laws::{packs_tell_colourings_apart, points_by_number, reaches_by_a_path};
 use go_board::plain::first_dead;
 use go_board::{Colour, Grid, Meter, Point};
 use go_chains::{Board, Log};
+use go_history::History;
 use std::alloc::{AllocError, Allocator};
 
 impl<A: Allocator + Copy> Game<A> {

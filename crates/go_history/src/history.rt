@@ -1,17 +1,27 @@
 ghost use Rattle.std.specs.Prelude.{◌≡◌, ℕ, IfOk, None, Ok, OnErr, Some};
-ghost use Rattle.go_game.specs.Histories.{IsBegun, IsChangedAt, IsUnchanged, number_at};
+ghost use Rattle.go_history.specs.Histories.{IsBegun, IsChangedAt, IsUnchanged, number_at};
 
 use go_board::Packed;
 use std::alloc::{AllocError, Allocator};
 use std::collections::HashMap;
 use std::hash::{BuildHasherDefault, FoldHasher};
+use std::marker::Model;
 
 /// After how many moves each colouring of a game stood first, by its pack. The start's is kept
-/// beside the others, so that a game without moves takes no memory.
+/// beside the others, so that a game without moves takes no memory. It takes memory as packs are
+/// noted, from the allocator that it was made with.
 #[derive(Drop)]
 pub struct History<A: Allocator + Copy> {
     start: Packed,
     later: HashMap<Packed, usize, BuildHasherDefault<FoldHasher>, A>,
+}
+
+impl<A: Allocator + Copy> Model for History<A> {
+    ghost use Rattle.go_history.specs.Histories.{HistoryValue};
+
+    ghost Value = { HistoryValue };
+
+    ghost view = { λ h. record { start = h.start; later = h.later.entries } };
 }
 
 impl<A: Allocator + Copy> History<A> {

@@ -1,4 +1,4 @@
-use crate::history::History;
+use crate::History;
 use go_board::{Colour, Grid, Packed, Point, Size};
 use std::alloc::{AllocError, Global};
 use std::process::Abort;
