@@ -12,12 +12,9 @@ use std::process::Abort;
 fn point(rt: &impl Abort, size: Size, word: &[u8]) -> Point
     ensures { IsOn (lines_of size) result }
 {
-    match read_vertex(word, size) {
-        Ok(Vertex::At(point)) if point.on(size) => point,
-        _ => {
-            assert!(rt; false);
-            Point::numbered(size, 0)
-        }
+    match read_vertex(word, size).expect(rt, "a vertex") {
+        Vertex::At(point) => point,
+        Vertex::Pass => panic!(rt; "a pass"),
     }
 }
 
@@ -91,13 +88,17 @@ fn malformed_vertices(rt: HostRuntime) {
     }
 }
 
+/// Asserts that a vertex's text spells it.
+fn reads_back(rt: &impl Abort, size: Size, vertex: Vertex) {
+    let text = vertex_text(vertex);
+    assert!(rt; read_vertex(text.as_str().as_bytes(), size) == Ok(vertex));
+}
+
 #[test]
 fn each_vertex_reads_back(rt: HostRuntime) {
     let size = size_of(&rt, 19);
     for number in 0..size.points() {
-        let vertex = Vertex::At(Point::numbered(size, number));
-        let text = vertex_text(vertex);
-        assert!(rt; read_vertex(text.as_str().as_bytes(), size) == Ok(vertex));
+        reads_back(&rt, size, Vertex::At(Point::numbered(size, number)));
     }
     assert!(rt; vertex_text(Vertex::Pass).as_str() == "pass");
     assert!(rt; vertex_text(Vertex::At(Point { col: 8, row: 9 })).as_str() == "J10");

@@ -10,7 +10,7 @@ use std::process::Abort;
 use std::test::Fail;
 
 /// What goref answers to a line that it must accept: the result, behind a space if there is one.
-fn told(
+pub(crate) fn told(
     rt: &impl Abort,
     alloc: Global,
     session: &mut Session<Global>,

@@ -26,23 +26,18 @@ fn largest(rt: &impl Abort) -> Size {
 
 /// Asserts that a script is answered by this text, however its bytes come in and the answers leave.
 pub(crate) fn says(rt: &impl Abort, alloc: Global, script: &[u8], answers: &[u8]) {
-    let whole = || Reader::new(script);
-    for reader in [
-        whole(),
-        whole().in_lines(),
-        whole().in_pieces_of(1),
-        whole().in_pieces_of(2),
-        whole().in_pieces_of(7),
-    ] {
-        answers_to(rt, alloc, reader, Writer::new(alloc), answers);
+    read_as(rt, alloc, Reader::new(script), answers);
+    read_as(rt, alloc, Reader::new(script).in_lines(), answers);
+    for most in [1, 2, 7] {
+        read_as(rt, alloc, Reader::new(script).in_pieces_of(most), answers);
     }
-    answers_to(
-        rt,
-        alloc,
-        whole(),
-        Writer::new(alloc).in_pieces_of(1),
-        answers,
-    );
+    let single = Writer::new(alloc).in_pieces_of(1);
+    answers_to(rt, alloc, Reader::new(script), single, answers);
+}
+
+/// Asserts that what is read is answered by this text, to a writer that takes it whole.
+fn read_as(rt: &impl Abort, alloc: Global, reader: Reader<'_>, answers: &[u8]) {
+    answers_to(rt, alloc, reader, Writer::new(alloc), answers);
 }
 
 /// Asserts that what is read is answered by this text.
