@@ -1,5 +1,5 @@
 use crate::games::size_of;
-use crate::matches::told;
+use crate::sessions::told;
 use goref::Session;
 use std::alloc::{AllocError, Global};
 use std::process::Abort;

@@ -1,3 +1,4 @@
+use crate::tidying::told;
 use failing::Failing;
 use go_board::Point;
 use go_game::PlayError;
@@ -7,7 +8,6 @@ use goref_tools::{ToolError, judge_run};
 use memory_devices::{Reader, Writer};
 use std::alloc::{Allocator, Global};
 use std::process::Abort;
-use std::test::Fail;
 
 const SAMPLE: &[u8] = b"(;GM[1]SZ[9]KM[6.5]RE[B+74.5];B[ee])";
 
@@ -16,47 +16,58 @@ const VERDICT: &[u8] = b"moves 1\nscore B+74.5\nstated agrees\n";
 /// A record whose fourth move repeats the position after the third.
 const REPEATING: &[u8] = b"(;SZ[2];B[aa];W[ba];W[ab];B[aa])";
 
+/// Judges what is read, and writes the verdict.
+fn judging<A: Allocator + Copy>(
+    alloc: A,
+    reader: &mut Reader<'_>,
+    writer: &mut Writer<Global>,
+) -> Result<(), ToolError> {
+    judge_run(alloc, reader, writer)
+}
+
 /// Asserts the verdict on a record, however it is read and written, with one flush.
 fn judged(rt: &impl Abort, alloc: Global, source: &[u8], text: &[u8]) {
     for (most, least) in [(1, 4_096), (2, 1), (7, 3), (4_096, 7)] {
-        let mut reader = Reader::new(source).in_pieces_of(most);
-        let mut writer = Writer::new(alloc).in_pieces_of(least);
-        assert!(rt; judge_run(alloc, &mut reader, &mut writer) == Ok(()));
-        assert!(rt; writer.bytes() == text);
-        assert!(rt; writer.flush_count() == 1);
+        judged_in_pieces(rt, alloc, source, most, least, text);
     }
+}
+
+/// Asserts the verdict on a record that is read and written in pieces of these lengths.
+fn judged_in_pieces(
+    rt: &impl Abort,
+    alloc: Global,
+    source: &[u8],
+    most: usize,
+    least: usize,
+    text: &[u8],
+) {
+    let mut reader = Reader::new(source).in_pieces_of(most);
+    let mut writer = Writer::new(alloc).in_pieces_of(least);
+    assert!(rt; judging(alloc, &mut reader, &mut writer).is_ok());
+    assert!(rt; writer.bytes() == text);
+    assert!(rt; writer.flush_count() == 1);
+}
+
+/// Asserts why there is no verdict on what is read, and that nothing is written.
+fn fails(rt: &impl Abort, alloc: Global, mut reader: Reader<'_>, fault: ToolError) {
+    let mut writer = Writer::new(alloc);
+    assert!(rt; judging(alloc, &mut reader, &mut writer) == Err(fault));
+    assert!(rt; writer.put_count() == 0 && writer.flush_count() == 0);
 }
 
 /// Asserts why there is no verdict on a source, and that nothing is written.
 fn refused(rt: &impl Abort, alloc: Global, source: &[u8], fault: ToolError) {
-    let mut reader = Reader::new(source);
-    let mut writer = Writer::new(alloc);
-    assert!(rt; judge_run(alloc, &mut reader, &mut writer) == Err(fault));
-    assert!(rt; writer.put_count() == 0 && writer.flush_count() == 0);
+    fails(rt, alloc, Reader::new(source), fault);
 }
 
 /// Asserts why a record has no game, and the text and the status of that.
-fn illegal(
-    rt: &impl Abort,
-    alloc: Global,
-    source: &[u8],
-    why: RecordError,
-    text: &str,
-) -> Result<(), Fail> {
+fn illegal(rt: &impl Abort, alloc: Global, source: &[u8], why: RecordError, text: &str) {
     refused(rt, alloc, source, ToolError::Record(why));
-    told(rt, alloc, ToolError::Record(why), text)
-}
-
-/// Asserts the text of a fault with status 1.
-fn told(rt: &impl Abort, alloc: Global, fault: ToolError, text: &str) -> Result<(), Fail> {
-    let words = format!(in alloc; "{fault}")?;
-    assert!(rt; words.as_str() == text, "{words}");
-    assert!(rt; fault.status() == 1);
-    Ok(())
+    told(rt, alloc, ToolError::Record(why), text, 1);
 }
 
 #[test]
-fn judge_a_record(rt: HostRuntime) -> Result<(), Fail> {
+fn judge_a_record(rt: HostRuntime) {
     let alloc = rt.alloc();
     judged(&rt, alloc, SAMPLE, VERDICT);
     illegal(
@@ -65,7 +76,7 @@ fn judge_a_record(rt: HostRuntime) -> Result<(), Fail> {
         REPEATING,
         RecordError::Illegal(4, PlayError::Repeats(3)),
         "move 4 repeats the position after 3 moves",
-    )
+    );
 }
 
 #[test]
@@ -125,7 +136,7 @@ fn inputs_without_a_record(rt: HostRuntime) {
 }
 
 #[test]
-fn records_without_a_game(rt: HostRuntime) -> Result<(), Fail> {
+fn records_without_a_game(rt: HostRuntime) {
     let alloc = rt.alloc();
     illegal(
         &rt,
@@ -133,84 +144,83 @@ fn records_without_a_game(rt: HostRuntime) -> Result<(), Fail> {
         b"(;GM[2])",
         RecordError::NotGo,
         "not a Go record",
-    )?;
+    );
     illegal(
         &rt,
         alloc,
         b"(;SZ[20])",
         RecordError::BadSize,
         "bad board size",
-    )?;
-    illegal(&rt, alloc, b"(;KM[x])", RecordError::BadKomi, "bad komi")?;
+    );
+    illegal(&rt, alloc, b"(;KM[x])", RecordError::BadKomi, "bad komi");
     illegal(
         &rt,
         alloc,
         b"(;SZ[2];B[aa:ab])",
         RecordError::BadValue(1),
         "bad value in node 1",
-    )?;
+    );
     illegal(
         &rt,
         alloc,
         b"(;SZ[9];B[aa];AB[bb])",
         RecordError::SetupAfterMove(2),
         "set-up after a move in node 2",
-    )?;
+    );
     illegal(
         &rt,
         alloc,
         b"(;SZ[9]AB[aa]AW[ab][ba])",
         RecordError::DeadSetup(Point { col: 0, row: 8 }),
         "set-up without liberty at A9",
-    )?;
+    );
     illegal(
         &rt,
         alloc,
         b"(;SZ[9];B[aa];W[aa])",
         RecordError::Illegal(2, PlayError::Occupied),
         "move 2 is on a stone",
-    )?;
+    );
     let off_board = RecordError::Illegal(7, PlayError::OffBoard);
     told(
         &rt,
         alloc,
         ToolError::Record(off_board),
         "move 7 is off the board",
-    )
+        1,
+    );
+}
+
+/// Asserts that a run fails at its writer, which takes so many bytes of the verdict.
+fn takes(rt: &impl Abort, alloc: Global, mut writer: Writer<Global>, count: u64) {
+    let end = judging(alloc, &mut Reader::new(SAMPLE), &mut writer);
+    assert!(rt; end == Err(ToolError::Write));
+    assert!(rt; VERDICT.starts_with(writer.bytes()));
+    assert!(rt; writer.bytes().len() as u64 == count);
 }
 
 #[test]
 fn failing_devices(rt: HostRuntime) {
     let alloc = rt.alloc();
     for pull in 1..=37u64 {
-        let mut reader = Reader::new(SAMPLE).in_pieces_of(1).failing_at(pull);
-        let mut writer = Writer::new(alloc);
-        assert!(rt; judge_run(alloc, &mut reader, &mut writer) == Err(ToolError::Read));
-        assert!(rt; writer.put_count() == 0 && writer.flush_count() == 0);
+        let reader = Reader::new(SAMPLE).in_pieces_of(1).failing_at(pull);
+        fails(&rt, alloc, reader, ToolError::Read);
     }
     for put in 1..=VERDICT.len() as u64 {
-        let mut failing = Writer::new(alloc).in_pieces_of(1).failing_at_put(put);
-        let result = judge_run(alloc, &mut Reader::new(SAMPLE), &mut failing);
-        assert!(rt; result == Err(ToolError::Write));
-        assert!(rt; VERDICT.starts_with(failing.bytes()));
-        assert!(rt; failing.bytes().len() as u64 == put - 1);
-        let mut stalling = Writer::new(alloc).in_pieces_of(1).stalling_at_put(put);
-        let result = judge_run(alloc, &mut Reader::new(SAMPLE), &mut stalling);
-        assert!(rt; result == Err(ToolError::Write));
-        assert!(rt; VERDICT.starts_with(stalling.bytes()));
-        assert!(rt; stalling.bytes().len() as u64 == put - 1);
+        let failing = Writer::new(alloc).in_pieces_of(1).failing_at_put(put);
+        takes(&rt, alloc, failing, put - 1);
+        let stalling = Writer::new(alloc).in_pieces_of(1).stalling_at_put(put);
+        takes(&rt, alloc, stalling, put - 1);
     }
-    let mut writer = Writer::new(alloc).failing_at_flush(1);
-    let result = judge_run(alloc, &mut Reader::new(SAMPLE), &mut writer);
-    assert!(rt; result == Err(ToolError::Write));
-    assert!(rt; writer.bytes() == VERDICT);
+    let unflushed = Writer::new(alloc).failing_at_flush(1);
+    takes(&rt, alloc, unflushed, VERDICT.len() as u64);
 }
 
 /// Whether there is a verdict on a record with this allocator; that memory was wanted and nothing
 /// was written, if not.
 fn judges<A: Allocator + Copy>(rt: &impl Abort, alloc: A, ample: Global) -> bool {
     let mut writer = Writer::new(ample);
-    let result = judge_run(alloc, &mut Reader::new(SAMPLE), &mut writer);
+    let result = judging(alloc, &mut Reader::new(SAMPLE), &mut writer);
     if result.is_ok() {
         assert!(rt; writer.bytes() == VERDICT);
     } else {

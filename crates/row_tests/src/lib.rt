@@ -34,6 +34,8 @@ mod replays;
 #[cfg(test)]
 mod scripts;
 #[cfg(test)]
+mod sessions;
+#[cfg(test)]
 mod tidying;
 #[cfg(test)]
 mod turns;

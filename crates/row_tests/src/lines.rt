@@ -1,5 +1,6 @@
+use crate::sessions::answered;
 use go_board::{MAX_LINES, Size};
-use goref::{Fetched, Line, Session};
+use goref::{Line, Session};
 use memory_devices::Writer;
 use std::alloc::Global;
 use std::process::Abort;
@@ -67,7 +68,7 @@ fn answers(rt: &impl Abort, alloc: Global, line: &Line, text: &[u8]) {
     let size = Size::new(MAX_LINES).expect(rt, "a size");
     let mut session = Session::new(alloc, size);
     let mut writer = Writer::new(alloc);
-    assert!(rt; session.answer(line, Fetched::None, &mut writer).is_ok());
+    assert!(rt; answered(&mut session, line, &mut writer).is_ok());
     assert!(rt; writer.bytes() == text);
 }
 

@@ -1,3 +1,4 @@
+use crate::sessions::answered;
 use go_board::{MAX_LINES, Size};
 use goref::{Fetched, Flow, Line, Session};
 use goref_runs::{Shelf, run};
@@ -51,6 +52,19 @@ impl<A: Allocator + Copy> Shelf<A> for OneFile<'_, A> {
     }
 }
 
+/// Runs what is read over a shelf, and asserts that it comes to its end.
+fn runs(
+    rt: &impl Abort,
+    alloc: Global,
+    mut reader: Reader<'_>,
+    writer: &mut Writer<Global>,
+    shelf: &mut OneFile<'_, Global>,
+) {
+    let size = Size::new(MAX_LINES).expect(rt, "a size");
+    let end = run(alloc, size, &mut reader, writer, shelf);
+    assert!(rt; end == Ok(()));
+}
+
 /// Asserts what a script is answered over such a shelf, and how often `f` is asked for.
 fn says(
     rt: &impl Abort,
@@ -61,19 +75,41 @@ fn says(
     asked: usize,
 ) {
     for most in [1, 4_096] {
-        let size = Size::new(MAX_LINES).expect(rt, "a size");
-        let mut shelf = OneFile {
-            alloc,
-            gift,
-            asked: 0,
-        };
-        let mut reader = Reader::new(script).in_pieces_of(most);
-        let mut writer = Writer::new(alloc);
-        let end = run(alloc, size, &mut reader, &mut writer, &mut shelf);
-        assert!(rt; end == Ok(()));
-        assert!(rt; writer.bytes() == answers);
-        assert_eq!(rt; shelf.asked, asked);
+        let reader = Reader::new(script).in_pieces_of(most);
+        answers_to(rt, alloc, gift, reader, answers, asked);
     }
+}
+
+/// Asserts what is answered to what is read, over such a shelf, and how often `f` is asked for.
+fn answers_to(
+    rt: &impl Abort,
+    alloc: Global,
+    gift: Gift<'_>,
+    reader: Reader<'_>,
+    answers: &[u8],
+    asked: usize,
+) {
+    let mut shelf = OneFile {
+        alloc,
+        gift,
+        asked: 0,
+    };
+    let mut writer = Writer::new(alloc);
+    runs(rt, alloc, reader, &mut writer, &mut shelf);
+    assert!(rt; writer.bytes() == answers);
+    assert_eq!(rt; shelf.asked, asked);
+}
+
+/// Asserts how the answers begin to a script over a shelf that gives the game with a handicap.
+fn begins(rt: &impl Abort, alloc: Global, script: &[u8], heading: &[u8]) {
+    let mut shelf = OneFile {
+        alloc,
+        gift: Gift::Bytes(HANDICAP_GAME),
+        asked: 0,
+    };
+    let mut writer = Writer::new(alloc);
+    runs(rt, alloc, Reader::new(script), &mut writer, &mut shelf);
+    assert!(rt; writer.bytes().starts_with(heading));
 }
 
 #[test]
@@ -95,33 +131,18 @@ fn load_a_record(rt: HostRuntime) {
         b"? syntax error\n\n? syntax error\n\n? syntax error\n\n",
         0,
     );
-    for (script, heading) in [
-        (
-            b"loadsgf f 0\nshowboard\n".as_slice(),
-            b"=\n\n= size 9 komi 5.5 prisoners B 0 W 0 moves 0 next W\n".as_slice(),
-        ),
-        (
-            b"loadsgf f 99\nshowboard\n".as_slice(),
-            b"=\n\n= size 9 komi 5.5 prisoners B 0 W 0 moves 2 next W\n".as_slice(),
-        ),
-    ] {
-        let size = Size::new(MAX_LINES).expect(&rt, "a size");
-        let mut shelf = OneFile {
-            alloc,
-            gift: Gift::Bytes(HANDICAP_GAME),
-            asked: 0,
-        };
-        let mut writer = Writer::new(alloc);
-        let end = run(
-            alloc,
-            size,
-            &mut Reader::new(script),
-            &mut writer,
-            &mut shelf,
-        );
-        assert!(rt; end == Ok(()));
-        assert!(rt; writer.bytes().starts_with(heading));
-    }
+    begins(
+        &rt,
+        alloc,
+        b"loadsgf f 0\nshowboard\n",
+        b"=\n\n= size 9 komi 5.5 prisoners B 0 W 0 moves 0 next W\n",
+    );
+    begins(
+        &rt,
+        alloc,
+        b"loadsgf f 99\nshowboard\n",
+        b"=\n\n= size 9 komi 5.5 prisoners B 0 W 0 moves 2 next W\n",
+    );
 }
 
 #[test]
@@ -153,7 +174,7 @@ fn nothing_fetched(rt: HostRuntime) {
     let mut session = Session::new(rt.alloc(), size);
     let mut writer = Writer::new(rt.alloc());
     let line = Line::of(b"loadsgf f");
-    assert!(rt; session.answer(&line, Fetched::None, &mut writer) == Ok(Flow::More));
+    assert!(rt; answered(&mut session, &line, &mut writer) == Ok(Flow::More));
     assert!(rt; writer.bytes() == b"? cannot load file\n\n".as_slice());
 }
 

@@ -1,29 +1,12 @@
 //! A game of goref against a small opponent, held by a controller that judges each answer by a game
 //! of its own.
 use crate::games::size_of;
+use crate::sessions::told;
 use go_board::{Colour, Move, Point, Vertex, read_vertex, vertex_text};
 use go_game::{Game, score_text};
-use goref::{Fetched, Flow, Line, Session};
-use memory_devices::Writer;
+use goref::Session;
 use std::alloc::{AllocError, Global};
 use std::process::Abort;
-use std::test::Fail;
-
-/// What goref answers to a line that it must accept: the result, behind a space if there is one.
-pub(crate) fn told(
-    rt: &impl Abort,
-    alloc: Global,
-    session: &mut Session<Global>,
-    line: &[u8],
-) -> Result<Vec<u8>, AllocError> {
-    let mut writer = Writer::new(alloc);
-    let end = session.answer(&Line::of(line), Fetched::None, &mut writer);
-    assert!(rt; end == Ok(Flow::More));
-    let answer = writer.bytes();
-    assert!(rt; answer.len() > 2 && answer.starts_with(b"=") && answer.ends_with(b"\n\n"));
-    let (result, _) = answer.split_at(answer.len().wrapping_sub(2));
-    result.split_at(1).1.to_vec(alloc)
-}
 
 /// A vertex behind a space.
 fn spaced(alloc: Global, vertex: Vertex) -> Result<Vec<u8>, AllocError> {
@@ -120,22 +103,34 @@ fn same_board(rt: &impl Abort, session: &Session<Global>, judge: &Game<Global>) 
     }
 }
 
-#[test]
-fn a_game_to_its_end(rt: HostRuntime) -> Result<(), Fail> {
-    let alloc = rt.alloc();
-    let size = size_of(&rt, 5);
-    let mut session = Session::new(alloc, size);
-    let mut judge = Game::new(alloc, size);
+/// The move of the colour whose turn it is, made on both boards.
+fn next_move(
+    rt: &impl Abort,
+    alloc: Global,
+    session: &mut Session<Global>,
+    judge: &mut Game<Global>,
+) -> Vertex {
+    let colour = judge.mover();
+    let moved = match colour {
+        Colour::Black => goref_moves(rt, alloc, session, judge),
+        Colour::White => opponent_moves(rt, alloc, session, judge),
+    };
+    let vertex = moved.expect(rt, "memory");
+    assert!(rt; judge.play(Move { colour, vertex }).is_ok());
+    same_board(rt, session, judge);
+    vertex
+}
+
+/// Plays until both pass.
+fn plays_to_the_end(
+    rt: &impl Abort,
+    alloc: Global,
+    session: &mut Session<Global>,
+    judge: &mut Game<Global>,
+) {
     let mut passes = 0u32;
     for _ in 0..300u32 {
-        let colour = judge.mover();
-        let vertex = match colour {
-            Colour::Black => goref_moves(&rt, alloc, &mut session, &judge)?,
-            Colour::White => opponent_moves(&rt, alloc, &mut session, &mut judge)?,
-        };
-        assert!(rt; judge.play(Move { colour, vertex }).is_ok());
-        same_board(&rt, &session, &judge);
-        passes = if vertex == Vertex::Pass {
+        passes = if next_move(rt, alloc, session, judge) == Vertex::Pass {
             passes.wrapping_add(1)
         } else {
             0
@@ -145,16 +140,35 @@ fn a_game_to_its_end(rt: HostRuntime) -> Result<(), Fail> {
         }
     }
     assert_eq!(rt; passes, 2);
-    assert!(rt; judge.move_count() > 30);
-    let score = told(&rt, alloc, &mut session, b"final_score")?;
+}
+
+/// Asserts that goref's score is the judge's.
+fn same_score(rt: &impl Abort, alloc: Global, session: &mut Session<Global>, judge: &Game<Global>) {
+    let score = told(rt, alloc, session, b"final_score").expect(rt, "memory");
     assert!(rt; bare(score.as_slice()) == score_text(judge.margin()).as_bytes());
+}
+
+/// Asserts that goref takes a move back.
+fn undoes(rt: &impl Abort, alloc: Global, session: &mut Session<Global>) {
+    let answer = told(rt, alloc, session, b"undo").expect(rt, "memory");
+    assert!(rt; answer.is_empty());
+}
+
+#[test]
+fn a_game_to_its_end(rt: HostRuntime) {
+    let alloc = rt.alloc();
+    let size = size_of(&rt, 5);
+    let mut session = Session::new(alloc, size);
+    let mut judge = Game::new(alloc, size);
+    plays_to_the_end(&rt, alloc, &mut session, &mut judge);
+    assert!(rt; judge.move_count() > 30);
+    same_score(&rt, alloc, &mut session, &judge);
     for _ in 0..300u32 {
         if judge.undo().is_none() {
             break;
         }
-        assert!(rt; told(&rt, alloc, &mut session, b"undo")?.is_empty());
+        undoes(&rt, alloc, &mut session);
         same_board(&rt, &session, &judge);
     }
     assert_eq!(rt; judge.move_count(), 0);
-    Ok(())
 }

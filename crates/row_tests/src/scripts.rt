@@ -1,3 +1,4 @@
+use crate::sessions::answered;
 use go_board::{MAX_LINES, Size};
 use goref::{Fetched, Flow, Line, Session};
 use goref_runs::{RunError, Shelf, run, run_within};
@@ -44,13 +45,22 @@ fn read_as(rt: &impl Abort, alloc: Global, reader: Reader<'_>, answers: &[u8]) {
 fn answers_to(
     rt: &impl Abort,
     alloc: Global,
-    mut reader: Reader<'_>,
+    reader: Reader<'_>,
     mut writer: Writer<Global>,
     answers: &[u8],
 ) {
-    let end = run(alloc, largest(rt), &mut reader, &mut writer, &mut NoFiles);
-    assert!(rt; end == Ok(()));
+    assert!(rt; ends(rt, alloc, reader, &mut writer) == Ok(()));
     assert!(rt; writer.bytes() == answers);
+}
+
+/// How a run ends.
+fn ends(
+    rt: &impl Abort,
+    alloc: Global,
+    mut reader: Reader<'_>,
+    writer: &mut Writer<Global>,
+) -> Result<(), RunError> {
+    run(alloc, largest(rt), &mut reader, writer, &mut NoFiles)
 }
 
 #[test]
@@ -161,8 +171,7 @@ fn ko(rt: HostRuntime) {
 
 /// What a writer took of the answers to a script, and how the run ended.
 fn faulty(rt: &impl Abort, alloc: Global, script: &[u8], mut writer: Writer<Global>, taken: &[u8]) {
-    let mut reader = Reader::new(script);
-    let end = run(alloc, largest(rt), &mut reader, &mut writer, &mut NoFiles);
+    let end = ends(rt, alloc, Reader::new(script), &mut writer);
     assert!(rt; end == Err(RunError::Write));
     assert!(rt; writer.bytes() == taken);
 }
@@ -190,17 +199,22 @@ fn a_writer_fails(rt: HostRuntime) {
 
 #[test]
 fn a_reader_fails(rt: HostRuntime) {
-    let mut reader = Reader::new(b"boardsize 9\nplay b").failing_at(2);
+    let reader = Reader::new(b"boardsize 9\nplay b").failing_at(2);
     let mut writer = Writer::new(rt.alloc());
-    let end = run(
-        rt.alloc(),
-        largest(&rt),
-        &mut reader,
-        &mut writer,
-        &mut NoFiles,
-    );
+    let end = ends(&rt, rt.alloc(), reader, &mut writer);
     assert!(rt; end == Err(RunError::Read));
     assert!(rt; writer.bytes() == b"=\n\n".as_slice());
+}
+
+/// How a run ends that makes so many reads at most.
+fn ends_within(
+    rt: &impl Abort,
+    alloc: Global,
+    limit: u64,
+    reader: &mut Reader<'_>,
+    writer: &mut Writer<Global>,
+) -> Result<(), RunError> {
+    run_within(limit, alloc, largest(rt), reader, writer, &mut NoFiles)
 }
 
 /// Asserts how a run of `undo`, one byte at a time, ends within so many reads.
@@ -214,14 +228,7 @@ fn undone_within(
 ) {
     let mut reader = Reader::new(b"undo\n").in_pieces_of(1);
     let mut writer = Writer::new(alloc);
-    let ended = run_within(
-        limit,
-        alloc,
-        largest(rt),
-        &mut reader,
-        &mut writer,
-        &mut NoFiles,
-    );
+    let ended = ends_within(rt, alloc, limit, &mut reader, &mut writer);
     assert!(rt; ended == end);
     assert!(rt; writer.bytes() == taken);
     assert!(rt; reader.pull_count() == pulls);
@@ -245,10 +252,10 @@ fn reads_are_limited(rt: HostRuntime) {
 fn an_answer_that_fails_was_decided(rt: HostRuntime) {
     let mut session = Session::new(rt.alloc(), largest(&rt));
     let mut broken = Writer::new(rt.alloc()).failing_at_put(1);
-    let end = session.answer(&Line::of(b"play b e5"), Fetched::None, &mut broken);
+    let end = answered(&mut session, &Line::of(b"play b e5"), &mut broken);
     assert!(rt; end.is_err());
     let mut writer = Writer::new(rt.alloc());
-    let end = session.answer(&Line::of(b"undo"), Fetched::None, &mut writer);
+    let end = answered(&mut session, &Line::of(b"undo"), &mut writer);
     assert!(rt; end == Ok(Flow::More));
     assert!(rt; writer.bytes() == b"=\n\n".as_slice());
 }
@@ -299,7 +306,7 @@ fn komi(rt: HostRuntime) {
 fn komi_after(alloc: Global, size: Size, line: &[u8]) -> i64 {
     let mut session = Session::new(alloc, size);
     let mut writer = Writer::new(alloc);
-    let _ = session.answer(&Line::of(line), Fetched::None, &mut writer);
+    let _ = answered(&mut session, &Line::of(line), &mut writer);
     session.game().komi()
 }
 

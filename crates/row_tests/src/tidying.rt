@@ -4,29 +4,53 @@ use goref_tools::{ToolError, tidy_run};
 use memory_devices::{Reader, Writer};
 use std::alloc::{AllocError, Allocator, Global};
 use std::process::Abort;
-use std::test::Fail;
 
 const SAMPLE: &[u8] = b"x(;GM[1] FF[4] ;B[aa](;W[bb])(;W[cc]C[a\\]b]))";
 
 const TIDY: &[u8] = b"(;GM[1]FF[4];B[aa](;W[bb])(;W[cc]C[a\\]b]))\n";
 
+/// Tidies what is read, and writes it.
+fn tidying<A: Allocator + Copy>(
+    alloc: A,
+    reader: &mut Reader<'_>,
+    writer: &mut Writer<Global>,
+) -> Result<(), ToolError> {
+    tidy_run(alloc, reader, writer)
+}
+
 /// Asserts what a record is written as, however it is read and written, with one flush.
 fn tidied(rt: &impl Abort, alloc: Global, source: &[u8], text: &[u8]) {
     for (most, least) in [(1, 4_096), (2, 1), (7, 3), (4_096, 7)] {
-        let mut reader = Reader::new(source).in_pieces_of(most);
-        let mut writer = Writer::new(alloc).in_pieces_of(least);
-        assert!(rt; tidy_run(alloc, &mut reader, &mut writer) == Ok(()));
-        assert!(rt; writer.bytes() == text);
-        assert!(rt; writer.flush_count() == 1);
+        tidied_in_pieces(rt, alloc, source, most, least, text);
     }
+}
+
+/// Asserts what a record is written as that is read and written in pieces of these lengths.
+fn tidied_in_pieces(
+    rt: &impl Abort,
+    alloc: Global,
+    source: &[u8],
+    most: usize,
+    least: usize,
+    text: &[u8],
+) {
+    let mut reader = Reader::new(source).in_pieces_of(most);
+    let mut writer = Writer::new(alloc).in_pieces_of(least);
+    assert!(rt; tidying(alloc, &mut reader, &mut writer).is_ok());
+    assert!(rt; writer.bytes() == text);
+    assert!(rt; writer.flush_count() == 1);
+}
+
+/// Asserts why nothing is written of what is read.
+fn fails(rt: &impl Abort, alloc: Global, mut reader: Reader<'_>, fault: ToolError) {
+    let mut writer = Writer::new(alloc);
+    assert!(rt; tidying(alloc, &mut reader, &mut writer) == Err(fault));
+    assert!(rt; writer.put_count() == 0 && writer.flush_count() == 0);
 }
 
 /// Asserts what a source is refused with, and that nothing is written of it.
 fn refused(rt: &impl Abort, alloc: Global, source: &[u8], why: SgfError) {
-    let mut reader = Reader::new(source);
-    let mut writer = Writer::new(alloc);
-    assert!(rt; tidy_run(alloc, &mut reader, &mut writer) == Err(ToolError::Sgf(why)));
-    assert!(rt; writer.put_count() == 0 && writer.flush_count() == 0);
+    fails(rt, alloc, Reader::new(source), ToolError::Sgf(why));
 }
 
 #[test]
@@ -54,53 +78,68 @@ fn tree_behind(alloc: Global, spaces: usize) -> Result<Vec<u8>, AllocError> {
     Ok(text)
 }
 
-#[test]
-fn records_at_the_limit(rt: HostRuntime) -> Result<(), Fail> {
-    let alloc = rt.alloc();
-    let longest = tree_behind(alloc, MAX_RECORD - 3)?;
+/// Asserts that a tree behind so many spaces is written alone.
+fn tree_alone(rt: &impl Abort, alloc: Global, spaces: usize) {
+    let source = tree_behind(alloc, spaces).expect(rt, "memory");
     let mut writer = Writer::new(alloc);
-    assert!(rt; tidy_run(alloc, &mut Reader::new(longest.as_slice()), &mut writer) == Ok(()));
+    let end = tidying(alloc, &mut Reader::new(source.as_slice()), &mut writer);
+    assert!(rt; end == Ok(()));
     assert!(rt; writer.bytes() == b"(;)\n".as_slice());
-    let longer = tree_behind(alloc, MAX_RECORD - 2)?;
-    refused(&rt, alloc, longer.as_slice(), SgfError::TooLong);
-    let longest_by_far = tree_behind(alloc, MAX_RECORD + 8_192)?;
-    let mut reader = Reader::new(longest_by_far.as_slice()).in_pieces_of(4_096);
-    let result = tidy_run(alloc, &mut reader, &mut Writer::new(alloc));
-    assert!(rt; result == Err(ToolError::Sgf(SgfError::TooLong)));
-    assert!(rt; reader.pull_count() == 4_097);
-    Ok(())
+}
+
+/// Asserts that a tree behind so many spaces is too long.
+fn too_long(rt: &impl Abort, alloc: Global, spaces: usize) {
+    let source = tree_behind(alloc, spaces).expect(rt, "memory");
+    refused(rt, alloc, source.as_slice(), SgfError::TooLong);
+}
+
+/// How many pulls of 4096 bytes are made of a tree behind so many spaces, which is too long.
+fn pulls_of_too_long(rt: &impl Abort, alloc: Global, spaces: usize) -> u64 {
+    let source = tree_behind(alloc, spaces).expect(rt, "memory");
+    let mut reader = Reader::new(source.as_slice()).in_pieces_of(4_096);
+    let end = tidying(alloc, &mut reader, &mut Writer::new(alloc));
+    assert!(rt; end == Err(ToolError::Sgf(SgfError::TooLong)));
+    reader.pull_count()
+}
+
+#[test]
+fn records_at_the_limit(rt: HostRuntime) {
+    let alloc = rt.alloc();
+    tree_alone(&rt, alloc, MAX_RECORD - 3);
+    too_long(&rt, alloc, MAX_RECORD - 2);
+    assert!(rt; pulls_of_too_long(&rt, alloc, MAX_RECORD + 8_192) == 4_097);
+}
+
+/// Asserts that a run fails at its writer, which takes so many bytes of the record.
+fn takes(rt: &impl Abort, alloc: Global, mut writer: Writer<Global>, count: u64) {
+    let end = tidying(alloc, &mut Reader::new(SAMPLE), &mut writer);
+    assert!(rt; end == Err(ToolError::Write));
+    assert!(rt; TIDY.starts_with(writer.bytes()));
+    assert!(rt; writer.bytes().len() as u64 == count);
 }
 
 #[test]
 fn failing_devices(rt: HostRuntime) {
     let alloc = rt.alloc();
     for pull in 1..=46u64 {
-        let mut reader = Reader::new(SAMPLE).in_pieces_of(1).failing_at(pull);
-        let mut writer = Writer::new(alloc);
-        assert!(rt; tidy_run(alloc, &mut reader, &mut writer) == Err(ToolError::Read));
-        assert!(rt; writer.put_count() == 0);
+        let reader = Reader::new(SAMPLE).in_pieces_of(1).failing_at(pull);
+        fails(&rt, alloc, reader, ToolError::Read);
     }
     for put in 1..=TIDY.len() as u64 {
-        let mut failing = Writer::new(alloc).in_pieces_of(1).failing_at_put(put);
-        let result = tidy_run(alloc, &mut Reader::new(SAMPLE), &mut failing);
-        assert!(rt; result == Err(ToolError::Write));
-        assert!(rt; TIDY.starts_with(failing.bytes()) && failing.bytes().len() as u64 == put - 1);
-        let mut stalling = Writer::new(alloc).in_pieces_of(1).stalling_at_put(put);
-        let result = tidy_run(alloc, &mut Reader::new(SAMPLE), &mut stalling);
-        assert!(rt; result == Err(ToolError::Write));
-        assert!(rt; stalling.bytes().len() as u64 == put - 1);
+        let failing = Writer::new(alloc).in_pieces_of(1).failing_at_put(put);
+        takes(&rt, alloc, failing, put - 1);
+        let stalling = Writer::new(alloc).in_pieces_of(1).stalling_at_put(put);
+        takes(&rt, alloc, stalling, put - 1);
     }
-    let mut writer = Writer::new(alloc).failing_at_flush(1);
-    let result = tidy_run(alloc, &mut Reader::new(SAMPLE), &mut writer);
-    assert!(rt; result == Err(ToolError::Write));
-    assert!(rt; writer.bytes() == TIDY);
+    let unflushed = Writer::new(alloc).failing_at_flush(1);
+    takes(&rt, alloc, unflushed, TIDY.len() as u64);
 }
 
 /// Whether a record is tidied with this allocator; that memory was wanted and nothing was written,
 /// if not.
 fn tidies<A: Allocator + Copy>(rt: &impl Abort, alloc: A, ample: Global) -> bool {
     let mut writer = Writer::new(ample);
-    let result = tidy_run(alloc, &mut Reader::new(SAMPLE), &mut writer);
+    let result = tidying(alloc, &mut Reader::new(SAMPLE), &mut writer);
     if result.is_ok() {
         assert!(rt; writer.bytes() == TIDY);
     } else {
@@ -127,21 +166,14 @@ fn each_request_for_memory_refused(rt: HostRuntime) {
 }
 
 /// Asserts the text of a fault, and its exit status.
-fn told(
-    rt: &impl Abort,
-    alloc: Global,
-    fault: ToolError,
-    text: &str,
-    status: u8,
-) -> Result<(), Fail> {
-    let words = format!(in alloc; "{fault}")?;
+pub(crate) fn told(rt: &impl Abort, alloc: Global, fault: ToolError, text: &str, status: u8) {
+    let words = format!(in alloc; "{fault}").expect(rt, "a text");
     assert!(rt; words.as_str() == text, "{words}");
     assert!(rt; fault.status() == status);
-    Ok(())
 }
 
 #[test]
-fn texts_and_statuses(rt: HostRuntime) -> Result<(), Fail> {
+fn texts_and_statuses(rt: HostRuntime) {
     let alloc = rt.alloc();
     told(
         &rt,
@@ -149,36 +181,36 @@ fn texts_and_statuses(rt: HostRuntime) -> Result<(), Fail> {
         ToolError::Sgf(SgfError::NoTree),
         "no game tree",
         1,
-    )?;
+    );
     told(
         &rt,
         alloc,
         ToolError::Sgf(SgfError::EndInside(44)),
         "record ends inside a tree at byte 44",
         1,
-    )?;
+    );
     told(
         &rt,
         alloc,
         ToolError::Sgf(SgfError::Unexpected(7)),
         "unexpected byte at 7",
         1,
-    )?;
+    );
     told(
         &rt,
         alloc,
         ToolError::Sgf(SgfError::TooDeep(2_000)),
         "too deep at byte 2000",
         1,
-    )?;
+    );
     told(
         &rt,
         alloc,
         ToolError::Sgf(SgfError::TooLong),
         "record too long",
         1,
-    )?;
-    told(&rt, alloc, ToolError::Read, "read fault", 3)?;
-    told(&rt, alloc, ToolError::Write, "write fault", 3)?;
-    told(&rt, alloc, ToolError::Memory, "out of memory", 3)
+    );
+    told(&rt, alloc, ToolError::Read, "read fault", 3);
+    told(&rt, alloc, ToolError::Write, "write fault", 3);
+    told(&rt, alloc, ToolError::Memory, "out of memory", 3);
 }
