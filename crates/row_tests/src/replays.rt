@@ -2,7 +2,7 @@ use failing::Failing;
 use go_board::{Colour, Pen, Point, Vertex, WriteFault, read_vertex};
 use go_game::{Game, PlayError, hundredths_text, score_text};
 use go_record::{RecordError, Stated, Verdict, judge, put_record, replay, write_record};
-use go_sgf::{read, trim};
+use go_sgf::{Collection, read, trim};
 use memory_devices::Writer;
 use std::alloc::{Allocator, Global};
 use std::process::Abort;
@@ -13,22 +13,32 @@ const REPEATING: &[u8] = b"(;SZ[2];B[aa];W[ba];W[ab];B[aa])";
 /// A record with two stones set up and two moves.
 const SET_UP: &[u8] = b"(;GM[1]SZ[9]KM[5.5]AB[cc][gg];W[ee];B[])";
 
-fn replayed<A: Allocator + Copy>(
+/// The game of a source, up to a move, or why it has none.
+fn replayed(
     rt: &impl Abort,
-    alloc: A,
+    alloc: Global,
     source: &[u8],
     number: Option<u32>,
-) -> Result<Game<A>, RecordError> {
+) -> Result<Game<Global>, RecordError> {
     let collection = read(alloc, source).expect(rt, "a record");
     replay(alloc, &collection, number)
 }
 
+/// The game of a source that has one, up to a move.
+fn game_of(rt: &impl Abort, alloc: Global, source: &[u8], number: Option<u32>) -> Game<Global> {
+    replayed(rt, alloc, source, number).expect(rt, "a game")
+}
+
 /// Asserts what the replay of a source is refused with, and the text of that.
 fn refused(rt: &impl Abort, alloc: Global, source: &[u8], why: RecordError, text: &str) {
-    let error = replayed(rt, alloc, source, None)
-        .err()
-        .expect(rt, "a refusal");
+    let refusal = replayed(rt, alloc, source, None).err();
+    let error = refusal.expect(rt, "a refusal");
     assert!(rt; error == why, "{error}");
+    has_text(rt, alloc, error, text);
+}
+
+/// Asserts the text of a refusal.
+fn has_text(rt: &impl Abort, alloc: Global, error: RecordError, text: &str) {
     let told = format!(in alloc; "{error}").expect(rt, "a text");
     assert!(rt; told.as_str() == text, "{told}");
 }
@@ -36,10 +46,7 @@ fn refused(rt: &impl Abort, alloc: Global, source: &[u8], why: RecordError, text
 fn stone(rt: &impl Abort, game: &Game<Global>, word: &[u8]) -> Option<Colour> {
     match read_vertex(word, game.size()) {
         Ok(Vertex::At(point)) => game.colour_at(point),
-        _ => {
-            assert!(rt; false, "no point");
-            None
-        }
+        _ => panic!(rt; "no point"),
     }
 }
 
@@ -134,25 +141,23 @@ fn records_refused(rt: HostRuntime) {
 #[test]
 fn texts_of_other_refusals(rt: HostRuntime) {
     let off = RecordError::Illegal(7, PlayError::OffBoard);
-    let told = format!(in rt.alloc(); "{off}").expect(&rt, "a text");
-    assert!(rt; told.as_str() == "move 7 is off the board");
-    let memory = format!(in rt.alloc(); "{}", RecordError::Memory).expect(&rt, "a text");
-    assert!(rt; memory.as_str() == "out of memory");
+    has_text(&rt, rt.alloc(), off, "move 7 is off the board");
+    has_text(&rt, rt.alloc(), RecordError::Memory, "out of memory");
 }
 
 #[test]
 fn numbers_end_the_walk(rt: HostRuntime) {
     let alloc = rt.alloc();
-    let one = replayed(&rt, alloc, b"(;SZ[9];B[aa];W[aa])", Some(2)).expect(&rt, "a game");
+    let one = game_of(&rt, alloc, b"(;SZ[9];B[aa];W[aa])", Some(2));
     assert_eq!(rt; one.move_count(), 1);
-    let square = replayed(&rt, alloc, b"(;SZ[9:9]AB[])", None).expect(&rt, "a game");
+    let square = game_of(&rt, alloc, b"(;SZ[9:9]AB[])", None);
     assert_eq!(rt; square.size().lines(), 9);
     assert!(rt; square.is_vacant());
 }
 
 /// Asserts what stands after so much of the record with stones set up.
 fn set_up(rt: &impl Abort, alloc: Global, number: Option<u32>, moves: usize, next: Colour) {
-    let game = replayed(rt, alloc, SET_UP, number).expect(rt, "a game");
+    let game = game_of(rt, alloc, SET_UP, number);
     assert_eq!(rt; game.size().lines(), 9);
     assert!(rt; hundredths_text(game.komi()).as_str() == "5.5");
     assert_eq!(rt; game.move_count(), moves);
@@ -171,17 +176,22 @@ fn load_a_record(rt: HostRuntime) {
     set_up(&rt, alloc, Some(0), 0, Colour::White);
     set_up(&rt, alloc, Some(99), 2, Colour::White);
     set_up(&rt, alloc, None, 2, Colour::White);
-    let mut game = replayed(&rt, alloc, SET_UP, Some(2)).expect(&rt, "a game");
+    let mut game = game_of(&rt, alloc, SET_UP, Some(2));
     assert!(rt; game.undo().is_some());
     assert!(rt; game.undo().is_none());
 }
 
+/// Writes the record of a game.
+fn written(game: &Game<Global>, writer: &mut Writer<Global>) -> Result<(), WriteFault> {
+    write_record(game, writer)
+}
+
 /// The text that is written of a record's game, if the record has one.
 fn is_written_as(rt: &impl Abort, alloc: Global, source: &[u8], text: &[u8]) {
-    let game = replayed(rt, alloc, source, None).expect(rt, "a game");
+    let game = game_of(rt, alloc, source, None);
     for most in [1, 3, 4_096] {
         let mut writer = Writer::new(alloc).in_pieces_of(most);
-        assert!(rt; write_record(&game, &mut writer) == Ok(()));
+        assert!(rt; written(&game, &mut writer) == Ok(()));
         assert!(rt; writer.bytes() == text);
     }
 }
@@ -198,11 +208,7 @@ fn print_the_record(rt: HostRuntime) {
     is_written_as(&rt, rt.alloc(), text, text);
 }
 
-fn judged<A: Allocator + Copy>(
-    rt: &impl Abort,
-    alloc: A,
-    source: &[u8],
-) -> Result<Verdict, RecordError> {
+fn judged(rt: &impl Abort, alloc: Global, source: &[u8]) -> Result<Verdict, RecordError> {
     let collection = read(alloc, source).expect(rt, "a record");
     judge(alloc, &collection)
 }
@@ -276,19 +282,35 @@ fn judge_a_record(rt: HostRuntime) {
     );
 }
 
+/// What a replay of a record tells.
+fn replay_tells<A: Allocator + Copy>(
+    alloc: A,
+    collection: &Collection<'_, A>,
+) -> Result<(usize, i64), RecordError> {
+    match replay(alloc, collection, None) {
+        Ok(game) => Ok((game.move_count(), game.margin())),
+        Err(why) => Err(why),
+    }
+}
+
+/// What the verdict on a record tells.
+fn verdict_tells<A: Allocator + Copy>(
+    alloc: A,
+    collection: &Collection<'_, A>,
+) -> Result<(usize, i64), RecordError> {
+    match judge(alloc, collection) {
+        Ok(verdict) => Ok((verdict.moves, verdict.margin)),
+        Err(why) => Err(why),
+    }
+}
+
 /// What a replay and a verdict tell of the record with stones set up, where there is memory.
 fn told<A: Allocator + Copy>(rt: &impl Abort, alloc: A, is_judged: bool) -> Option<(usize, i64)> {
     let collection = read(alloc, SET_UP).ok()?;
     let answer = if is_judged {
-        match judge(alloc, &collection) {
-            Ok(verdict) => Ok((verdict.moves, verdict.margin)),
-            Err(why) => Err(why),
-        }
+        verdict_tells(alloc, &collection)
     } else {
-        match replay(alloc, &collection, None) {
-            Ok(game) => Ok((game.move_count(), game.margin())),
-            Err(why) => Err(why),
-        }
+        replay_tells(alloc, &collection)
     };
     match answer {
         Ok(told) => Some(told),
@@ -299,31 +321,34 @@ fn told<A: Allocator + Copy>(rt: &impl Abort, alloc: A, is_judged: bool) -> Opti
     }
 }
 
+/// Asserts that each request for memory is refused in turn, until all is told.
+fn each_refused(rt: &impl Abort, alloc: Global, is_judged: bool) {
+    let ample = told(rt, alloc, is_judged);
+    assert!(rt; ample == Some((2, 200 - 100 - 550)));
+    let mut requests = 0u64;
+    for number in 1..200u64 {
+        let failing = Failing::new(alloc, number);
+        let answer = told(rt, &failing, is_judged);
+        if failing.waits() {
+            assert!(rt; answer == ample);
+            requests = number - 1;
+            break;
+        }
+        assert!(rt; answer.is_none(), "request {number}");
+    }
+    assert!(rt; requests > 0, "{requests} requests");
+}
+
 #[test]
 fn each_request_for_memory_refused(rt: HostRuntime) {
-    let alloc = rt.alloc();
-    for is_judged in [false, true] {
-        let ample = told(&rt, alloc, is_judged);
-        assert!(rt; ample == Some((2, 200 - 100 - 550)));
-        let mut requests = 0u64;
-        for number in 1..200u64 {
-            let failing = Failing::new(alloc, number);
-            let answer = told(&rt, &failing, is_judged);
-            if failing.waits() {
-                assert!(rt; answer == ample);
-                requests = number - 1;
-                break;
-            }
-            assert!(rt; answer.is_none(), "request {number}");
-        }
-        assert!(rt; requests > 0, "{requests} requests");
-    }
+    each_refused(&rt, rt.alloc(), false);
+    each_refused(&rt, rt.alloc(), true);
 }
 
 #[test]
 fn a_pen_writes_no_line_end(rt: HostRuntime) {
     let alloc = rt.alloc();
-    let game = replayed(&rt, alloc, b"(;SZ[9])", None).expect(&rt, "a game");
+    let game = game_of(&rt, alloc, b"(;SZ[9])", None);
     let mut writer = Writer::new(alloc);
     let mut pen = Pen::new();
     put_record(&game, &mut pen, &mut writer);
@@ -334,11 +359,11 @@ fn a_pen_writes_no_line_end(rt: HostRuntime) {
 #[test]
 fn a_writer_fails(rt: HostRuntime) {
     let alloc = rt.alloc();
-    let game = replayed(&rt, alloc, b"(;SZ[9];B[ee])", None).expect(&rt, "a game");
+    let game = game_of(&rt, alloc, b"(;SZ[9];B[ee])", None);
     let text = b"(;GM[1]FF[4]SZ[9]KM[0]PL[B];B[ee])\n";
     for put in 1..12u64 {
         let mut writer = Writer::new(alloc).in_pieces_of(3).failing_at_put(put);
-        assert!(rt; write_record(&game, &mut writer) == Err(WriteFault));
+        assert!(rt; written(&game, &mut writer) == Err(WriteFault));
         assert!(rt; text.starts_with(writer.bytes()));
     }
 }
