@@ -1,4 +1,4 @@
-use crate::games::{play, size_of, turn};
+use crate::games::{plays_at, size_of, turn};
 use failing::Failing;
 use go_board::{Colour, Move, Point, Taken, Vertex};
 use go_game::{Game, PlayError};
@@ -58,17 +58,24 @@ fn choice_on_two_lines(rt: HostRuntime) {
     assert!(rt; game.undo().is_none());
 }
 
+/// Asserts on which points of two lines a colour may play: on A1, B1, A2 and B2, in this order.
+fn has_legal<A: Allocator + Copy>(
+    rt: &impl Abort,
+    game: &mut Game<A>,
+    colour: Colour,
+    legal: [bool; 4],
+) {
+    let [first, second, third, fourth] = legal;
+    assert!(rt; is_legal(rt, game, colour, b"A1") == first);
+    assert!(rt; is_legal(rt, game, colour, b"B1") == second);
+    assert!(rt; is_legal(rt, game, colour, b"A2") == third);
+    assert!(rt; is_legal(rt, game, colour, b"B2") == fourth);
+}
+
 #[test]
 fn legal_plays_on_two_lines(rt: HostRuntime) {
     let mut game = Game::new(rt.alloc(), size_of(&rt, 2));
-    for word in [
-        b"A1".as_slice(),
-        b"B1".as_slice(),
-        b"A2".as_slice(),
-        b"B2".as_slice(),
-    ] {
-        assert!(rt; is_legal(&rt, &mut game, Colour::White, word));
-    }
+    has_legal(&rt, &mut game, Colour::White, [true; 4]);
     assert!(rt; is_legal(&rt, &mut game, Colour::White, b"pass"));
     let off = Move {
         colour: Colour::White,
@@ -81,21 +88,11 @@ fn legal_plays_on_two_lines(rt: HostRuntime) {
 #[test]
 fn legal_plays_after_a_capture(rt: HostRuntime) {
     let mut game = Game::new(rt.alloc(), size_of(&rt, 2));
-    assert!(rt; play(&rt, &mut game, Colour::Black, b"A1").is_ok());
-    assert!(rt; play(&rt, &mut game, Colour::White, b"B1").is_ok());
-    assert!(rt; play(&rt, &mut game, Colour::White, b"A2").is_ok());
-    for word in [
-        b"A1".as_slice(),
-        b"B1".as_slice(),
-        b"A2".as_slice(),
-        b"B2".as_slice(),
-    ] {
-        assert!(rt; !is_legal(&rt, &mut game, Colour::Black, word));
-    }
-    assert!(rt; is_legal(&rt, &mut game, Colour::White, b"A1"));
-    assert!(rt; !is_legal(&rt, &mut game, Colour::White, b"B1"));
-    assert!(rt; !is_legal(&rt, &mut game, Colour::White, b"A2"));
-    assert!(rt; is_legal(&rt, &mut game, Colour::White, b"B2"));
+    plays_at(&rt, &mut game, Colour::Black, b"A1");
+    plays_at(&rt, &mut game, Colour::White, b"B1");
+    plays_at(&rt, &mut game, Colour::White, b"A2");
+    has_legal(&rt, &mut game, Colour::Black, [false; 4]);
+    has_legal(&rt, &mut game, Colour::White, [true, false, false, true]);
     assert!(rt; game.choose(Colour::Black).expect(&rt, "memory") == Vertex::Pass);
     assert_eq!(rt; game.move_count(), 3);
 }

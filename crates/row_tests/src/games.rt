@@ -4,7 +4,7 @@ ghost use Rattle.go_board.specs.Sizes.{lines_of};
 use failing::Failing;
 use go_board::{Colour, Grid, Move, Point, Size, Taken, Vertex, read_vertex};
 use go_game::{Game, PlayError, SetupError, hundredths_text, score_text};
-use std::alloc::Allocator;
+use std::alloc::{Allocator, Global};
 use std::process::Abort;
 
 /// The size of so many lines.
@@ -31,10 +31,36 @@ pub fn play<A: Allocator + Copy>(
     game.play(made)
 }
 
+/// Asserts that a colour plays where the word says.
+pub fn plays_at<A: Allocator + Copy>(
+    rt: &impl Abort,
+    game: &mut Game<A>,
+    colour: Colour,
+    word: &[u8],
+) {
+    assert!(rt; play(rt, game, colour, word).is_ok());
+}
+
+/// Asserts how many stones a play takes.
+fn takes(rt: &impl Abort, game: &mut Game<Global>, colour: Colour, word: &[u8], taken: Taken) {
+    assert!(rt; play(rt, game, colour, word) == Ok(taken));
+}
+
+/// Asserts why a play is refused.
+fn refuses(rt: &impl Abort, game: &mut Game<Global>, colour: Colour, word: &[u8], why: PlayError) {
+    assert!(rt; play(rt, game, colour, word) == Err(why));
+}
+
+/// Asserts which play is taken back.
+fn undoes(rt: &impl Abort, game: &mut Game<Global>, colour: Colour, word: &[u8]) {
+    let made = turn(rt, game.size(), colour, word);
+    assert!(rt; game.undo() == Some(made));
+}
+
 /// The plays up to the capture of a ko on four lines.
-fn play_ko<A: Allocator + Copy>(rt: &impl Abort, game: &mut Game<A>) {
+fn play_ko(rt: &impl Abort, game: &mut Game<Global>) {
     for word in [b"B3".as_slice(), b"A2".as_slice(), b"B1".as_slice()] {
-        assert!(rt; play(rt, game, Colour::Black, word).is_ok());
+        plays_at(rt, game, Colour::Black, word);
     }
     for word in [
         b"C3".as_slice(),
@@ -42,9 +68,9 @@ fn play_ko<A: Allocator + Copy>(rt: &impl Abort, game: &mut Game<A>) {
         b"D2".as_slice(),
         b"B2".as_slice(),
     ] {
-        assert!(rt; play(rt, game, Colour::White, word).is_ok());
+        plays_at(rt, game, Colour::White, word);
     }
-    assert!(rt; play(rt, game, Colour::Black, b"C2") == Ok(Taken { theirs: 1, own: 0 }));
+    takes(rt, game, Colour::Black, b"C2", Taken { theirs: 1, own: 0 });
 }
 
 #[test]
@@ -63,8 +89,8 @@ fn refusals_in_order(rt: HostRuntime) {
         vertex: Vertex::At(Point { col: 9, row: 0 }),
     };
     assert!(rt; game.play(off) == Err(PlayError::OffBoard));
-    assert!(rt; play(&rt, &mut game, Colour::Black, b"e5").is_ok());
-    assert!(rt; play(&rt, &mut game, Colour::White, b"e5") == Err(PlayError::Occupied));
+    plays_at(&rt, &mut game, Colour::Black, b"e5");
+    refuses(&rt, &mut game, Colour::White, b"e5", PlayError::Occupied);
     assert_eq!(rt; game.move_count(), 1);
     assert!(rt; game.mover() == Colour::White);
 }
@@ -72,10 +98,16 @@ fn refusals_in_order(rt: HostRuntime) {
 #[test]
 fn repetition_refused(rt: HostRuntime) {
     let mut game = Game::new(rt.alloc(), size_of(&rt, 2));
-    assert!(rt; play(&rt, &mut game, Colour::Black, b"A1").is_ok());
-    assert!(rt; play(&rt, &mut game, Colour::White, b"B1").is_ok());
-    assert!(rt; play(&rt, &mut game, Colour::White, b"A2") == Ok(Taken { theirs: 1, own: 0 }));
-    assert!(rt; play(&rt, &mut game, Colour::Black, b"A1") == Err(PlayError::Repeats(3)));
+    plays_at(&rt, &mut game, Colour::Black, b"A1");
+    plays_at(&rt, &mut game, Colour::White, b"B1");
+    takes(
+        &rt,
+        &mut game,
+        Colour::White,
+        b"A2",
+        Taken { theirs: 1, own: 0 },
+    );
+    refuses(&rt, &mut game, Colour::Black, b"A1", PlayError::Repeats(3));
     assert_eq!(rt; game.prisoners(Colour::Black), 1);
     assert_eq!(rt; game.prisoners(Colour::White), 0);
 }
@@ -83,14 +115,20 @@ fn repetition_refused(rt: HostRuntime) {
 #[test]
 fn suicide_of_several(rt: HostRuntime) {
     let mut game = Game::new(rt.alloc(), size_of(&rt, 3));
-    assert!(rt; play(&rt, &mut game, Colour::Black, b"A1").is_ok());
+    plays_at(&rt, &mut game, Colour::Black, b"A1");
     for word in [b"A2".as_slice(), b"B2".as_slice(), b"C1".as_slice()] {
-        assert!(rt; play(&rt, &mut game, Colour::White, word).is_ok());
+        plays_at(&rt, &mut game, Colour::White, word);
     }
-    assert!(rt; play(&rt, &mut game, Colour::Black, b"B1") == Ok(Taken { theirs: 0, own: 2 }));
+    takes(
+        &rt,
+        &mut game,
+        Colour::Black,
+        b"B1",
+        Taken { theirs: 0, own: 2 },
+    );
     assert_eq!(rt; game.prisoners(Colour::Black), 2);
     assert!(rt; game.mover() == Colour::White);
-    assert!(rt; game.undo() == Some(turn(&rt, game.size(), Colour::Black, b"B1")));
+    undoes(&rt, &mut game, Colour::Black, b"B1");
     assert_eq!(rt; game.prisoners(Colour::Black), 0);
     assert_eq!(rt; game.move_count(), 4);
     assert!(rt; game.colour_at(Point::numbered(game.size(), 0)) == Some(Colour::Black));
@@ -100,34 +138,46 @@ fn suicide_of_several(rt: HostRuntime) {
 fn ko(rt: HostRuntime) {
     let mut game = Game::new(rt.alloc(), size_of(&rt, 4));
     play_ko(&rt, &mut game);
-    assert!(rt; play(&rt, &mut game, Colour::White, b"B2") == Err(PlayError::Repeats(7)));
-    assert!(rt; game.undo() == Some(turn(&rt, game.size(), Colour::Black, b"C2")));
-    assert!(rt; play(&rt, &mut game, Colour::Black, b"C2") == Ok(Taken { theirs: 1, own: 0 }));
+    refuses(&rt, &mut game, Colour::White, b"B2", PlayError::Repeats(7));
+    undoes(&rt, &mut game, Colour::Black, b"C2");
+    takes(
+        &rt,
+        &mut game,
+        Colour::Black,
+        b"C2",
+        Taken { theirs: 1, own: 0 },
+    );
 }
 
 #[test]
 fn ko_after_passes(rt: HostRuntime) {
     let mut game = Game::new(rt.alloc(), size_of(&rt, 4));
     play_ko(&rt, &mut game);
-    assert!(rt; play(&rt, &mut game, Colour::White, b"pass") == Ok(Taken { theirs: 0, own: 0 }));
-    assert!(rt; play(&rt, &mut game, Colour::Black, b"pass").is_ok());
-    assert!(rt; play(&rt, &mut game, Colour::White, b"B2") == Err(PlayError::Repeats(7)));
+    takes(
+        &rt,
+        &mut game,
+        Colour::White,
+        b"pass",
+        Taken { theirs: 0, own: 0 },
+    );
+    plays_at(&rt, &mut game, Colour::Black, b"pass");
+    refuses(&rt, &mut game, Colour::White, b"B2", PlayError::Repeats(7));
 }
 
 #[test]
 fn suicide_of_one_repeats(rt: HostRuntime) {
     let mut game = Game::new(rt.alloc(), size_of(&rt, 1));
-    assert!(rt; play(&rt, &mut game, Colour::Black, b"A1") == Err(PlayError::Repeats(0)));
-    assert!(rt; play(&rt, &mut game, Colour::Black, b"pass").is_ok());
-    assert!(rt; play(&rt, &mut game, Colour::White, b"pass").is_ok());
-    assert!(rt; play(&rt, &mut game, Colour::Black, b"A1") == Err(PlayError::Repeats(0)));
+    refuses(&rt, &mut game, Colour::Black, b"A1", PlayError::Repeats(0));
+    plays_at(&rt, &mut game, Colour::Black, b"pass");
+    plays_at(&rt, &mut game, Colour::White, b"pass");
+    refuses(&rt, &mut game, Colour::Black, b"A1", PlayError::Repeats(0));
 }
 
 #[test]
 fn komi_is_no_move(rt: HostRuntime) {
     let mut game = Game::new(rt.alloc(), size_of(&rt, 9));
     game.set_komi(300);
-    assert!(rt; play(&rt, &mut game, Colour::Black, b"a1").is_ok());
+    plays_at(&rt, &mut game, Colour::Black, b"a1");
     game.set_komi(400);
     assert!(rt; game.undo().is_some());
     assert!(rt; game.komi() == 400);
