@@ -25,12 +25,20 @@ fn refused(rt: &impl Abort, alloc: Global, source: &[u8], why: SgfError) {
     assert!(rt; read(alloc, source).err() == Some(why));
 }
 
+/// Writes the text of a record.
+fn written(
+    collection: &Collection<'_, Global>,
+    writer: &mut Writer<Global>,
+) -> Result<(), WriteFault> {
+    write(collection, writer)
+}
+
 /// Asserts what a source is written as, however the writer cuts the text.
 fn tidied(rt: &impl Abort, alloc: Global, source: &[u8], text: &[u8]) {
     let collection = read(alloc, source).expect(rt, "a record");
     for most in [1, 3, 4_096] {
         let mut writer = Writer::new(alloc).in_pieces_of(most);
-        assert!(rt; write(&collection, &mut writer) == Ok(()));
+        assert!(rt; written(&collection, &mut writer) == Ok(()));
         assert!(rt; writer.bytes() == text);
     }
 }
@@ -129,13 +137,13 @@ fn tidy_a_record(rt: HostRuntime) {
     );
     let collection = read(alloc, SAMPLE).expect(&rt, "a record");
     let mut whole = Writer::new(alloc);
-    assert!(rt; write(&collection, &mut whole) == Ok(()));
+    assert!(rt; written(&collection, &mut whole) == Ok(()));
     for put in 1..=whole.put_count() {
         let mut failing = Writer::new(alloc).failing_at_put(put);
-        assert!(rt; write(&collection, &mut failing) == Err(WriteFault));
+        assert!(rt; written(&collection, &mut failing) == Err(WriteFault));
         assert!(rt; failing.bytes() != text.as_slice() && text.starts_with(failing.bytes()));
         let mut stalling = Writer::new(alloc).stalling_at_put(put);
-        assert!(rt; write(&collection, &mut stalling) == Err(WriteFault));
+        assert!(rt; written(&collection, &mut stalling) == Err(WriteFault));
     }
 }
 
