@@ -112,6 +112,12 @@ fn repetition_refused(rt: HostRuntime) {
     assert_eq!(rt; game.prisoners(Colour::White), 0);
 }
 
+/// Asserts how many black stones were taken, in how many moves.
+fn has_taken(rt: &impl Abort, game: &Game<Global>, stones: u64, moves: usize) {
+    assert_eq!(rt; game.prisoners(Colour::Black), stones);
+    assert_eq!(rt; game.move_count(), moves);
+}
+
 #[test]
 fn suicide_of_several(rt: HostRuntime) {
     let mut game = Game::new(rt.alloc(), size_of(&rt, 3));
@@ -126,11 +132,10 @@ fn suicide_of_several(rt: HostRuntime) {
         b"B1",
         Taken { theirs: 0, own: 2 },
     );
-    assert_eq!(rt; game.prisoners(Colour::Black), 2);
     assert!(rt; game.mover() == Colour::White);
+    has_taken(&rt, &game, 2, 5);
     undoes(&rt, &mut game, Colour::Black, b"B1");
-    assert_eq!(rt; game.prisoners(Colour::Black), 0);
-    assert_eq!(rt; game.move_count(), 4);
+    has_taken(&rt, &game, 0, 4);
     assert!(rt; game.colour_at(Point::numbered(game.size(), 0)) == Some(Colour::Black));
 }
 

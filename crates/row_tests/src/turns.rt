@@ -110,10 +110,9 @@ fn same_turns<A: Allocator + Copy>(rt: &impl Abort, game: &Game<A>, plain: &Plai
     }
 }
 
-/// Compares what a game says of its colours and its score with the plain body.
-fn same_game<A: Allocator + Copy>(rt: &impl Abort, game: &Game<A>, plain: &Plain) {
+/// Compares the colours that a game tells with the plain body.
+fn same_colours<A: Allocator + Copy>(rt: &impl Abort, game: &Game<A>, grid: &Grid) {
     let size = game.size();
-    let grid = plain.present();
     assert!(rt; grid.size() == size);
     for number in 0..size.points() {
         let p = Point::numbered(size, number);
@@ -122,19 +121,34 @@ fn same_game<A: Allocator + Copy>(rt: &impl Abort, game: &Game<A>, plain: &Plain
         }
         assert!(rt; game.start_at(p).is_none());
     }
-    assert_eq!(rt;
-        game.prisoners(Colour::Black),
-        plain.prisoners(Colour::Black)
-    );
-    assert_eq!(rt;
-        game.prisoners(Colour::White),
-        plain.prisoners(Colour::White)
-    );
-    let area = plain::areas(&grid);
+}
+
+/// Compares the prisoners that a game tells with the plain body.
+fn same_prisoners<A: Allocator + Copy>(
+    rt: &impl Abort,
+    game: &Game<A>,
+    plain: &Plain,
+    colour: Colour,
+) {
+    assert_eq!(rt; game.prisoners(colour), plain.prisoners(colour));
+}
+
+/// Compares the area and the score that a game tells with the plain body.
+fn same_score<A: Allocator + Copy>(rt: &impl Abort, game: &Game<A>, grid: &Grid) {
+    let area = plain::areas(grid);
     assert!(rt; game.area() == area);
     assert_eq!(rt; game.komi(), KOMI);
     let margin = i64::from(area.black) * 100 - i64::from(area.white) * 100 - KOMI;
     assert_eq!(rt; game.margin(), margin);
+}
+
+/// Compares what a game says of its colours and its score with the plain body.
+fn same_game<A: Allocator + Copy>(rt: &impl Abort, game: &Game<A>, plain: &Plain) {
+    let grid = plain.present();
+    same_colours(rt, game, &grid);
+    same_prisoners(rt, game, plain, Colour::Black);
+    same_prisoners(rt, game, plain, Colour::White);
+    same_score(rt, game, &grid);
 }
 
 /// Compares the chain and the liberties of one point with the plain body.
