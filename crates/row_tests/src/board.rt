@@ -33,6 +33,16 @@ fn colour_at(rt: &impl Abort, grid: &Grid, word: &[u8]) -> Option<Colour> {
     grid.get(point(rt, grid.size(), word))
 }
 
+/// Asserts how many stones a play takes.
+fn takes(rt: &impl Abort, grid: &mut Grid, colour: Colour, word: &[u8], taken: Taken) {
+    assert!(rt; play(rt, grid, colour, word) == taken);
+}
+
+/// Asserts which colour stands at a point, if one does.
+fn shows(rt: &impl Abort, grid: &Grid, word: &[u8], colour: Option<Colour>) {
+    assert!(rt; colour_at(rt, grid, word) == colour);
+}
+
 #[test]
 fn sizes(rt: HostRuntime) {
     assert!(rt; Size::new(0).is_none());
@@ -122,13 +132,31 @@ fn neighbours_in_order(rt: HostRuntime) {
 #[test]
 fn two_by_two_capture(rt: HostRuntime) {
     let mut grid = Grid::new(size_of(&rt, 2));
-    assert!(rt; play(&rt, &mut grid, Colour::Black, b"A1") == Taken { theirs: 0, own: 0 });
-    assert!(rt; play(&rt, &mut grid, Colour::White, b"B1") == Taken { theirs: 0, own: 0 });
-    assert!(rt; play(&rt, &mut grid, Colour::White, b"A2") == Taken { theirs: 1, own: 0 });
-    assert!(rt; colour_at(&rt, &grid, b"A1").is_none());
-    assert!(rt; colour_at(&rt, &grid, b"B1") == Some(Colour::White));
-    assert!(rt; colour_at(&rt, &grid, b"A2") == Some(Colour::White));
-    assert!(rt; colour_at(&rt, &grid, b"B2").is_none());
+    takes(
+        &rt,
+        &mut grid,
+        Colour::Black,
+        b"A1",
+        Taken { theirs: 0, own: 0 },
+    );
+    takes(
+        &rt,
+        &mut grid,
+        Colour::White,
+        b"B1",
+        Taken { theirs: 0, own: 0 },
+    );
+    takes(
+        &rt,
+        &mut grid,
+        Colour::White,
+        b"A2",
+        Taken { theirs: 1, own: 0 },
+    );
+    shows(&rt, &grid, b"A1", None);
+    shows(&rt, &grid, b"B1", Some(Colour::White));
+    shows(&rt, &grid, b"A2", Some(Colour::White));
+    shows(&rt, &grid, b"B2", None);
 }
 
 #[test]
@@ -140,12 +168,18 @@ fn suicide_of_several(rt: HostRuntime) {
         (Colour::White, b"B2".as_slice()),
         (Colour::White, b"C1".as_slice()),
     ] {
-        assert!(rt; play(&rt, &mut grid, colour, word) == Taken { theirs: 0, own: 0 });
+        takes(&rt, &mut grid, colour, word, Taken { theirs: 0, own: 0 });
     }
-    assert!(rt; play(&rt, &mut grid, Colour::Black, b"B1") == Taken { theirs: 0, own: 2 });
-    assert!(rt; colour_at(&rt, &grid, b"A1").is_none());
-    assert!(rt; colour_at(&rt, &grid, b"B1").is_none());
-    assert!(rt; colour_at(&rt, &grid, b"C1") == Some(Colour::White));
+    takes(
+        &rt,
+        &mut grid,
+        Colour::Black,
+        b"B1",
+        Taken { theirs: 0, own: 2 },
+    );
+    shows(&rt, &grid, b"A1", None);
+    shows(&rt, &grid, b"B1", None);
+    shows(&rt, &grid, b"C1", Some(Colour::White));
     let a2 = point(&rt, grid.size(), b"A2");
     assert!(rt; same_chain(&grid, a2, point(&rt, grid.size(), b"B2")));
     assert!(rt; !same_chain(&grid, a2, point(&rt, grid.size(), b"C1")));
