@@ -378,6 +378,8 @@ fn play_along(
         }
         let made = next_move(&mut random, &plain);
         let expected = plain.outcome(made);
+        let legal = game.legal(made)?;
+        assert!(rt; legal == expected.is_ok());
         rare.count(&expected);
         play_on_both(rt, &mut game, &mut plain, made, expected)?;
         same_answers(rt, &mut game, &plain, &mut asked)?;
