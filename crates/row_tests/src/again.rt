@@ -1,5 +1,5 @@
-use crate::games::size_of;
 use crate::sessions::told;
+use go_board::Size;
 use goref::Session;
 use std::alloc::{AllocError, Global};
 use std::process::Abort;
@@ -49,7 +49,7 @@ fn comes_again(
 #[test]
 fn diagrams_and_chains_come_again(rt: HostRuntime) {
     let alloc = rt.alloc();
-    let mut session = Session::new(alloc, size_of(&rt, 5));
+    let mut session = Session::new(alloc, Size::new(5).expect(&rt, "a size"));
     let mut boards = boards_before_moves(&rt, alloc, &mut session).expect(&rt, "memory");
     assert_eq!(rt; boards.len(), 60);
     for _ in 0..60u32 {

@@ -1,8 +1,7 @@
 //! A game of goref against a small opponent, held by a controller that judges each answer by a game
 //! of its own.
-use crate::games::size_of;
 use crate::sessions::told;
-use go_board::{Colour, Move, Point, Vertex, read_vertex, vertex_text};
+use go_board::{Colour, Move, Point, Size, Vertex, read_vertex, vertex_text};
 use go_game::{Game, score_text};
 use goref::Session;
 use std::alloc::{AllocError, Global};
@@ -157,7 +156,7 @@ fn undoes(rt: &impl Abort, alloc: Global, session: &mut Session<Global>) {
 #[test]
 fn a_game_to_its_end(rt: HostRuntime) {
     let alloc = rt.alloc();
-    let size = size_of(&rt, 5);
+    let size = Size::new(5).expect(&rt, "a size");
     let mut session = Session::new(alloc, size);
     let mut judge = Game::new(alloc, size);
     plays_to_the_end(&rt, alloc, &mut session, &mut judge);

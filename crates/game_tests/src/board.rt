@@ -1,10 +1,11 @@
-ghost use Rattle.std.specs.Prelude.{◌≡◌};
 ghost use Rattle.go_board.specs.Points.{IsOn};
 ghost use Rattle.go_board.specs.Sizes.{lines_of};
 
+use crate::games::size_of;
 use go_board::plain::{areas, first_dead, place, same_chain};
 use go_board::{
-    Colour, Grid, Point, Size, Taken, Vertex, VertexError, neighbours, read_vertex, vertex_text,
+    Area, Colour, Grid, Point, Size, Taken, Vertex, VertexError, neighbours, read_vertex,
+    vertex_text,
 };
 use std::process::Abort;
 
@@ -16,12 +17,6 @@ fn point(rt: &impl Abort, size: Size, word: &[u8]) -> Point
         Vertex::At(point) => point,
         Vertex::Pass => panic!(rt; "a pass"),
     }
-}
-
-fn size_of(rt: &impl Abort, lines: u8) -> Size
-    ensures { lines_of result ≡ lines }
-{
-    Size::new(lines).expect(rt, "a size")
 }
 
 fn play(rt: &impl Abort, grid: &mut Grid, colour: Colour, word: &[u8]) -> Taken {
@@ -115,18 +110,21 @@ fn each_vertex_reads_back(rt: HostRuntime) {
     assert!(rt; vertex_text(Vertex::At(Point { col: 18, row: 18 })).as_str() == "T19");
 }
 
+/// Asserts which neighbours a point has, in order.
+fn has_neighbours(rt: &impl Abort, size: Size, word: &[u8], points: &[Point]) {
+    assert!(rt; neighbours(point(rt, size, word), size).as_slice() == points);
+}
+
 #[test]
 fn neighbours_in_order(rt: HostRuntime) {
+    let b1 = Point { col: 1, row: 0 };
+    let a2 = Point { col: 0, row: 1 };
+    let c2 = Point { col: 2, row: 1 };
+    let b3 = Point { col: 1, row: 2 };
     let size = size_of(&rt, 3);
-    let middle = neighbours(point(&rt, size, b"b2"), size);
-    assert_eq!(rt; middle.len(), 4);
-    assert!(rt; middle.as_slice().get(0) == Some(&point(&rt, size, b"b1")));
-    assert!(rt; middle.as_slice().get(1) == Some(&point(&rt, size, b"a2")));
-    assert!(rt; middle.as_slice().get(2) == Some(&point(&rt, size, b"c2")));
-    assert!(rt; middle.as_slice().get(3) == Some(&point(&rt, size, b"b3")));
-    assert_eq!(rt; neighbours(point(&rt, size, b"a1"), size).len(), 2);
-    let one = size_of(&rt, 1);
-    assert!(rt; neighbours(point(&rt, one, b"a1"), one).is_empty());
+    has_neighbours(&rt, size, b"b2", [b1, a2, c2, b3].as_slice());
+    has_neighbours(&rt, size, b"a1", [b1, a2].as_slice());
+    has_neighbours(&rt, size_of(&rt, 1), b"a1", [].as_slice());
 }
 
 #[test]
@@ -185,15 +183,22 @@ fn suicide_of_several(rt: HostRuntime) {
     assert!(rt; !same_chain(&grid, a2, point(&rt, grid.size(), b"C1")));
 }
 
+/// Asserts how many points count for each colour.
+fn has_areas(rt: &impl Abort, grid: &Grid, black: u16, white: u16) {
+    assert!(rt; areas(grid) == Area { black, white });
+}
+
 #[test]
-fn area_and_dead_stones(rt: HostRuntime) {
+fn area_of_one_stone(rt: HostRuntime) {
     let mut grid = Grid::new(size_of(&rt, 9));
-    let empty = areas(&grid);
-    assert!(rt; empty.black == 0 && empty.white == 0);
+    has_areas(&rt, &grid, 0, 0);
     let _ = play(&rt, &mut grid, Colour::Black, b"E5");
-    let area = areas(&grid);
-    assert!(rt; area.black == 81 && area.white == 0);
+    has_areas(&rt, &grid, 81, 0);
     assert!(rt; first_dead(&grid).is_none());
+}
+
+#[test]
+fn first_of_the_dead_stones(rt: HostRuntime) {
     let mut full = Grid::new(size_of(&rt, 2));
     for word in [
         b"A1".as_slice(),

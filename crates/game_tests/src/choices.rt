@@ -97,29 +97,47 @@ fn legal_plays_after_a_capture(rt: HostRuntime) {
     assert_eq!(rt; game.move_count(), 3);
 }
 
+/// Two games tell the same moves, and whose turn it is.
+fn same_turns<A: Allocator + Copy, B: Allocator + Copy>(
+    rt: &impl Abort,
+    game: &Game<A>,
+    twin: &Game<B>,
+) {
+    assert!(rt; game.mover() == twin.mover() && game.start_mover() == twin.start_mover());
+    assert_eq!(rt; game.move_count(), twin.move_count());
+    for number in 0..twin.move_count() {
+        assert!(rt; game.move_at(number) == twin.move_at(number));
+    }
+}
+
+/// Two games tell the same colours.
+fn same_colours<A: Allocator + Copy, B: Allocator + Copy>(
+    rt: &impl Abort,
+    game: &Game<A>,
+    twin: &Game<B>,
+) {
+    let size = twin.size();
+    for number in 0..size.points() {
+        let p = Point::numbered(size, number);
+        assert!(rt; p.on(game.size()));
+        assert!(rt; game.colour_at(p) == twin.colour_at(p));
+        assert!(rt; game.start_at(p) == twin.start_at(p));
+    }
+}
+
 /// Two games answer each question alike.
 fn assert_same<A: Allocator + Copy, B: Allocator + Copy>(
     rt: &impl Abort,
     game: &Game<A>,
     twin: &Game<B>,
 ) {
-    let size = twin.size();
-    assert!(rt; game.size() == size && game.komi() == twin.komi());
-    assert!(rt; game.mover() == twin.mover() && game.start_mover() == twin.start_mover());
+    assert!(rt; game.size() == twin.size() && game.komi() == twin.komi());
     assert!(rt; game.area() == twin.area());
     for colour in [Colour::Black, Colour::White] {
         assert!(rt; game.prisoners(colour) == twin.prisoners(colour));
     }
-    assert_eq!(rt; game.move_count(), twin.move_count());
-    for number in 0..twin.move_count() {
-        assert!(rt; game.move_at(number) == twin.move_at(number));
-    }
-    for number in 0..size.points() {
-        let here = Point::nth(game.size(), number).expect(rt, "a point");
-        let there = Point::nth(size, number).expect(rt, "a point");
-        assert!(rt; game.colour_at(here) == twin.colour_at(there));
-        assert!(rt; game.start_at(here) == twin.start_at(there));
-    }
+    same_turns(rt, game, twin);
+    same_colours(rt, game, twin);
 }
 
 /// Plays a move, and again where it was refused for want of memory. How many were refused.
@@ -171,6 +189,25 @@ fn asks_legal<A: Allocator + Copy, B: Allocator + Copy>(
     refused
 }
 
+/// Asks for a move, and plays it in both games. How many calls were refused.
+fn asks_and_plays<A: Allocator + Copy, B: Allocator + Copy>(
+    rt: &impl Abort,
+    game: &mut Game<A>,
+    twin: &mut Game<B>,
+    made: Move,
+    is_chosen: bool,
+) -> u32 {
+    let asked = if is_chosen {
+        asks_choice(rt, game, twin, made)
+    } else {
+        asks_legal(rt, game, twin, made)
+    };
+    let played = plays(rt, game, made);
+    assert!(rt; twin.play(made).is_ok());
+    assert_same(rt, game, twin);
+    asked.wrapping_add(played)
+}
+
 /// Five moves on two lines, each asked for and then played. How many calls were refused.
 fn five_moves<A: Allocator + Copy, B: Allocator + Copy>(
     rt: &impl Abort,
@@ -189,16 +226,8 @@ fn five_moves<A: Allocator + Copy, B: Allocator + Copy>(
         b"A1".as_slice(),
     ] {
         let made = turn(rt, twin.size(), colour, word);
-        let asked = if is_chosen {
-            asks_choice(rt, game, &twin, made)
-        } else {
-            asks_legal(rt, game, &twin, made)
-        };
-        refused = refused
-            .wrapping_add(asked)
-            .wrapping_add(plays(rt, game, made));
-        assert!(rt; twin.play(made).is_ok());
-        assert_same(rt, game, &twin);
+        let met = asks_and_plays(rt, game, &mut twin, made, is_chosen);
+        refused = refused.wrapping_add(met);
         colour = colour.other();
     }
     refused

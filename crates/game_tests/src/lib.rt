@@ -1,0 +1,20 @@
+//! Tests of boards and games, through public calls: worked examples, drawn games beside the plain
+//! body, and memory that runs out.
+#![tactic(auto)]
+
+#[cfg(test)]
+mod board;
+#[cfg(test)]
+mod chains;
+#[cfg(test)]
+mod choices;
+#[cfg(test)]
+mod drawn;
+#[cfg(test)]
+mod games;
+#[cfg(test)]
+mod packs;
+#[cfg(test)]
+mod plain_game;
+#[cfg(test)]
+mod turns;

@@ -1,0 +1,89 @@
+use go_board::{Colour, Grid, Move, Taken, Vertex, plain};
+use go_game::PlayError;
+use std::alloc::Global;
+
+/// A game by the plain body: its start, the grid after each move, and what each move took.
+#[derive(Drop)]
+pub struct PlainGame {
+    pub start: Grid,
+    pub first: Colour,
+    pub grids: Vec<Grid, Global>,
+    pub made: Vec<(Move, Taken), Global>,
+}
+
+impl PlainGame {
+    pub fn new(alloc: Global, start: Grid, first: Colour) -> PlainGame {
+        PlainGame {
+            start,
+            first,
+            grids: Vec::new(alloc),
+            made: Vec::new(alloc),
+        }
+    }
+
+    /// The grid after the last move.
+    pub fn present(&self) -> Grid {
+        match self.grids.last() {
+            Some(grid) => grid.copy(),
+            None => self.start.copy(),
+        }
+    }
+
+    /// The colour that is to move.
+    pub fn mover(&self) -> Colour {
+        match self.made.last() {
+            Some((made, _)) => made.colour.other(),
+            None => self.first,
+        }
+    }
+
+    /// After how many moves a grid stood first, if it did.
+    fn first_at(&self, grid: &Grid) -> Option<usize> {
+        if self.start.is_same_as(grid) {
+            return Some(0);
+        }
+        let number = self.grids.iter().position(|stood| stood.is_same_as(grid))?;
+        Some(number.wrapping_add(1))
+    }
+
+    /// What a move comes to: the grid after it and what it took, or why it is refused.
+    pub fn outcome(&self, made: Move) -> Result<(Grid, Taken), PlayError> {
+        let mut after = self.present();
+        let p = match made.vertex {
+            Vertex::Pass => return Ok((after, Taken { theirs: 0, own: 0 })),
+            Vertex::At(p) => p,
+        };
+        if !p.on(after.size()) {
+            return Err(PlayError::OffBoard);
+        }
+        if after.get(p).is_some() {
+            return Err(PlayError::Occupied);
+        }
+        let taken = plain::place(&mut after, made.colour, p);
+        match self.first_at(&after) {
+            Some(number) => Err(PlayError::Repeats(number)),
+            None => Ok((after, taken)),
+        }
+    }
+
+    /// How many stones of a colour were taken.
+    pub fn prisoners(&self, colour: Colour) -> u64 {
+        let mut count = 0u64;
+        for (made, taken) in &self.made {
+            let share = if made.colour == colour {
+                taken.own
+            } else {
+                taken.theirs
+            };
+            count = count.wrapping_add(u64::from(share));
+        }
+        count
+    }
+
+    /// Takes the last move back, if there is one.
+    pub fn undo(&mut self) -> Option<Move> {
+        let (made, _) = self.made.pop()?;
+        let _ = self.grids.pop();
+        Some(made)
+    }
+}

@@ -1,0 +1,11 @@
+//! Tests of records, and of the two tools over them: texts with the answers that they must have.
+#![tactic(auto)]
+
+#[cfg(test)]
+mod judging;
+#[cfg(test)]
+mod records;
+#[cfg(test)]
+mod replays;
+#[cfg(test)]
+mod tidying;
