@@ -2,6 +2,7 @@ ghost use Rattle.std.specs.Prelude.{◌≡◌};
 ghost use Rattle.go_board.specs.Points.{IsOn};
 ghost use Rattle.go_board.specs.Sizes.{lines_of};
 
+use crate::drawn::any_colour;
 use crate::games::size_of;
 use failing::Failing;
 use go_board::{Colour, Grid, Meter, Point, Size, plain};
@@ -17,15 +18,6 @@ fn any_point(random: &mut Pcg32, size: Size) -> Point
 {
     let number = random.next_u32() % u32::from(size.points());
     Point::numbered(size, number as u16)
-}
-
-/// Draws a colour.
-fn any_colour(random: &mut Pcg32) -> Colour {
-    if random.next_u32().is_multiple_of(2) {
-        Colour::Black
-    } else {
-        Colour::White
-    }
 }
 
 /// Whether a board and a grid have the same size, the same pack, and the same colour at each point.
@@ -197,19 +189,24 @@ fn script<A: Allocator + Copy>(rt: &impl Abort, board: &mut Board, log: &mut Log
     refused
 }
 
+/// Whether the script comes to a request for memory with this number; that one alone is refused.
+fn meets_request(rt: &impl Abort, alloc: impl Allocator + Copy, number: u64) -> bool {
+    let failing = Failing::new(alloc, number);
+    let mut board = Board::new(size_of(rt, 5));
+    let mut log = Log::new(&failing);
+    let refused = script(rt, &mut board, &mut log);
+    let is_met = !failing.waits();
+    assert_eq!(rt; refused, u32::from(is_met), "request {number}");
+    is_met
+}
+
 #[test]
 fn each_request_of_a_play_refused(rt: HostRuntime) {
     let mut met = 0u32;
     for number in 1..60u64 {
-        let failing = Failing::new(rt.alloc(), number);
-        let mut board = Board::new(size_of(&rt, 5));
-        let mut log = Log::new(&failing);
-        let refused = script(&rt, &mut board, &mut log);
-        if failing.waits() {
-            assert!(rt; refused == 0);
+        if !meets_request(&rt, rt.alloc(), number) {
             break;
         }
-        assert!(rt; refused == 1, "request {number}");
         met = met.wrapping_add(1);
     }
     assert!(rt; met > 1 && met < 50, "{met} requests");

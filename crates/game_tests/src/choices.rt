@@ -2,7 +2,7 @@ use crate::games::{plays_at, size_of, turn};
 use failing::Failing;
 use go_board::{Colour, Move, Point, Taken, Vertex};
 use go_game::{Game, PlayError};
-use std::alloc::{AllocError, Allocator};
+use std::alloc::{AllocError, Allocator, Global};
 use std::process::Abort;
 
 /// The colour's choice is what the word spells, and it is played.
@@ -208,6 +208,14 @@ fn asks_and_plays<A: Allocator + Copy, B: Allocator + Copy>(
     asked.wrapping_add(played)
 }
 
+const A1: Point = Point { col: 0, row: 0 };
+
+const B1: Point = Point { col: 1, row: 0 };
+
+const A2: Point = Point { col: 0, row: 1 };
+
+const B2: Point = Point { col: 1, row: 1 };
+
 /// Five moves on two lines, each asked for and then played. How many calls were refused.
 fn five_moves<A: Allocator + Copy, B: Allocator + Copy>(
     rt: &impl Abort,
@@ -218,14 +226,9 @@ fn five_moves<A: Allocator + Copy, B: Allocator + Copy>(
     let mut twin = Game::new(alloc, size_of(rt, 2));
     let mut refused = 0u32;
     let mut colour = Colour::Black;
-    for word in [
-        b"A1".as_slice(),
-        b"B2".as_slice(),
-        b"B1".as_slice(),
-        b"A2".as_slice(),
-        b"A1".as_slice(),
-    ] {
-        let made = turn(rt, twin.size(), colour, word);
+    for at in [A1, B2, B1, A2, A1] {
+        let vertex = Vertex::At(at);
+        let made = Move { colour, vertex };
         let met = asks_and_plays(rt, game, &mut twin, made, is_chosen);
         refused = refused.wrapping_add(met);
         colour = colour.other();
@@ -233,18 +236,23 @@ fn five_moves<A: Allocator + Copy, B: Allocator + Copy>(
     refused
 }
 
+/// Whether the five moves come to a request for memory with this number; that one alone is refused.
+fn meets_request(rt: &impl Abort, alloc: Global, number: u64, is_chosen: bool) -> bool {
+    let failing = Failing::new(alloc, number);
+    let mut game = Game::new(&failing, size_of(rt, 2));
+    let refused = five_moves(rt, alloc, &mut game, is_chosen);
+    let is_met = !failing.waits();
+    assert_eq!(rt; refused, u32::from(is_met), "request {number}");
+    is_met
+}
+
 /// Each request for memory of the five moves is refused in turn, until a run meets no refusal.
-fn refused_in_turn<A: Allocator + Copy>(rt: &impl Abort, alloc: A, is_chosen: bool) {
+fn refused_in_turn(rt: &impl Abort, alloc: Global, is_chosen: bool) {
     let mut met = 0u32;
     for number in 1..20u64 {
-        let failing = Failing::new(alloc, number);
-        let mut game = Game::new(&failing, size_of(rt, 2));
-        let refused = five_moves(rt, alloc, &mut game, is_chosen);
-        if failing.waits() {
-            assert!(rt; refused == 0);
+        if !meets_request(rt, alloc, number, is_chosen) {
             break;
         }
-        assert!(rt; refused == 1);
         met = met.wrapping_add(1);
     }
     assert!(rt; met > 0 && met < 19, "{met} requests");

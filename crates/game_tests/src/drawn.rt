@@ -5,7 +5,7 @@ use rand_core::Rng;
 use rand_pcg::Pcg32;
 
 /// Draws a colour.
-fn any_colour(random: &mut Pcg32) -> Colour {
+pub fn any_colour(random: &mut Pcg32) -> Colour {
     if random.next_u32().is_multiple_of(2) {
         Colour::Black
     } else {

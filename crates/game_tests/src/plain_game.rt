@@ -1,6 +1,6 @@
 use go_board::{Colour, Grid, Move, Taken, Vertex, plain};
 use go_game::PlayError;
-use std::alloc::Global;
+use std::alloc::{AllocError, Global};
 
 /// A game by the plain body: its start, the grid after each move, and what each move took.
 #[derive(Drop)]
@@ -78,6 +78,13 @@ impl PlainGame {
             count = count.wrapping_add(u64::from(share));
         }
         count
+    }
+
+    /// Makes a move that leaves this grid and takes so many stones.
+    pub fn push(&mut self, made: Move, after: Grid, taken: Taken) -> Result<(), AllocError> {
+        self.grids.push(after)?;
+        self.made.push((made, taken))?;
+        Ok(())
     }
 
     /// Takes the last move back, if there is one.

@@ -8,7 +8,6 @@ use rand_core::Rng;
 use rand_pcg::Pcg32;
 use std::alloc::Global;
 use std::process::Abort;
-use std::test::Fail;
 
 const KOMI: i64 = 650;
 
@@ -127,23 +126,18 @@ fn same_legality(
     plain: &PlainGame,
     made: Move,
     best: &mut Best,
-) -> Result<(), Fail> {
+) {
     let outcome = plain.outcome(made);
-    assert!(rt; game.legal(made)? == outcome.is_ok());
+    let legal = game.legal(made).expect(rt, "memory");
+    assert!(rt; legal == outcome.is_ok());
     if let (Vertex::At(p), Ok((after, _))) = (made.vertex, outcome) {
         best.weigh(p, &after, made.colour);
     }
-    Ok(())
 }
 
 /// Compares which moves of a colour are legal with the plain body, on each point, next to the board
 /// and by a pass, and the choice among them: the first of the best plays.
-fn same_plays(
-    rt: &impl Abort,
-    game: &mut Game<Global>,
-    plain: &PlainGame,
-    colour: Colour,
-) -> Result<(), Fail> {
+fn same_plays(rt: &impl Abort, game: &mut Game<Global>, plain: &PlainGame, colour: Colour) {
     let past = game.size().lines() + 1;
     let mut best = Best::pass(&plain.present(), colour);
     for number in 0..u16::from(past) * u16::from(past) {
@@ -152,24 +146,24 @@ fn same_plays(
             row: (number / u16::from(past)) as u8,
         };
         let vertex = Vertex::At(p);
-        same_legality(rt, game, plain, Move { colour, vertex }, &mut best)?;
+        same_legality(rt, game, plain, Move { colour, vertex }, &mut best);
     }
     let vertex = Vertex::Pass;
-    same_legality(rt, game, plain, Move { colour, vertex }, &mut best)?;
-    assert!(rt; game.choose(colour)? == best.vertex);
-    Ok(())
+    same_legality(rt, game, plain, Move { colour, vertex }, &mut best);
+    let chosen = game.choose(colour).expect(rt, "memory");
+    assert!(rt; chosen == best.vertex);
 }
 
 /// Compares what a game answers with the plain body.
-fn same_answers(rt: &impl Abort, game: &mut Game<Global>, plain: &PlainGame) -> Result<(), Fail> {
+fn same_answers(rt: &impl Abort, game: &mut Game<Global>, plain: &PlainGame) {
     let grid = plain.present();
     same_turns(rt, game, plain);
     same_colours(rt, game, &plain.start, &grid);
     same_prisoners(rt, game, plain);
     same_score(rt, game, &grid);
     same_chains(rt, game, &grid);
-    same_plays(rt, game, plain, Colour::Black)?;
-    same_plays(rt, game, plain, Colour::White)
+    same_plays(rt, game, plain, Colour::Black);
+    same_plays(rt, game, plain, Colour::White);
 }
 
 /// Takes moves back on both, if there are so many, and compares everything after each.
@@ -179,16 +173,15 @@ fn take_back(
     plain: &mut PlainGame,
     moves: u32,
     seen: &mut Seen,
-) -> Result<(), Fail> {
+) {
     for _ in 0..moves {
         let back = plain.undo();
         assert!(rt; game.undo() == back);
         if back.is_some() {
             seen.count_undo();
         }
-        same_answers(rt, game, plain)?;
+        same_answers(rt, game, plain);
     }
-    Ok(())
 }
 
 /// Makes a move on both, where it is legal, and compares what that answers.
@@ -198,17 +191,15 @@ fn play_on_both(
     plain: &mut PlainGame,
     made: Move,
     expected: Result<(Grid, Taken), PlayError>,
-) -> Result<(), Fail> {
+) {
     match (game.play(made), expected) {
         (Ok(taken), Ok((after, took))) => {
             assert!(rt; taken == took);
-            plain.grids.push(after)?;
-            plain.made.push((made, taken))?;
+            plain.push(made, after, taken).expect(rt, "memory");
         }
         (Err(why), Err(same)) => assert!(rt; why == same),
         _ => panic!(rt; "one of two plays"),
     }
-    Ok(())
 }
 
 /// Plays drawn moves on both, takes some back, and compares everything after each.
@@ -219,20 +210,19 @@ fn play_along(
     random: &mut Pcg32,
     moves: u32,
     seen: &mut Seen,
-) -> Result<(), Fail> {
+) {
     game.set_komi(KOMI);
     for _ in 0..moves {
         if random.next_u32().is_multiple_of(9) {
             let back = random.next_u32() % 6;
-            take_back(rt, game, plain, back, seen)?;
+            take_back(rt, game, plain, back, seen);
         }
         let made = next_move(random, plain);
         let expected = plain.outcome(made);
         seen.count(made, &expected);
-        play_on_both(rt, game, plain, made, expected)?;
-        same_answers(rt, game, plain)?;
+        play_on_both(rt, game, plain, made, expected);
+        same_answers(rt, game, plain);
     }
-    Ok(())
 }
 
 /// A drawn game from the empty board.
@@ -243,11 +233,11 @@ fn from_nothing(
     moves: u32,
     seed: u64,
     seen: &mut Seen,
-) -> Result<(), Fail> {
+) {
     let mut random = Pcg32::new(seed, u64::from(size.lines()));
     let mut game = Game::new(alloc, size);
     let mut plain = PlainGame::new(alloc, Grid::new(size), Colour::Black);
-    play_along(rt, &mut game, &mut plain, &mut random, moves, seen)
+    play_along(rt, &mut game, &mut plain, &mut random, moves, seen);
 }
 
 /// A drawn game from a drawn start, White to move first.
@@ -258,48 +248,45 @@ fn from_a_start(
     moves: u32,
     seed: u64,
     seen: &mut Seen,
-) -> Result<(), Fail> {
+) {
     let mut random = Pcg32::new(seed, u64::from(size.lines()));
     let start = any_start(&mut random, size);
     let mut game = Game::start_from(alloc, &start, Colour::White).expect(rt, "a start");
     let mut plain = PlainGame::new(alloc, start, Colour::White);
-    play_along(rt, &mut game, &mut plain, &mut random, moves, seen)
+    play_along(rt, &mut game, &mut plain, &mut random, moves, seen);
 }
 
 #[test]
-fn small_games_as_the_plain_body(rt: HostRuntime) -> Result<(), Fail> {
+fn small_games_as_the_plain_body(rt: HostRuntime) {
     let mut seen = Seen::new();
     for lines in 1..6u8 {
         let size = size_of(&rt, lines);
         for seed in 0..2u64 {
-            from_nothing(&rt, rt.alloc(), size, 300, seed, &mut seen)?;
-            from_a_start(&rt, rt.alloc(), size, 300, seed, &mut seen)?;
+            from_nothing(&rt, rt.alloc(), size, 300, seed, &mut seen);
+            from_a_start(&rt, rt.alloc(), size, 300, seed, &mut seen);
         }
     }
     assert!(rt; seen.has_all());
-    Ok(())
 }
 
 #[test]
-fn middle_games_as_the_plain_body(rt: HostRuntime) -> Result<(), Fail> {
+fn middle_games_as_the_plain_body(rt: HostRuntime) {
     let mut seen = Seen::new();
     for lines in 6..10u8 {
-        from_nothing(&rt, rt.alloc(), size_of(&rt, lines), 150, 1, &mut seen)?;
+        from_nothing(&rt, rt.alloc(), size_of(&rt, lines), 150, 1, &mut seen);
     }
     assert!(rt; seen.has_all());
-    Ok(())
 }
 
 #[test]
-fn a_large_game_as_the_plain_body(rt: HostRuntime) -> Result<(), Fail> {
+fn a_large_game_as_the_plain_body(rt: HostRuntime) {
     let mut seen = Seen::new();
-    from_a_start(&rt, rt.alloc(), size_of(&rt, 19), 60, 0, &mut seen)?;
+    from_a_start(&rt, rt.alloc(), size_of(&rt, 19), 60, 0, &mut seen);
     assert!(rt; seen.has_all());
-    Ok(())
 }
 
 #[test]
-fn a_board_of_one_point(rt: HostRuntime) -> Result<(), Fail> {
+fn a_board_of_one_point(rt: HostRuntime) {
     let mut game = Game::new(rt.alloc(), size_of(&rt, 1));
     let only = Vertex::At(Point { col: 0, row: 0 });
     let made = Move {
@@ -316,5 +303,4 @@ fn a_board_of_one_point(rt: HostRuntime) -> Result<(), Fail> {
     }
     assert!(rt; game.play(made) == Err(PlayError::Repeats(0)));
     assert_eq!(rt; game.move_count(), 2);
-    Ok(())
 }
