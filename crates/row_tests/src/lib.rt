@@ -1,4 +1,4 @@
-//! Tests that cross crates: scripts with the answers that they must have.
+//! Tests of the protocol: scripts of lines with the answers that they must have.
 #![tactic(auto)]
 
 #[cfg(test)]
