@@ -1,9 +1,9 @@
 -- A colouring in bytes, two bits a point.
-use Rattle.std.specs.Prelude.{◌≡◌, ◌<◌, ℕ, ◌+◌, ◌*◌, List, Option, None, Some, map, slice_index_or}
+use Rattle.std.specs.Prelude.{ℕ, ◌+◌, ◌*◌, List, Option, None, Some, map}
 use Rattle.std.specs.List.{range_with_len}
 use Rattle.go_board.specs.declared.colour.Colour.{Colour}
 use Rattle.go_board.specs.declared.colour.Colour.TheVariants.{Black, White}
-use Rattle.go_board.specs.declared.pack.TheConstants.{PACK_BYTES, PACK_CODES}
+use Rattle.go_board.specs.declared.pack.TheConstants.{PACK_BYTES}
 use Rattle.go_board.specs.Colours.{Colouring, colour_at}
 
 -- two bits
@@ -11,10 +11,6 @@ abbrev pub code_of : Option Colour → ℕ
 code_of None = 0
 code_of (Some Black) = 1
 code_of (Some White) = 2
-
--- the codes of a colouring's points, in point order, and 0 for each place past them
-abbrev pub AreCodes : List ℕ → Colouring → Type 0
-AreCodes codes g = (k : ℕ) → k < PACK_CODES → slice_index_or codes k 0 ≡ code_of (colour_at g k)
 
 -- the byte of four points, the first lowest; a point past the board counts as empty
 abbrev pub byte_of : Colouring → ℕ → ℕ

@@ -1,14 +1,21 @@
 //! What the words of this crate's contracts mean: laws about definitions, each the contract of a
 //! function that does nothing.
-ghost use Rattle.std.specs.Prelude.{◌≡◌, ◌<◌, ◌≤◌, ◌+◌, ◌*◌, ◌↔◌, ◌⊎◌, ℕ, false, Option, None, Some, IsTrue, length, slice_set};
+ghost use Rattle.std.specs.Prelude.{◌≡◌, ◌<◌, ◌≤◌, ◌+◌, ◌*◌, ◌↔◌, ◌⊎◌, ℕ, false, List, Option, None, Some, IsTrue, length, slice_index_or, slice_set};
 ghost use Rattle.go_board.specs.declared.colour.Colour.{Colour};
 ghost use Rattle.go_board.specs.Colours.{Colouring, colour_at};
-ghost use Rattle.go_board.specs.Packs.{packed_of};
+ghost use Rattle.go_board.specs.Packs.{byte_of, packed_of};
 ghost use Rattle.go_board.specs.Paths.{Joined, Reaches};
 ghost use Rattle.go_board.specs.Reaching.{is_dead, is_liberty_of, joined, moved, reaches, stones, vanished};
 ghost use Rattle.go_board.specs.declared.point.Point.{Point};
-ghost use Rattle.go_board.specs.declared.size.TheConstants.{MAX_POINTS};
+ghost use Rattle.go_board.specs.declared.pack.TheConstants.{PACK_BYTES};
+ghost use Rattle.go_board.specs.declared.size.TheConstants.{MAX_LINES, MAX_POINTS};
 ghost use Rattle.go_board.specs.Points.{IsOn, is_adjacent, number_of, point_at};
+
+/// The numbers of lines and points of the largest board.
+pub fn limits()
+    ensures lines { MAX_LINES ≡ 25 }
+    ensures points { MAX_POINTS ≡ 625 }
+{}
 
 /// The test whether a point reaches a colour holds exactly where a path leads there.
 pub fn reaches_by_a_path()
@@ -62,4 +69,11 @@ pub fn taken_and_left()
 pub fn packs_tell_colourings_apart()
     ensures { (g h : Colouring) → length g ≡ length h → length g ≤ MAX_POINTS
         → (packed_of g ≡ packed_of h) ↔ (g ≡ h) }
+{}
+
+/// Bytes of which each is that of its four points are the pack of a colouring.
+pub fn bytes_make_a_pack()
+    ensures { (g : Colouring) (bytes : List ℕ) → length bytes ≡ PACK_BYTES
+        → ((i : ℕ) → i < PACK_BYTES → slice_index_or bytes i 0 ≡ byte_of g i)
+        → bytes ≡ packed_of g }
 {}

@@ -23,7 +23,7 @@ pub use colour::Colour;
 pub use device::{Failed, Sink, Source, WriteFault};
 pub use grid::Grid;
 pub use meter::Meter;
-pub use pack::{Codes, PACK_BYTES, PACK_CODES, Packed};
+pub use pack::{PACK_BYTES, Packed, packed_byte};
 pub use pen::{Pen, send};
 pub use point::{Point, neighbours, put_neighbours};
 pub use size::{MAX_LINES, MAX_POINTS, Size};

@@ -1,21 +1,13 @@
-ghost use Rattle.std.specs.Prelude.{◌≡◌, ◌<◌, ◌≤◌, ℕ, slice_index_or};
-ghost use Rattle.go_board.specs.declared.pack.TheConstants.{PACK_BYTES, PACK_CODES};
-ghost use Rattle.go_board.specs.Colours.{Colouring};
+ghost use Rattle.std.specs.Prelude.{◌≡◌, ◌<◌, ◌≤◌, ◌+◌, ◌*◌, replicate, slice_set};
+ghost use Rattle.go_board.specs.declared.pack.TheConstants.{PACK_BYTES};
 ghost use Rattle.go_board.specs.PackBytes.{bytes_of};
-ghost use Rattle.go_board.specs.Packs.{AreCodes, byte_of, code_of, packed_of};
+ghost use Rattle.go_board.specs.Packs.{byte_of, code_of, packed_of};
 
 use crate::{Colour, Grid, MAX_POINTS};
 use std::hash::{Hash, Hasher};
 
 /// How many bytes hold two bits for each point of the largest board.
 pub const PACK_BYTES: usize = (MAX_POINTS + 3) / 4;
-
-/// How many codes those bytes hold.
-pub const PACK_CODES: usize = 4 * PACK_BYTES;
-
-/// The codes of points in point order: 0 for an empty point, 1 for Black, 2 for White, and 0 for
-/// what is past the board.
-pub type Codes = [u8; PACK_CODES];
 
 /// The colours of a grid in two bits a point. Packs of grids of one size are equal exactly where
 /// the grids are.
@@ -40,38 +32,34 @@ impl Hash for Packed {
 }
 
 impl Packed {
-    /// The pack of these codes.
-    pub fn of_codes(codes: &Codes) -> Packed
-        requires codes { (g : Colouring) × AreCodes codes.now g }
-        ensures { (g : Colouring) → AreCodes codes.now g → bytes_of result ≡ packed_of g }
+    /// The pack of a board without stones.
+    pub fn empty() -> Packed
+        ensures { bytes_of result ≡ replicate PACK_BYTES 0 }
     {
-        let mut packed = Packed {
+        Packed {
             bytes: [0; PACK_BYTES],
-        };
-        fill(codes, &mut packed.bytes);
-        packed
+        }
+    }
+
+    /// Writes the byte of four points: the first has four times the place's number, and the others
+    /// follow it in point order.
+    pub fn set(&mut self, place: usize, byte: u8)
+        requires { place < PACK_BYTES }
+        ensures { bytes_of self.new ≡ slice_set (bytes_of self.old) place byte }
+    {
+        self.bytes[place] = byte;
     }
 }
 
-/// Writes the bytes of a pack.
-fn fill(codes: &Codes, bytes: &mut [u8; PACK_BYTES])
-    requires codes { (g : Colouring) × AreCodes codes.now g }
-    ensures { (g : Colouring) → AreCodes codes.now g → bytes.new ≡ packed_of g }
+/// The byte of four codes, the first lowest. A code is 0 for an empty point, 1 for Black, 2 for
+/// White, and 0 for what is past the board.
+pub fn packed_byte(first: u8, second: u8, third: u8, fourth: u8) -> u8
+    requires low { (first ≤ 2) × (second ≤ 2) }
+    requires high { (third ≤ 2) × (fourth ≤ 2) }
+    ensures { result ≡ first + 4 * second + 16 * (third + 4 * fourth) }
 {
-    for place in 0..PACK_BYTES {
-        bytes[place] = packed_byte(codes, place);
-    }
-}
-
-/// The codes of the four points of one byte, the first lowest.
-fn packed_byte(codes: &Codes, place: usize) -> u8
-    requires codes { (g : Colouring) × AreCodes codes.now g }
-    requires place { place < PACK_BYTES }
-    ensures { (g : Colouring) → AreCodes codes.now g → result ≡ byte_of g place }
-{
-    let first = 4 * place;
-    let low = codes[first] + 4 * codes[first + 1];
-    let high = codes[first + 2] + 4 * codes[first + 3];
+    let low = first + 4 * second;
+    let high = third + 4 * fourth;
     low + 16 * high
 }
 
@@ -82,18 +70,25 @@ impl Grid {
     pub fn pack(&self) -> Packed
         ensures { bytes_of result ≡ packed_of self.now.colours }
     {
-        let mut codes = [0; PACK_CODES];
-        self.fill_codes(&mut codes);
-        Packed::of_codes(&codes)
+        let mut packed = Packed::empty();
+        for place in 0..PACK_BYTES {
+            packed.set(place, self.byte_at(place));
+        }
+        packed
     }
 
-    /// Writes the codes of the points.
-    fn fill_codes(&self, codes: &mut Codes)
-        ensures { AreCodes codes.new self.now.colours }
+    /// The byte of four points.
+    fn byte_at(&self, place: usize) -> u8
+        requires { place < PACK_BYTES }
+        ensures { result ≡ byte_of self.now.colours place }
     {
-        for number in 0..PACK_CODES {
-            codes[number] = self.code_at(number);
-        }
+        let first = 4 * place;
+        packed_byte(
+            self.code_at(first),
+            self.code_at(first + 1),
+            self.code_at(first + 2),
+            self.code_at(first + 3),
+        )
     }
 
     /// The code of a point's colour; a point past the board counts as empty.

@@ -2,7 +2,7 @@ ghost use Rattle.std.specs.Prelude.{◌≡◌, ◌≤◌, ◌<◌, ◌↔◌, �
 ghost use Rattle.go_board.specs.declared.size.TheConstants.{MAX_LINES};
 
 /// The most lines that a board has.
-pub const MAX_LINES: u8 = 19;
+pub const MAX_LINES: u8 = 25;
 
 /// The most points that a board has.
 pub const MAX_POINTS: usize = MAX_LINES as usize * MAX_LINES as usize;

@@ -12,16 +12,19 @@ none_in_word word mask i none marked one =
     let e : min (bit_at word i) (bit_at mask i) ≡ 0 = sym (bit_at_and word mask i) ∙ ap (λ x. bit_at x i) none ∙ bit_at-zero i in
     omega arith
 
+-- so none of its points is a liberty
+pub dead_in : (cells : List ℕ) (label points word mask read : ℕ) → read ≡ word_of cells label word → bit_and read mask ≡ 0 → ((i : ℕ) → i < 64 → 64 * word + i < points → bit_at mask i ≡ 1)
+    → (q : ℕ) → q < points → q / 64 ≡ word → lib_of cells label q ≡ 1 → ⊥
+dead_in cells label points word mask read read_is none marks q q_in at one =
+    let bit : bit_at read (q % 64) ≡ 1 = ap (λ x. bit_at x (q % 64)) (read_is ∙ ap (word_of cells label) (sym at)) ∙ one in
+    none_in_word read mask (q % 64) none (marks (q % 64) (omega arith) (omega arith)) bit
+
 -- one word more has no liberty
-pub dead_more : (cells : List ℕ) (label points word inside mask read : ℕ) → ((q : ℕ) → q < points → q < 64 * word → lib_of cells label q ≡ 1 → ⊥)
-    → read ≡ word_of cells label word → bit_and read mask ≡ 0 → ((i : ℕ) → i < 64 → 64 * word + i < points → bit_at mask i ≡ 1)
-    → (q : ℕ) → q < points → q < 64 * (word + 1) → lib_of cells label q ≡ 1 → ⊥
-dead_more cells label points word inside mask read so_far read_is none marks q q_in below one = elim (cases_lt q (64 * word)) [
+pub dead_more : (cells : List ℕ) (label points word : ℕ) → ((q : ℕ) → q < points → q < 64 * word → lib_of cells label q ≡ 1 → ⊥)
+    → ((q : ℕ) → q < points → q / 64 ≡ word → lib_of cells label q ≡ 1 → ⊥) → (q : ℕ) → q < points → q < 64 * (word + 1) → lib_of cells label q ≡ 1 → ⊥
+dead_more cells label points word so_far here q q_in below one = elim (cases_lt q (64 * word)) [
   | inl before ↦ so_far q q_in before one
-  | inr here ↦
-      let at : q / 64 ≡ word = omega arith in
-      let bit : bit_at read (q % 64) ≡ 1 = ap (λ x. bit_at x (q % 64)) (read_is ∙ ap (word_of cells label) (sym at)) ∙ one in
-      none_in_word read mask (q % 64) none (marks (q % 64) (omega arith) (omega arith)) bit
+  | inr later ↦ here q q_in (omega arith) one
 ]
 
 -- a word with a marked bit has a liberty

@@ -31,7 +31,7 @@ module _ (n : ℕ) (adj : ℕ → ℕ → Type 0) (small : n ≤ MAX_POINTS) (c0
     (relabelled : IsRelabelled (next_of c0) c0 c1 second stones keep)
     (first_next_is : first_next ≡ next_of c1 first) (second_next_is : second_next ≡ next_of c1 second)
     (link_first : IsWritten c1 c2 (LINKS + first) second_next) (link_second : IsWritten c2 c3 (LINKS + second) first_next)
-    (sized : IsWritten c3 c4 (SIZES + keep) (stones + kept)) (merged : IsMerged c4 c5 keep gone WORDS) where
+    (sized : IsWritten c3 c4 (SIZES + keep) (stones + kept)) (words : ℕ) (all : n ≤ 64 * words) (merged : IsMerged c4 c5 keep gone words) where
   keep_in : keep < n
   keep_in = let h = tidy.head_in first first_in in let e = keep_is in omega arith
 
@@ -57,8 +57,8 @@ module _ (n : ℕ) (adj : ℕ → ℕ → Type 0) (small : n ≤ MAX_POINTS) (c0
       let first_below : first < n = first_in.0 in let second_below : second < n = second_in.0 in let keep_below = keep_in in
       sized.others k (omega arith) ∙ link_second.others k (omega arith) ∙ link_first.others k (omega arith) ∙ relabelled.high k (omega arith)
 
-  word_now : (w : ℕ) → w < WORDS → word_of c5 keep w ≡ bit_or (word_of c0 keep w) (word_of c0 gone w)
-  word_now w w_in = merged.words w w_in w_in ∙ ap (λ x. bit_or x (word_of c4 gone w)) (word_before keep w keep_in w_in) ∙ ap (bit_or (word_of c0 keep w)) (word_before gone w gone_in w_in)
+  word_now : (w : ℕ) → w < words → w < WORDS → word_of c5 keep w ≡ bit_or (word_of c0 keep w) (word_of c0 gone w)
+  word_now w below w_in = merged.words w below w_in ∙ ap (λ x. bit_or x (word_of c4 gone w)) (word_before keep w keep_in w_in) ∙ ap (bit_or (word_of c0 keep w)) (word_before gone w gone_in w_in)
 
   word_aside : (l w : ℕ) → l < n → l ≢ keep → w < WORDS → word_of c5 l w ≡ word_of c0 l w
   word_aside l w l_in aside w_in = elim (cases_lt l keep) [
@@ -101,14 +101,14 @@ module _ (n : ℕ) (adj : ℕ → ℕ → Type 0) (small : n ≤ MAX_POINTS) (c0
         sizes = λ l l_in aside.
             merged.below (SIZES + l) (omega arith) ∙ sized.others (SIZES + l) (λ e. aside ((let s : l ≡ keep = omega arith in s) ∙ keep_is)) ∙ size_before l l_in;
         lib_of_first = λ q q_in one.
-            ap (λ l. lib_of c5 l q) (sym keep_is) ∙ ap (λ x. bit_at x (q % 64)) (word_now (q / 64) (omega arith))
+            ap (λ l. lib_of c5 l q) (sym keep_is) ∙ ap (λ x. bit_at x (q % 64)) (word_now (q / 64) (omega arith) (omega arith))
             ∙ first_bit (word_of c0 keep (q / 64)) (word_of c0 gone (q / 64)) (q % 64) (ap (λ l. lib_of c0 l q) keep_is ∙ one);
         lib_of_second = λ q q_in one.
-            ap (λ l. lib_of c5 l q) (sym keep_is) ∙ ap (λ x. bit_at x (q % 64)) (word_now (q / 64) (omega arith))
+            ap (λ l. lib_of c5 l q) (sym keep_is) ∙ ap (λ x. bit_at x (q % 64)) (word_now (q / 64) (omega arith) (omega arith))
             ∙ second_bit (word_of c0 keep (q / 64)) (word_of c0 gone (q / 64)) (q % 64) (ap (λ l. lib_of c0 l q) gone_is ∙ one);
         lib_of_either = λ q q_in one.
             elim (either_bit (word_of c0 keep (q / 64)) (word_of c0 gone (q / 64)) (q % 64)
-            (sym (ap (λ x. bit_at x (q % 64)) (word_now (q / 64) (omega arith))) ∙ ap (λ l. lib_of c5 l q) keep_is ∙ one)) [
+            (sym (ap (λ x. bit_at x (q % 64)) (word_now (q / 64) (omega arith) (omega arith))) ∙ ap (λ l. lib_of c5 l q) keep_is ∙ one)) [
               | inl of_first ↦ inl (ap (λ l. lib_of c0 l q) (sym keep_is) ∙ of_first)
               | inr of_second ↦ inr (ap (λ l. lib_of c0 l q) (sym gone_is) ∙ of_second)
             ];

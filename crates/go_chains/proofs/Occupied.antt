@@ -17,7 +17,7 @@ module _ (n : ℕ) (small : n * n ≤ MAX_POINTS) (c0 c1 c2 c3 c4 c5 c6 words be
     (tidy : IsTidy (n * n) (IsAdjacent n) (tables_of c0)) (p_in : p < n * n) (empty : colour_of c0 p ≡ 0) (some : 0 < colour) (near : AreBeside n p beside)
     (marks : MarksEmpty c0 words beside (length beside)) (deprived : IsDeprived c0 c1 p (IsStoneBeside c0 beside (length beside)))
     (coloured : IsWritten c1 c2 p colour) (labelled : IsWritten c2 c3 (LABELS + p) p) (linked : IsWritten c3 c4 (LINKS + p) p) (sized : IsWritten c4 c5 (SIZES + p) 1)
-    (filled : IsFilled c5 c6 p words WORDS) where
+    (count : ℕ) (all : n * n ≤ 64 * count) (filled : IsFilled c5 c6 p words count) where
   before : (k : ℕ) → k < LIBERTIES → k ≢ p → k ≢ LABELS + p → k ≢ LINKS + p → k ≢ SIZES + p → slice_index c6 k ≡ slice_index c0 k
   before k low a b c d = filled.below k (omega arith) ∙ sized.others k d ∙ linked.others k c ∙ labelled.others k b ∙ coloured.others k a ∙ deprived.low k low
 

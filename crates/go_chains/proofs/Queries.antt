@@ -1,17 +1,16 @@
 -- What the cells of a kept board answer.
 use Rattle.std.specs.Prelude.{None, replicate, IsTrue}
 use Rattle.std.specs.Int.{bit_at}
-use Rattle.std.proofs.Common.{zero, suc, ℕ, ◌*◌, ◌/◌, ◌%◌, ◌^◌, ◌<◌, ◌≤◌, ◌≡◌, ◌↔◌, ◌++◌, ◌∷◌, [], refl, sym, ap, ◌∙◌, arith, inl, inr, Bool, true, false, List, length, nat_eq, bit_and, get_or, slice_index_or}
+use Rattle.std.proofs.Common.{zero, suc, ℕ, ◌+◌, ◌*◌, ◌/◌, ◌%◌, ◌^◌, ◌<◌, ◌≤◌, ◌≡◌, ◌↔◌, ◌++◌, ◌∷◌, [], refl, sym, ap, ◌∙◌, arith, inl, inr, Bool, true, false, List, length, nat_eq, bit_and, get_or}
 use Rattle.std.proofs.lemmas.Bool.{cases_lt, eq-eqb, eqb-true, false_from_ne_true}
 use Rattle.std.proofs.lemmas.List.{ext_get_or, get_or-replicate, get_or_past, length-replicate}
 use Rattle.std.proofs.lemmas.List.FromFn.{length-range_with_len}
 use Rattle.std.proofs.lemmas.List.Sums.{count_by-le-length, length-filter}
 use Rattle.std.proofs.lemmas.Nat.Bits.{shr_and_one}
-use Rattle.go_board.specs.declared.pack.TheConstants.{PACK_CODES}
 use Rattle.go_board.specs.declared.size.TheConstants.{MAX_LINES, MAX_POINTS}
 use Rattle.go_board.specs.Chains.{members}
 use Rattle.go_board.specs.Colours.{Colouring, colour_at}
-use Rattle.go_board.specs.Packs.{AreCodes, code_of}
+use Rattle.go_board.specs.Packs.{byte_of, code_of}
 use Rattle.go_board.specs.Paths.{Joined}
 use Rattle.go_board.specs.Points.{is_adjacent}
 use Rattle.go_board.specs.Reaching.{is_liberty_of, joined, points}
@@ -149,10 +148,15 @@ code_back (suc zero) low = refl
 code_back (suc (suc zero)) low = refl
 code_back (suc (suc (suc k))) low = absurd (omega arith)
 
--- so the colour cells are the codes of the points, and 0 past them
-pub codes_filled : (n : ℕ) (cells : List ℕ) (codes : List ℕ) → IsKept n cells
-    → ((k : ℕ) → k < n * n → slice_index_or codes k 0 ≡ colour_of cells k) → ((k : ℕ) → n * n ≤ k → k < PACK_CODES → slice_index_or codes k 0 ≡ 0) → AreCodes codes (colouring_of n cells)
-codes_filled n cells codes kept done rest k low = elim (cases_lt k (n * n)) [
-  | inl inside ↦ done k inside ∙ sym (code_back (colour_of cells k) (kept.sound.coded k inside)) ∙ ap code_of (sym (colouring-at n cells k inside))
-  | inr past ↦ rest k past low ∙ ap code_of (sym (get_or_past (colouring_of n cells) k None (omega (arith, length-colouring n cells, past))))
-]
+-- so a colour cell is the code of its point
+pub code_read : (n : ℕ) (cells : List ℕ) → IsKept n cells → (k : ℕ) → k < n * n → colour_of cells k ≡ code_of (colour_at (colouring_of n cells) k)
+code_read n cells kept k inside = sym (code_back (colour_of cells k) (kept.sound.coded k inside)) ∙ ap code_of (sym (colouring-at n cells k inside))
+
+-- and no point past the board has one
+pub code_none : (n : ℕ) (cells : List ℕ) (k : ℕ) → n * n ≤ k → code_of (colour_at (colouring_of n cells) k) ≡ 0
+code_none n cells k past = ap code_of (get_or_past (colouring_of n cells) k None (omega (arith, length-colouring n cells, past)))
+
+-- nor any byte past the last point
+pub byte_none : (n : ℕ) (cells : List ℕ) (i : ℕ) → n * n ≤ 4 * i → byte_of (colouring_of n cells) i ≡ 0
+byte_none n cells i past =
+    omega (arith, code_none n cells (4 * i) (omega arith), code_none n cells (4 * i + 1) (omega arith), code_none n cells (4 * i + 2) (omega arith), code_none n cells (4 * i + 3) (omega arith))

@@ -4,7 +4,7 @@ use Rattle.std.specs.Int.{bit_at}
 use Rattle.go_chains.specs.declared.cells.TheConstants.{LABELS, LINKS, SIZES, LIBERTIES, WORDS}
 use Rattle.go_chains.specs.Tables.{Tables}
 
--- how the cells are arranged: four numbers of each point, then six words of liberties for each label
+-- how the cells are arranged: four numbers of each point, then the words of liberties of each label
 abbrev pub colour_of : List ℕ → ℕ → ℕ
 colour_of cells p = slice_index cells p
 
@@ -19,6 +19,10 @@ size_of cells l = slice_index cells (SIZES + l)
 
 abbrev pub word_of : List ℕ → ℕ → ℕ → ℕ
 word_of cells l w = slice_index cells (LIBERTIES + WORDS * l + w)
+
+-- how many words have a bit for each of so many points
+abbrev pub words_for : ℕ → ℕ
+words_for points = (points + 63) / 64
 
 abbrev pub lib_of : List ℕ → ℕ → ℕ → ℕ
 lib_of cells l q = bit_at (word_of cells l (q / 64)) (q % 64)

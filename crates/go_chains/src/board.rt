@@ -1,12 +1,13 @@
-ghost use Rattle.std.specs.Prelude.{◌≡◌, ◌<◌, ◌≤◌, ◌+◌, ◌*◌, ◌++◌, ◌∷◌, ◌↔◌, [], List, None, Some, IfOk, IsErrOf, OnErr, OnOk, length, replicate, slice_set};
+ghost use Rattle.std.specs.Prelude.{◌≡◌, ◌<◌, ◌≤◌, ◌+◌, ◌*◌, ◌/◌, ◌++◌, ◌∷◌, ◌↔◌, ℕ, [], List, None, Some, IfOk, IsErrOf, OnErr, OnOk, length, replicate, slice_set};
+ghost use Rattle.std.specs.Int.{bit_at};
 ghost use Rattle.go_board.specs.Chains.{liberties, members};
 ghost use Rattle.go_board.specs.Colours.{colour_at, other};
 ghost use Rattle.go_board.specs.PackBytes.{bytes_of};
-ghost use Rattle.go_board.specs.Packs.{AreCodes, packed_of};
+ghost use Rattle.go_board.specs.Packs.{byte_of, code_of, packed_of};
 ghost use Rattle.go_board.specs.Points.{IsOn, number_of};
 ghost use Rattle.go_board.specs.Reaching.{is_liberty_of, joined, moved, vanished};
 ghost use Rattle.go_board.specs.Sizes.{lines_of};
-ghost use Rattle.go_board.specs.declared.pack.TheConstants.{PACK_CODES};
+ghost use Rattle.go_board.specs.declared.pack.TheConstants.{PACK_BYTES};
 ghost use Rattle.go_board.specs.declared.size.TheConstants.{MAX_POINTS};
 ghost use Rattle.go_chains.specs.declared.cells.TheConstants.{COUNT, WORDS};
 ghost use Rattle.go_chains.specs.declared.log.Change.{Change};
@@ -16,14 +17,15 @@ ghost use Rattle.go_chains.specs.Rewound.{IsRewound, NamesCells, PlayLogged, rew
 ghost use Rattle.go_chains.specs.Sound.{IsKept, IsStoneOf, grid_of};
 ghost use Rattle.go_chains.specs.Words.{free_in_word};
 
-use crate::cells::{Cells, LABELS, SIZES, WORDS, word_place};
+use crate::beside::beside;
+use crate::cells::{Cells, LABELS, SIZES, word_place};
 use crate::codes::colour_from;
 use crate::errors::PlaceError;
 use crate::log::{Log, reserve_play, seal};
 use crate::masks::mask_of;
 use crate::place::{ROOM, place};
-use go_board::laws::{joined_by_a_path, liberty_by_a_path, points_by_number};
-use go_board::{Codes, Colour, Grid, Meter, PACK_CODES, Packed, Point, Size, Taken};
+use go_board::laws::{bytes_make_a_pack, joined_by_a_path, liberty_by_a_path, points_by_number};
+use go_board::{Colour, Grid, Meter, Packed, Point, Size, Taken, packed_byte};
 use std::alloc::Allocator;
 use std::marker::Model;
 
@@ -97,19 +99,62 @@ impl Board {
     pub fn pack(&self) -> Packed
         ensures { bytes_of result ≡ packed_of (grid_of self.now) }
     {
-        let mut codes = [0; PACK_CODES];
-        self.fill_codes(&mut codes);
-        Packed::of_codes(&codes)
+        bytes_make_a_pack();
+        let full = usize::from(self.size().points()) / 4;
+        let mut packed = Packed::empty();
+        for place in 0..full {
+            packed.set(place, self.byte_at(place));
+        }
+        packed.set(full, self.last_byte());
+        packed
     }
 
-    /// Writes the codes of the points. A colour cell is a point's code.
-    fn fill_codes(&self, codes: &mut Codes)
-        requires none { codes.old ≡ replicate PACK_CODES 0 }
-        ensures { AreCodes codes.new (grid_of self.now) }
+    /// The byte of four points of the board.
+    fn byte_at(&self, place: usize) -> u8
+        requires place { place < PACK_BYTES }
+        requires within { 4 * place + 3 < self.now.lines * self.now.lines }
+        ensures { result ≡ byte_of (grid_of self.now) place }
     {
-        let mut meter = Meter::new();
-        for number in 0..usize::from(self.size.points()) {
-            codes[number] = self.cells.get(number, &mut meter) as u8;
+        let first = 4 * place;
+        packed_byte(
+            self.code_at(first),
+            self.code_at(first + 1),
+            self.code_at(first + 2),
+            self.code_at(first + 3),
+        )
+    }
+
+    /// The byte of the points that four don't go into, of which there are three at most.
+    fn last_byte(&self) -> u8
+        ensures { result ≡ byte_of (grid_of self.now) (self.now.lines * self.now.lines / 4) }
+    {
+        let first = usize::from(self.size().points()) / 4 * 4;
+        packed_byte(
+            self.code_past(first),
+            self.code_past(first + 1),
+            self.code_past(first + 2),
+            self.code_past(first + 3),
+        )
+    }
+
+    /// The code of a point: its colour cell.
+    fn code_at(&self, number: usize) -> u8
+        requires { number < self.now.lines * self.now.lines }
+        ensures value { result ≡ code_of (colour_at (grid_of self.now) number) }
+        ensures few { result ≤ 2 }
+    {
+        self.cells.get(number, &mut Meter::new()) as u8
+    }
+
+    /// The code of a point; one past the board counts as empty.
+    fn code_past(&self, number: usize) -> u8
+        ensures value { result ≡ code_of (colour_at (grid_of self.now) number) }
+        ensures few { result ≤ 2 }
+    {
+        if number < usize::from(self.size().points()) {
+            self.code_at(number)
+        } else {
+            0
         }
     }
 
@@ -185,22 +230,32 @@ impl Board {
         let label = self.label_at(p, &mut meter);
         let points = usize::from(self.size().points());
         let mut count = 0;
-        for word in 0..WORDS {
-            count += self.liberties_in(points, label, word, &mut meter);
+        let full = points / 64;
+        for word in 0..full {
+            count += self.liberties_in(points, label, word, u64::MAX, &mut meter);
         }
-        count
+        count + self.liberties_in(points, label, full, mask_of(points, full), &mut meter)
     }
 
-    /// How many of the first so many points have their bit in one word of a label's liberties.
-    fn liberties_in(&self, points: usize, label: usize, word: usize, meter: &mut Meter) -> u16
-        requires points { points ≤ MAX_POINTS }
+    /// How many of the first so many points have their bit in one word of a label's liberties. The
+    /// mask has the bits of those in that word.
+    fn liberties_in(
+        &self,
+        points: usize,
+        label: usize,
+        word: usize,
+        mask: u64,
+        meter: &mut Meter,
+    ) -> u16
         requires label { label < MAX_POINTS }
         requires word { word < WORDS }
+        requires inside { (i : ℕ) → i < 64 → 64 * word + i < points → bit_at mask i ≡ 1 }
+        requires outside { (i : ℕ) → i < 64 → points ≤ 64 * word + i → bit_at mask i ≡ 0 }
         ensures counted { result ≡ free_in_word self.now.cells points label word }
         ensures few { result ≤ 64 }
     {
         let bits = self.cells.get(word_place(label, word), meter);
-        (bits & mask_of(points, word)).count_ones() as u16
+        (bits & mask).count_ones() as u16
     }
 
     /// Places a stone, takes off the opponent's chains that have no liberty then, and after them the
@@ -243,6 +298,7 @@ impl Board {
             return Err(PlaceError::Occupied);
         }
         reserve_play(&mut log.changes, &mut log.lengths, ROOM)?;
+        let near = beside(size, p);
         let before = log.changes.len();
         let taken = place(
             &mut self.cells,
@@ -251,6 +307,7 @@ impl Board {
             size,
             colour,
             point,
+            near.as_slice(),
         );
         let count = log.changes.len() - before;
         seal(&mut log.lengths, count);

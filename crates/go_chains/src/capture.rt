@@ -1,33 +1,57 @@
 //! Chains without a liberty, found and taken off.
-ghost use Rattle.std.specs.Prelude.{◌≡◌, ◌≢◌, ◌<◌, ◌≤◌, ◌+◌, ◌*◌, ◌⊎◌, ◌↔◌, ℕ, IsTrue, length, slice_index, vec_capacity, vec_len};
+ghost use Rattle.std.specs.Prelude.{◌≡◌, ◌≢◌, ◌<◌, ◌≤◌, ◌+◌, ◌*◌, ◌/◌, ◌⊎◌, ◌↔◌, ℕ, IsTrue, false, length, slice_index, vec_capacity, vec_len};
 ghost use Rattle.go_board.specs.Paths.{IsAdjacent};
 ghost use Rattle.go_board.specs.Sizes.{lines_of};
 ghost use Rattle.go_board.specs.declared.size.TheConstants.{MAX_POINTS};
 ghost use Rattle.go_chains.specs.declared.cells.TheConstants.{WORDS};
 ghost use Rattle.go_chains.specs.Beside.{AreBeside};
-ghost use Rattle.go_chains.specs.Cells.{colour_of, label_of, size_of, tables_of};
+ghost use Rattle.go_chains.specs.Cells.{colour_of, label_of, lib_of, size_of, tables_of};
 ghost use Rattle.go_chains.specs.Rewound.{Logged};
 ghost use Rattle.go_chains.specs.Steps.{CountsTaken, IsCapturing};
 ghost use Rattle.go_chains.specs.Tables.{IsDead, IsStone, IsTidy, IsWhole, Tables};
 
-use crate::cells::{Cells, LABELS, WORDS, word_place};
+use crate::cells::{Cells, LABELS, word_place, words_of};
 use crate::lift::take_off;
 use crate::log::Change;
 use crate::masks::mask_of;
 use go_board::{Meter, Size};
 use std::alloc::Allocator;
 
-/// Whether no point of the board is a liberty of a label.
-pub fn is_dead(cells: &Cells, meter: &mut Meter, size: Size, label: usize) -> bool
-    requires { label < MAX_POINTS }
+/// Whether one word of a label has the bit of one of the first so many points.
+fn has_liberty_in(
+    cells: &Cells,
+    meter: &mut Meter,
+    points: usize,
+    label: usize,
+    word: usize,
+) -> bool
+    requires points { points ≤ MAX_POINTS }
+    requires label { label < MAX_POINTS }
+    requires word { word < WORDS }
+    ensures some { IsTrue result → (q : ℕ) × (q < points) × (lib_of cells.now label q ≡ 1) }
+    ensures none { result ≡ false → (q : ℕ) → q < points → q / 64 ≡ word
+        → lib_of cells.now label q ≡ 1 → ⊥ }
+    ensures count { meter.new ≡ meter.old + 1 }
+{
+    cells.get(word_place(label, word), meter) & mask_of(points, word) != 0
+}
+
+/// Whether no point of the board is a liberty of a label. Liberties are mostly close by, so the word
+/// with the bit of a near point is looked at first.
+pub fn is_dead(cells: &Cells, meter: &mut Meter, size: Size, label: usize, near: usize) -> bool
+    requires label { label < MAX_POINTS }
+    requires near { near < lines_of size * lines_of size }
     ensures dead { IsTrue result ↔ IsDead (lines_of size * lines_of size) (tables_of cells.now)
         label }
-    ensures count { meter.new ≤ meter.old + WORDS }
+    ensures count { meter.new ≤ meter.old + (WORDS + 1) }
     ensures onward { meter.old ≤ meter.new }
 {
     let points = usize::from(size.points());
-    for word in 0..WORDS {
-        if cells.get(word_place(label, word), meter) & mask_of(points, word) != 0 {
+    if has_liberty_in(cells, meter, points, label, near / 64) {
+        return false;
+    }
+    for word in 0..words_of(size) {
+        if has_liberty_in(cells, meter, points, label, word) {
             return false;
         }
     }
@@ -72,14 +96,14 @@ pub fn take_one<A: Allocator + Copy>(
     ensures logged { Logged cells.old cells.new changes.old.items changes.new.items (5 * result) }
     ensures capacity { vec_capacity changes.old ≤ vec_capacity changes.new }
     ensures length { vec_len changes.new ≤ vec_len changes.old + 5 * MAX_POINTS }
-    ensures count { meter.new ≤ meter.old + (WORDS + 4 + 18 * result) }
+    ensures count { meter.new ≤ meter.old + (WORDS + 5 + 18 * result) }
     ensures ticked { meter.old + vec_len changes.new ≤ meter.new + vec_len changes.old }
 {
     if cells.get(near, meter) != own {
         return 0;
     }
     let label = cells.get(LABELS + near, meter) as usize;
-    if !is_dead(cells, meter, size, label) {
+    if !is_dead(cells, meter, size, label, near) {
         return 0;
     }
     take_off(cells, changes, meter, size, near, own, other)
@@ -122,7 +146,7 @@ pub fn capture<A: Allocator + Copy>(
     ensures logged { Logged cells.old cells.new changes.old.items changes.new.items (5 * result) }
     ensures capacity { vec_capacity changes.old ≤ vec_capacity changes.new }
     ensures length { vec_len changes.new ≤ vec_len changes.old + 20 * MAX_POINTS }
-    ensures count { meter.new ≤ meter.old + (4 * (WORDS + 4) + 18 * result) }
+    ensures count { meter.new ≤ meter.old + (4 * (WORDS + 5) + 18 * result) }
     ensures ticked { meter.old + vec_len changes.new ≤ meter.new + vec_len changes.old }
 {
     let mut taken = 0;

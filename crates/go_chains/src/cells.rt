@@ -1,11 +1,13 @@
-ghost use Rattle.std.specs.Prelude.{◌≡◌, ◌<◌, ◌+◌, ◌*◌, slice_index, slice_set};
+ghost use Rattle.std.specs.Prelude.{◌≡◌, ◌<◌, ◌≤◌, ◌+◌, ◌*◌, slice_index, slice_set};
+ghost use Rattle.go_board.specs.Sizes.{lines_of};
 ghost use Rattle.go_board.specs.declared.size.TheConstants.{MAX_POINTS};
 ghost use Rattle.go_chains.specs.declared.cells.TheConstants.{COUNT, LIBERTIES, WORDS};
+ghost use Rattle.go_chains.specs.Cells.{words_for};
 
-use go_board::{MAX_POINTS, Meter};
+use go_board::{MAX_POINTS, Meter, Size};
 use std::marker::Model;
 
-/// How many words hold a bit for each point.
+/// How many words hold a bit for each point of the largest board.
 pub const WORDS: usize = (MAX_POINTS + 63) / 64;
 
 /// Where the labels begin, after the colours.
@@ -74,6 +76,15 @@ impl Cells {
         meter.tick();
         self.numbers[place] = number;
     }
+}
+
+/// How many words hold a bit for each point of a board of this size. Those past them are never
+/// looked at.
+pub fn words_of(size: Size) -> usize
+    ensures value { result ≡ words_for (lines_of size * lines_of size) }
+    ensures bound { result ≤ WORDS }
+{
+    (usize::from(size.points()) + 63) / 64
 }
 
 /// The cell of a word of a label's liberties.

@@ -4,14 +4,14 @@ ghost use Rattle.go_board.specs.Paths.{IsAdjacent};
 ghost use Rattle.go_board.specs.Sizes.{lines_of};
 ghost use Rattle.go_board.specs.declared.size.TheConstants.{MAX_POINTS};
 ghost use Rattle.go_chains.specs.declared.cells.TheConstants.{WORDS};
-ghost use Rattle.go_chains.specs.Cells.{colour_of, label_of, next_of, size_of, tables_of};
+ghost use Rattle.go_chains.specs.Cells.{colour_of, label_of, next_of, size_of, tables_of, words_for};
 ghost use Rattle.go_chains.specs.Rewound.{Logged};
 ghost use Rattle.go_chains.specs.Rings.{steps};
 ghost use Rattle.go_chains.specs.Steps.{IsJoin};
 ghost use Rattle.go_chains.specs.Tables.{IsStone, IsTidy};
 ghost use Rattle.go_chains.specs.Writes.{IsMerged, IsRelabelled};
 
-use crate::cells::{Cells, LABELS, LINKS, SIZES, WORDS, word_place};
+use crate::cells::{Cells, LABELS, LINKS, SIZES, word_place, words_of};
 use crate::edits::{put, replace};
 use crate::log::Change;
 use go_board::{Meter, Size};
@@ -47,6 +47,7 @@ fn merge_words<A: Allocator + Copy>(
     cells: &mut Cells,
     changes: &mut Vec<Change, A>,
     meter: &mut Meter,
+    size: Size,
     keep: usize,
     gone: usize,
 )
@@ -54,14 +55,15 @@ fn merge_words<A: Allocator + Copy>(
     requires gone { gone < MAX_POINTS }
     requires apart { keep ≢ gone }
     requires room { vec_len changes.old + WORDS ≤ vec_capacity changes.old }
-    ensures merged { IsMerged cells.old cells.new keep gone WORDS }
+    ensures merged { IsMerged cells.old cells.new keep gone
+        (words_for (lines_of size * lines_of size)) }
     ensures logged { Logged cells.old cells.new changes.old.items changes.new.items WORDS }
     ensures capacity { vec_capacity changes.old ≤ vec_capacity changes.new }
     ensures length { vec_len changes.new ≤ vec_len changes.old + WORDS }
     ensures count { meter.new ≤ meter.old + 3 * WORDS }
     ensures ticked { meter.old + vec_len changes.new ≤ meter.new + vec_len changes.old }
 {
-    for word in 0..WORDS {
+    for word in 0..words_of(size) {
         let place = word_place(keep, word);
         let here = cells.get(place, meter);
         let there = cells.get(word_place(gone, word), meter);
@@ -121,5 +123,5 @@ pub fn join<A: Allocator + Copy>(
         first_next,
     );
     replace(cells, changes, meter, SIZES + keep, kept, stones + kept);
-    merge_words(cells, changes, meter, keep, gone);
+    merge_words(cells, changes, meter, size, keep, gone);
 }

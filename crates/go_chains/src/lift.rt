@@ -13,7 +13,7 @@ use crate::beside::beside;
 use crate::cells::{Cells, LABELS, LINKS, SIZES, word_place};
 use crate::edits::replace;
 use crate::log::Change;
-use go_board::{Meter, Size};
+use go_board::{Meter, Point, Size};
 use std::alloc::Allocator;
 
 /// Makes a point a liberty of a label too.
@@ -118,7 +118,7 @@ fn lift<A: Allocator + Copy>(
     ensures ticked { meter.old + vec_len changes.new ≤ meter.new + vec_len changes.old }
 {
     replace(cells, changes, meter, point, own, 0);
-    let near = beside(size, point);
+    let near = beside(size, Point::numbered(size, point as u16));
     give_back(cells, changes, meter, near.as_slice(), point, other);
 }
 

@@ -5,13 +5,13 @@ ghost use Rattle.go_board.specs.Sizes.{lines_of};
 ghost use Rattle.go_board.specs.declared.size.TheConstants.{MAX_POINTS};
 ghost use Rattle.go_chains.specs.declared.cells.TheConstants.{WORDS};
 ghost use Rattle.go_chains.specs.Beside.{AreBeside};
-ghost use Rattle.go_chains.specs.Cells.{colour_of, label_of, tables_of};
+ghost use Rattle.go_chains.specs.Cells.{colour_of, label_of, tables_of, words_for};
 ghost use Rattle.go_chains.specs.Rewound.{Logged};
 ghost use Rattle.go_chains.specs.Steps.{IsOccupied};
 ghost use Rattle.go_chains.specs.Tables.{IsTidy};
 ghost use Rattle.go_chains.specs.Writes.{IsDeprived, IsFilled, IsMarked, IsStoneBeside, MarksEmpty};
 
-use crate::cells::{Cells, LABELS, LINKS, SIZES, WORDS, word_place};
+use crate::cells::{Cells, LABELS, LINKS, SIZES, WORDS, word_place, words_of};
 use crate::edits::{put, replace};
 use crate::log::Change;
 use go_board::{MAX_POINTS, Meter, Size};
@@ -132,25 +132,27 @@ fn deprive<A: Allocator + Copy>(
     }
 }
 
-/// Writes the words of a label's liberties.
+/// Writes the words of a label's liberties, as many as the board has.
 fn fill_words<A: Allocator + Copy>(
     cells: &mut Cells,
     changes: &mut Vec<Change, A>,
     meter: &mut Meter,
+    size: Size,
     label: usize,
     words: &Words,
 )
     requires label { label < MAX_POINTS }
     requires words { length words.now ≡ WORDS }
     requires room { vec_len changes.old + WORDS ≤ vec_capacity changes.old }
-    ensures filled { IsFilled cells.old cells.new label words.now WORDS }
+    ensures filled { IsFilled cells.old cells.new label words.now
+        (words_for (lines_of size * lines_of size)) }
     ensures logged { Logged cells.old cells.new changes.old.items changes.new.items WORDS }
     ensures capacity { vec_capacity changes.old ≤ vec_capacity changes.new }
     ensures length { vec_len changes.new ≤ vec_len changes.old + WORDS }
     ensures count { meter.new ≤ meter.old + 2 * WORDS }
     ensures ticked { meter.old + vec_len changes.new ≤ meter.new + vec_len changes.old }
 {
-    for word in 0..WORDS {
+    for word in 0..words_of(size) {
         let place = word_place(label, word);
         put(cells, changes, meter, place, words[word]);
     }
@@ -187,5 +189,5 @@ pub fn occupy<A: Allocator + Copy>(
     put(cells, changes, meter, LABELS + point, point as u64);
     put(cells, changes, meter, LINKS + point, point as u64);
     put(cells, changes, meter, SIZES + point, 1);
-    fill_words(cells, changes, meter, point, &words);
+    fill_words(cells, changes, meter, size, point, &words);
 }

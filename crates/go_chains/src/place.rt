@@ -5,12 +5,12 @@ ghost use Rattle.go_board.specs.Colours.{other};
 ghost use Rattle.go_board.specs.Reaching.{moved, vanished};
 ghost use Rattle.go_board.specs.Sizes.{lines_of};
 ghost use Rattle.go_chains.specs.declared.place.TheConstants.{ROOM};
+ghost use Rattle.go_chains.specs.Beside.{AreBeside};
 ghost use Rattle.go_chains.specs.Cells.{colour_of};
 ghost use Rattle.go_chains.specs.Playing.{most_of};
 ghost use Rattle.go_chains.specs.Rewound.{Logged};
 ghost use Rattle.go_chains.specs.Sound.{IsKept, colouring_of};
 
-use crate::beside::beside;
 use crate::capture::{capture, take_one};
 use crate::cells::{Cells, WORDS};
 use crate::codes::code_of;
@@ -25,7 +25,7 @@ use std::alloc::Allocator;
 /// captured at four points, and of the own chain.
 pub const ROOM: usize = (WORDS + 8) + 4 * (MAX_POINTS + WORDS + 3) + 25 * MAX_POINTS;
 
-/// Plays a stone on an empty point, and says what that took.
+/// Plays a stone on an empty point, whose neighbours are given, and says what that took.
 pub fn place<A: Allocator + Copy>(
     cells: &mut Cells,
     changes: &mut Vec<Change, A>,
@@ -33,10 +33,12 @@ pub fn place<A: Allocator + Copy>(
     size: Size,
     colour: Colour,
     point: usize,
+    near: &[usize],
 ) -> Taken
     requires kept { IsKept (lines_of size) cells.old }
     requires point { point < lines_of size * lines_of size }
     requires empty { colour_of cells.old point ≡ 0 }
+    requires near { AreBeside (lines_of size) point near.now }
     requires room { vec_len changes.old + ROOM ≤ vec_capacity changes.old }
     ensures kept { IsKept (lines_of size) cells.new }
     ensures colours { colouring_of (lines_of size) cells.new
@@ -57,8 +59,6 @@ pub fn place<A: Allocator + Copy>(
     reaches_by_a_path();
     let own = code_of(colour);
     let other = code_of(colour.other());
-    let near = beside(size, point);
-    let near = near.as_slice();
     occupy(cells, changes, meter, size, own, point, near);
     connect(cells, changes, meter, size, point, near);
     let theirs = capture(cells, changes, meter, size, near, other, own);

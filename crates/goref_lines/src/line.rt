@@ -6,7 +6,7 @@ use arrayvec::ArrayVec;
 use std::marker::Model;
 
 /// The most bytes that the words of a line have, joined by single spaces.
-pub const LINE_LIMIT: usize = 4096;
+pub const LINE_LIMIT: usize = 8192;
 
 /// What is kept of a line as its bytes come in.
 #[derive(Drop)]

@@ -1,4 +1,4 @@
-use Rattle.std.proofs.Common.{◌<◌, ◌*◌, ◌≤◌, length, map, ap, ◌∙◌, arith}
+use Rattle.std.proofs.Common.{◌<◌, ◌*◌, ◌≤◌, length, map, ap, ◌∙◌, sym, arith}
 use Rattle.std.proofs.lemmas.List.{take_all}
 use Rattle.go_board.specs.Sizes.{lines_of}
 use Rattle.go_board.specs.declared.size.TheConstants.{MAX_POINTS}
@@ -9,13 +9,13 @@ use Rattle.go_chains.proofs.beside.beside.Goals as goal
 pub returns : goal.returns
 returns c =
     let n = lines_of c.args.size in
-    let p = c.args.point in
+    let p = number_of n c.args.p in
     let shown = c.as_slice-q-items in
-    let p_in : p < n * n = c.requires in
+    let p_in : p < n * n = c.points_by_number.ensures.number n c.args.p c.requires in
     let few : n * n ≤ MAX_POINTS = square-le n c.args.size.in_range in
     are_beside_by_number (record { number = c.points_by_number.ensures.number; back = c.points_by_number.ensures.back; on = c.points_by_number.ensures.on; same = c.points_by_number.ensures.same })
-    n p c.numbered.result c.put_neighbours.new.beside.items c.loop-q.numbers.items
-    p_in (c.numbered.ensures.value)
+    n p c.args.p c.put_neighbours.new.beside.items c.loop-q.numbers.items
+    p_in (sym (c.points_by_number.ensures.back n c.args.p c.requires))
     (let f = shown.ensures.fits in let v = ap length shown.ensures.value in omega arith)
     c.put_neighbours.ensures.on c.put_neighbours.ensures.beside c.put_neighbours.ensures.each
     (c.loop-q.invariant.numbers ∙ ap (map (number_of n)) (take_all c.loop-q.q-index shown.result.now c.loop-q-test.false ∙ shown.ensures.value))

@@ -21,6 +21,6 @@ invariant-loop-near g l =
       logged : Logged old l.cells l.fn.changes.items l.changes.items (5 * l.taken);
       capacity : vec_capacity l.fn.changes ≤ vec_capacity l.changes;
       length : vec_len l.changes ≤ vec_len l.fn.changes + l.near-index * (5 * MAX_POINTS);
-      count : l.meter ≤ l.fn.meter + (l.near-index * (WORDS + 4) + 18 * l.taken);
+      count : l.meter ≤ l.fn.meter + (l.near-index * (WORDS + 5) + 18 * l.taken);
       ticked : l.fn.meter + vec_len l.changes ≤ l.meter + vec_len l.fn.changes;
     }

@@ -2,7 +2,7 @@ use Rattle.std.proofs.Common.{arith, ◌≡◌, ◌<◌, ◌+◌, ◌*◌, ap, s
 use Rattle.go_board.specs.Paths.{IsAdjacent}
 use Rattle.go_board.specs.Sizes.{lines_of}
 use Rattle.go_chains.specs.declared.cells.TheConstants.{SIZES, WORDS}
-use Rattle.go_chains.specs.Cells.{label_of, size_of, tables_of}
+use Rattle.go_chains.specs.Cells.{label_of, size_of, tables_of, words_for}
 use Rattle.go_chains.proofs.Joined.{IsJoin_written}
 use Rattle.go_chains.proofs.Neighbours.{square-le}
 use Rattle.go_chains.proofs.Rewinding.{Logged_then}
@@ -71,7 +71,7 @@ returns-clause-joined g c =
     c.requires.tidy c.requires.first c.requires.second c.requires.same c.requires.apart
     c.get-keep.ensures.value c.get-gone.ensures.value c.get-kept.ensures.value c.get-stones.ensures.value
     c.relabel.ensures.relabelled c.get-first_next.ensures.value c.get-second_next.ensures.value
-    c.replace.ensures.written c.replace-2.ensures.written c.replace-3.ensures.written c.merge_words.ensures.merged
+    c.replace.ensures.written c.replace-2.ensures.written c.replace-3.ensures.written (words_for (n * n)) (omega arith) c.merge_words.ensures.merged
 
 pub returns-clause-logged : goal.returns-clause-logged
 returns-clause-logged g c =

@@ -1,10 +1,10 @@
-use Rattle.std.proofs.Common.{arith, ◌<◌, ◌+◌, ℕ, slice_index, subst, sym}
+use Rattle.std.proofs.Common.{arith, ◌<◌, ◌+◌, ◌*◌, ℕ, slice_index, subst, sym}
 use Rattle.std.proofs.lemmas.List.{get_or_default}
 use Rattle.go_board.specs.Paths.{IsAdjacent}
 use Rattle.go_board.specs.Sizes.{lines_of}
 use Rattle.go_board.specs.declared.size.TheConstants.{MAX_POINTS}
 use Rattle.go_chains.specs.declared.cells.TheConstants.{WORDS}
-use Rattle.go_chains.specs.Cells.{colour_of, label_of, tables_of}
+use Rattle.go_chains.specs.Cells.{colour_of, label_of, tables_of, words_for}
 use Rattle.go_chains.proofs.Neighbours.{square-le}
 use Rattle.go_chains.proofs.Occupied.{IsOccupied_written}
 use Rattle.go_chains.proofs.Rewinding.{Logged_then}
@@ -26,7 +26,7 @@ returns-clause-occupied g c =
     c.args.cells.now c.deprive.new.cells c.replace.new.cells c.put.new.cells c.put-2.new.cells c.put-3.new.cells c.fill_words.new.cells
     c.empty_of-words.result c.args.beside.now c.args.point c.args.colour
     c.requires.tidy c.requires.point c.requires.empty c.requires.colour c.requires.beside c.empty_of-words.ensures.marks c.deprive.ensures.deprived
-    c.replace.ensures.written c.put.ensures.written c.put-2.ensures.written c.put-3.ensures.written c.fill_words.ensures.filled
+    c.replace.ensures.written c.put.ensures.written c.put-2.ensures.written c.put-3.ensures.written (words_for (n * n)) (omega arith) c.fill_words.ensures.filled
 
 pub returns-clause-logged : goal.returns-clause-logged
 returns-clause-logged g c =

@@ -1,4 +1,4 @@
-use Rattle.std.proofs.Common.{arith, ◌+◌, ◌-◌, ◌*◌, inl, inr}
+use Rattle.std.proofs.Common.{arith, ◌+◌, ◌-◌, ◌*◌, inl, inr, refl}
 use Rattle.go_board.specs.Paths.{IsAdjacent}
 use Rattle.go_board.specs.Sizes.{lines_of}
 use Rattle.go_chains.specs.declared.cells.TheConstants.{WORDS}
@@ -29,9 +29,9 @@ capture-theirs-requires-clause-whole g c =
     let p = c.args.point in
     let own = c.code_of-own.result in
     let theirs = c.code_of-other.result in
-    let beside = c.as_slice-near.result.now in
+    let beside = c.args.near.now in
     let b = begins n old p c.args.colour c.other.result own theirs c.requires.kept c.requires.point c.requires.empty c.code_of-own.ensures.value c.code_of-own.ensures.range c.other.ensures c.code_of-other.ensures.value c.code_of-other.ensures.range in
-    let j = joins n old c.occupy.new.cells c.connect.new.cells p own c.beside-near.result.items beside c.beside-near.ensures c.as_slice-near.ensures.value c.occupy.ensures.occupied c.connect.ensures.connected c.connect.ensures.tidy in
+    let j = joins n old c.occupy.new.cells c.connect.new.cells p own beside beside c.requires.near refl c.occupy.ensures.occupied c.connect.ensures.connected c.connect.ensures.tidy in
     whole_of n old c.occupy.new.cells c.connect.new.cells p c.args.colour own theirs beside b j
 
 pub capture-theirs-requires-clause-two : goal.capture-theirs-requires-clause-two
@@ -41,9 +41,9 @@ capture-theirs-requires-clause-two g c =
     let p = c.args.point in
     let own = c.code_of-own.result in
     let theirs = c.code_of-other.result in
-    let beside = c.as_slice-near.result.now in
+    let beside = c.args.near.now in
     let b = begins n old p c.args.colour c.other.result own theirs c.requires.kept c.requires.point c.requires.empty c.code_of-own.ensures.value c.code_of-own.ensures.range c.other.ensures c.code_of-other.ensures.value c.code_of-other.ensures.range in
-    let j = joins n old c.occupy.new.cells c.connect.new.cells p own c.beside-near.result.items beside c.beside-near.ensures c.as_slice-near.ensures.value c.occupy.ensures.occupied c.connect.ensures.connected c.connect.ensures.tidy in
+    let j = joins n old c.occupy.new.cells c.connect.new.cells p own beside beside c.requires.near refl c.occupy.ensures.occupied c.connect.ensures.connected c.connect.ensures.tidy in
     two_then n old c.occupy.new.cells c.connect.new.cells p c.args.colour own theirs beside b j
 
 pub take_one-taken-requires-clause-two : goal.take_one-taken-requires-clause-two
@@ -53,9 +53,9 @@ take_one-taken-requires-clause-two g c =
     let p = c.args.point in
     let own = c.code_of-own.result in
     let theirs = c.code_of-other.result in
-    let beside = c.as_slice-near.result.now in
+    let beside = c.args.near.now in
     let b = begins n old p c.args.colour c.other.result own theirs c.requires.kept c.requires.point c.requires.empty c.code_of-own.ensures.value c.code_of-own.ensures.range c.other.ensures c.code_of-other.ensures.value c.code_of-other.ensures.range in
-    let j = joins n old c.occupy.new.cells c.connect.new.cells p own c.beside-near.result.items beside c.beside-near.ensures c.as_slice-near.ensures.value c.occupy.ensures.occupied c.connect.ensures.connected c.connect.ensures.tidy in
+    let j = joins n old c.occupy.new.cells c.connect.new.cells p own beside beside c.requires.near refl c.occupy.ensures.occupied c.connect.ensures.connected c.connect.ensures.tidy in
     (λ s stone. elim (still_two (n * n) (IsAdjacent n) (tables_of c.connect.new.cells) (tables_of c.capture-theirs.new.cells) theirs own c.capture-theirs.ensures.capturing (two_then n old c.occupy.new.cells c.connect.new.cells p c.args.colour own theirs beside b j) s stone) [
       | inl is ↦ inr is
       | inr is ↦ inl is
@@ -68,9 +68,9 @@ returns-clause-kept g c =
     let p = c.args.point in
     let own = c.code_of-own.result in
     let theirs = c.code_of-other.result in
-    let beside = c.as_slice-near.result.now in
+    let beside = c.args.near.now in
     let b = begins n old p c.args.colour c.other.result own theirs c.requires.kept c.requires.point c.requires.empty c.code_of-own.ensures.value c.code_of-own.ensures.range c.other.ensures c.code_of-other.ensures.value c.code_of-other.ensures.range in
-    let j = joins n old c.occupy.new.cells c.connect.new.cells p own c.beside-near.result.items beside c.beside-near.ensures c.as_slice-near.ensures.value c.occupy.ensures.occupied c.connect.ensures.connected c.connect.ensures.tidy in
+    let j = joins n old c.occupy.new.cells c.connect.new.cells p own beside beside c.requires.near refl c.occupy.ensures.occupied c.connect.ensures.connected c.connect.ensures.tidy in
     let t = takes n c.connect.new.cells c.capture-theirs.new.cells c.take_one-taken.new.cells p own theirs beside c.capture-theirs.ensures.capturing c.capture-theirs.ensures.gone c.take_one-taken.ensures.capturing c.take_one-taken.ensures.gone in
     kept_end n old c.occupy.new.cells c.connect.new.cells c.capture-theirs.new.cells c.take_one-taken.new.cells p c.args.colour own theirs beside b j t
 
@@ -81,9 +81,9 @@ returns-clause-colours g c =
     let p = c.args.point in
     let own = c.code_of-own.result in
     let theirs = c.code_of-other.result in
-    let beside = c.as_slice-near.result.now in
+    let beside = c.args.near.now in
     let b = begins n old p c.args.colour c.other.result own theirs c.requires.kept c.requires.point c.requires.empty c.code_of-own.ensures.value c.code_of-own.ensures.range c.other.ensures c.code_of-other.ensures.value c.code_of-other.ensures.range in
-    let j = joins n old c.occupy.new.cells c.connect.new.cells p own c.beside-near.result.items beside c.beside-near.ensures c.as_slice-near.ensures.value c.occupy.ensures.occupied c.connect.ensures.connected c.connect.ensures.tidy in
+    let j = joins n old c.occupy.new.cells c.connect.new.cells p own beside beside c.requires.near refl c.occupy.ensures.occupied c.connect.ensures.connected c.connect.ensures.tidy in
     let t = takes n c.connect.new.cells c.capture-theirs.new.cells c.take_one-taken.new.cells p own theirs beside c.capture-theirs.ensures.capturing c.capture-theirs.ensures.gone c.take_one-taken.ensures.capturing c.take_one-taken.ensures.gone in
     moved_end n old c.occupy.new.cells c.connect.new.cells c.capture-theirs.new.cells c.take_one-taken.new.cells p c.args.colour own theirs beside b j t c.reaches_by_a_path.ensures
 
@@ -94,9 +94,9 @@ returns-clause-theirs g c =
     let p = c.args.point in
     let own = c.code_of-own.result in
     let theirs = c.code_of-other.result in
-    let beside = c.as_slice-near.result.now in
+    let beside = c.args.near.now in
     let b = begins n old p c.args.colour c.other.result own theirs c.requires.kept c.requires.point c.requires.empty c.code_of-own.ensures.value c.code_of-own.ensures.range c.other.ensures c.code_of-other.ensures.value c.code_of-other.ensures.range in
-    let j = joins n old c.occupy.new.cells c.connect.new.cells p own c.beside-near.result.items beside c.beside-near.ensures c.as_slice-near.ensures.value c.occupy.ensures.occupied c.connect.ensures.connected c.connect.ensures.tidy in
+    let j = joins n old c.occupy.new.cells c.connect.new.cells p own beside beside c.requires.near refl c.occupy.ensures.occupied c.connect.ensures.connected c.connect.ensures.tidy in
     let t = takes n c.connect.new.cells c.capture-theirs.new.cells c.take_one-taken.new.cells p own theirs beside c.capture-theirs.ensures.capturing c.capture-theirs.ensures.gone c.take_one-taken.ensures.capturing c.take_one-taken.ensures.gone in
     theirs_end n old c.occupy.new.cells c.connect.new.cells c.capture-theirs.new.cells c.take_one-taken.new.cells p c.args.colour own theirs beside b j t c.capture-theirs.result c.capture-theirs.ensures.stones
 
@@ -107,9 +107,9 @@ returns-clause-own g c =
     let p = c.args.point in
     let own = c.code_of-own.result in
     let theirs = c.code_of-other.result in
-    let beside = c.as_slice-near.result.now in
+    let beside = c.args.near.now in
     let b = begins n old p c.args.colour c.other.result own theirs c.requires.kept c.requires.point c.requires.empty c.code_of-own.ensures.value c.code_of-own.ensures.range c.other.ensures c.code_of-other.ensures.value c.code_of-other.ensures.range in
-    let j = joins n old c.occupy.new.cells c.connect.new.cells p own c.beside-near.result.items beside c.beside-near.ensures c.as_slice-near.ensures.value c.occupy.ensures.occupied c.connect.ensures.connected c.connect.ensures.tidy in
+    let j = joins n old c.occupy.new.cells c.connect.new.cells p own beside beside c.requires.near refl c.occupy.ensures.occupied c.connect.ensures.connected c.connect.ensures.tidy in
     let t = takes n c.connect.new.cells c.capture-theirs.new.cells c.take_one-taken.new.cells p own theirs beside c.capture-theirs.ensures.capturing c.capture-theirs.ensures.gone c.take_one-taken.ensures.capturing c.take_one-taken.ensures.gone in
     own_end n old c.occupy.new.cells c.connect.new.cells c.capture-theirs.new.cells c.take_one-taken.new.cells p c.args.colour own theirs beside b j t c.take_one-taken.result c.take_one-taken.ensures.stones
 
@@ -120,9 +120,9 @@ returns-clause-logged g c =
     let p = c.args.point in
     let own = c.code_of-own.result in
     let theirs = c.code_of-other.result in
-    let beside = c.as_slice-near.result.now in
+    let beside = c.args.near.now in
     let b = begins n old p c.args.colour c.other.result own theirs c.requires.kept c.requires.point c.requires.empty c.code_of-own.ensures.value c.code_of-own.ensures.range c.other.ensures c.code_of-other.ensures.value c.code_of-other.ensures.range in
-    let j = joins n old c.occupy.new.cells c.connect.new.cells p own c.beside-near.result.items beside c.beside-near.ensures c.as_slice-near.ensures.value c.occupy.ensures.occupied c.connect.ensures.connected c.connect.ensures.tidy in
+    let j = joins n old c.occupy.new.cells c.connect.new.cells p own beside beside c.requires.near refl c.occupy.ensures.occupied c.connect.ensures.connected c.connect.ensures.tidy in
     let t = takes n c.connect.new.cells c.capture-theirs.new.cells c.take_one-taken.new.cells p own theirs beside c.capture-theirs.ensures.capturing c.capture-theirs.ensures.gone c.take_one-taken.ensures.capturing c.take_one-taken.ensures.gone in
     let m = stones_beside n (colouring_of n old) c.args.colour p in
     let taken = stones_taken n (colouring_of n old) c.args.colour p in
@@ -143,9 +143,9 @@ returns-clause-count g c =
     let p = c.args.point in
     let own = c.code_of-own.result in
     let theirs = c.code_of-other.result in
-    let beside = c.as_slice-near.result.now in
+    let beside = c.args.near.now in
     let b = begins n old p c.args.colour c.other.result own theirs c.requires.kept c.requires.point c.requires.empty c.code_of-own.ensures.value c.code_of-own.ensures.range c.other.ensures c.code_of-other.ensures.value c.code_of-other.ensures.range in
-    let j = joins n old c.occupy.new.cells c.connect.new.cells p own c.beside-near.result.items beside c.beside-near.ensures c.as_slice-near.ensures.value c.occupy.ensures.occupied c.connect.ensures.connected c.connect.ensures.tidy in
+    let j = joins n old c.occupy.new.cells c.connect.new.cells p own beside beside c.requires.near refl c.occupy.ensures.occupied c.connect.ensures.connected c.connect.ensures.tidy in
     let t = takes n c.connect.new.cells c.capture-theirs.new.cells c.take_one-taken.new.cells p own theirs beside c.capture-theirs.ensures.capturing c.capture-theirs.ensures.gone c.take_one-taken.ensures.capturing c.take_one-taken.ensures.gone in
     let m = stones_beside n (colouring_of n old) c.args.colour p in
     let taken = stones_taken n (colouring_of n old) c.args.colour p in
