@@ -22,11 +22,11 @@ use std::alloc::Allocator;
 pub fn write_answer<A: Allocator + Copy, W: Sink>(
     session: &Session<A>,
     id: Option<u32>,
-    decision: Decision,
+    decision: &Decision,
     writer: &mut W,
 ) -> Result<(), WriteFault>
     ensures sent { Sent result (W.taken writer.old) (W.taken writer.new)
-        (decision_text id decision session.now) }
+        (decision_text id decision.now session.now) }
     ensures failures { W.failures writer.new ≡ failures_after result (W.failures writer.old) }
 {
     let mut pen = Pen::new();
@@ -37,18 +37,18 @@ pub fn write_answer<A: Allocator + Copy, W: Sink>(
 fn put_answer<A: Allocator + Copy, W: Sink>(
     session: &Session<A>,
     id: Option<u32>,
-    decision: Decision,
+    decision: &Decision,
     pen: &mut Pen,
     writer: &mut W,
 )
     ensures { Adds (place pen.old.has_failed (W.taken writer.old) (W.failures writer.old))
-        (place pen.new.has_failed (W.taken writer.new) (W.failures writer.new)) (decision_text id decision session.now) }
+        (place pen.new.has_failed (W.taken writer.new) (W.failures writer.new)) (decision_text id decision.now session.now) }
 {
     match decision {
         Decision::Done => put_empty(id, pen, writer),
         Decision::Ends => put_empty(id, pen, writer),
         Decision::Tells(fact) => put_told(session, id, fact, pen, writer),
-        Decision::Refused(why) => put_refused(id, why, pen, writer),
+        Decision::Refused(why) => put_refused(id, *why, pen, writer),
     }
 }
 
@@ -64,12 +64,12 @@ fn put_empty<W: Sink>(id: Option<u32>, pen: &mut Pen, writer: &mut W)
 fn put_told<A: Allocator + Copy, W: Sink>(
     session: &Session<A>,
     id: Option<u32>,
-    fact: Fact,
+    fact: &Fact,
     pen: &mut Pen,
     writer: &mut W,
 )
     ensures { Adds (place pen.old.has_failed (W.taken writer.old) (W.failures writer.old))
-        (place pen.new.has_failed (W.taken writer.new) (W.failures writer.new)) (codes "=" ++ (id_text id ++ (result_text (fact_text fact session.now) ++ codes "\n\n"))) }
+        (place pen.new.has_failed (W.taken writer.new) (W.failures writer.new)) (codes "=" ++ (id_text id ++ (result_text (fact_text fact.now session.now) ++ codes "\n\n"))) }
 {
     pen.put(b"=", writer);
     put_id(id, pen, writer);
@@ -109,13 +109,13 @@ fn put_id<W: Sink>(id: Option<u32>, pen: &mut Pen, writer: &mut W)
 /// Writes what a fact says, behind a space.
 fn put_fact<A: Allocator + Copy, W: Sink>(
     session: &Session<A>,
-    fact: Fact,
+    fact: &Fact,
     pen: &mut Pen,
     writer: &mut W,
 )
     ensures { Adds (place pen.old.has_failed (W.taken writer.old) (W.failures writer.old))
         (place pen.new.has_failed (W.taken writer.new) (W.failures writer.new))
-        (result_text (fact_text fact session.now)) }
+        (result_text (fact_text fact.now session.now)) }
 {
     match fact {
         Fact::Protocol => pen.put(b" 2", writer),
@@ -127,9 +127,9 @@ fn put_fact<A: Allocator + Copy, W: Sink>(
         Fact::Score => put_score(session.game(), pen, writer),
         Fact::Board => put_board(session.game(), pen, writer),
         Fact::Chains => put_chains(session.game(), pen, writer),
-        Fact::Places(number) => put_places(session.game(), number, pen, writer),
-        Fact::Vertex(vertex) => put_vertex(vertex, pen, writer),
-        Fact::Plays(plays) => put_plays(session.game().size(), &plays, pen, writer),
+        Fact::Places(number) => put_places(session.game(), *number, pen, writer),
+        Fact::Vertex(vertex) => put_vertex(*vertex, pen, writer),
+        Fact::Plays(plays) => put_plays(session.game().size(), plays, pen, writer),
         Fact::Record => put_game(session.game(), pen, writer),
     }
 }

@@ -2,7 +2,7 @@ use go_board::Vertex;
 use goref_results::Plays;
 
 /// What is decided on a command. Its text is written afterwards.
-#[derive(Clone, Copy)]
+#[derive(Drop)]
 pub enum Decision {
     /// Done, with nothing to tell.
     Done,
@@ -15,7 +15,7 @@ pub enum Decision {
 }
 
 /// What an answer tells.
-#[derive(Clone, Copy)]
+#[derive(Drop)]
 pub enum Fact {
     /// The version of the protocol.
     Protocol,

@@ -80,8 +80,8 @@ impl<A: Allocator + Copy> Session<A> {
             return Ok(Flow::More);
         }
         let decision = self.decide_line(line, fetched);
-        match write_answer(self, id_of(line), decision, writer) {
-            Ok(()) => Ok(flow_after(decision)),
+        match write_answer(self, id_of(line), &decision, writer) {
+            Ok(()) => Ok(flow_after(&decision)),
             Err(WriteFault) => Err(WriteFault),
         }
     }
@@ -409,8 +409,8 @@ fn id_of(line: &Line) -> Option<u32>
     Request::of(line.text()).id()
 }
 
-fn flow_after(decision: Decision) -> Flow
-    ensures { result ≡ flow_of (is_end decision) }
+fn flow_after(decision: &Decision) -> Flow
+    ensures { result ≡ flow_of (is_end decision.now) }
 {
     match decision {
         Decision::Ends => Flow::Quit,

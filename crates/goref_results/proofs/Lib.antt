@@ -2,3 +2,4 @@ pub mod Listing
 pub mod Earlier
 pub mod Marking
 pub mod Spaced
+pub mod MarkBits

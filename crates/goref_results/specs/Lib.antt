@@ -3,3 +3,4 @@ pub mod Diagrams
 pub mod ChainLines
 pub mod Places
 pub mod Plays
+pub mod Marks

@@ -5,9 +5,11 @@
 mod chain_lines;
 mod diagram;
 pub mod laws;
+mod marks;
 mod plays;
 mod results;
 
 pub use chain_lines::put_chains;
-pub use plays::{Plays, legal_plays, put_plays};
+pub use marks::Plays;
+pub use plays::{legal_plays, put_plays};
 pub use results::{put_board, put_places, put_score};

@@ -1,4 +1,4 @@
-ghost use Rattle.std.specs.Prelude.{◌≡◌, ◌<◌, ◌*◌, [], IfOk, false, if◌then◌else◌, replicate, slice_index_or};
+ghost use Rattle.std.specs.Prelude.{◌≡◌, ◌<◌, ◌*◌, [], IfOk, false, if◌then◌else◌, slice_index_or};
 ghost use Rattle.go_board.specs.Device.{Adds, place};
 ghost use Rattle.go_board.specs.Sizes.{lines_of};
 ghost use Rattle.go_game.specs.Counts.{IsAsBefore};
@@ -6,19 +6,10 @@ ghost use Rattle.goref_results.specs.ChainLines.{spaced_vertex};
 ghost use Rattle.goref_results.specs.Plays.{marked_plays, plays_text};
 ghost use Rattle.goref_results.specs.Results.{result_text};
 
-use go_board::{Colour, MAX_POINTS, Move, Pen, Point, Sink, Size, Vertex, vertex_text};
+use crate::Plays;
+use go_board::{Colour, Move, Pen, Point, Sink, Size, Vertex, vertex_text};
 use go_game::Game;
 use std::alloc::{AllocError, Allocator};
-
-/// For the number of each point, whether a play there is legal; not where the board has no such
-/// point.
-pub type Plays = [bool; MAX_POINTS];
-
-fn no_plays() -> Plays
-    ensures { result ≡ replicate MAX_POINTS false }
-{
-    [false; MAX_POINTS]
-}
 
 /// The legal plays of a colour. Each point is tried on the game, which holds afterwards what it
 /// held, also where there was no memory for a trial.
@@ -30,10 +21,10 @@ pub fn legal_plays<A: Allocator + Copy>(
     ensures same { IsAsBefore game.old game.new }
 {
     let size = game.size();
-    let mut plays = no_plays();
+    let mut plays = Plays::none();
     for number in 0..size.points() {
         let vertex = Vertex::At(Point::numbered(size, number));
-        plays[usize::from(number)] = game.legal(Move { colour, vertex })?;
+        plays.set(number, game.legal(Move { colour, vertex })?);
     }
     Ok(plays)
 }
@@ -57,7 +48,7 @@ fn put_if_play<W: Sink>(size: Size, plays: &Plays, number: u16, pen: &mut Pen, w
         (if slice_index_or plays.now number false
         then spaced_vertex (lines_of size) number else []) }
 {
-    if plays[usize::from(number)] {
+    if plays.has(number) {
         let at = Point::numbered(size, number);
         pen.put(b" ", writer);
         pen.put(vertex_text(Vertex::At(at)).as_bytes(), writer);
