@@ -1,4 +1,4 @@
-//! Random games on a board of 19 lines, played and taken back, on the proved chain tables and on a
+//! Random games on a board of 19 lines, or of 25 where it is built for them, played and taken back, on the proved chain tables and on a
 //! plain board with the same tables. Prints the time of both, and stops where their answers differ.
 
 #[path = "../plain/board.rs"]

@@ -1,7 +1,7 @@
-//! A plain board of 19 lines with the tables that chain tables have, and a log of what its plays
+//! A plain board of 19 lines, or of 25 where it is built for them, with the tables that chain tables have, and a log of what its plays
 //! changed. Nothing of it is proved.
 
-pub const LINES: usize = 19;
+pub const LINES: usize = if cfg!(lines_25) { 25 } else { 19 };
 pub const POINTS: usize = LINES * LINES;
 const WORDS: usize = POINTS.div_ceil(64);
 

@@ -1,4 +1,4 @@
-//! A plain game on 19 lines: plays by positional superko, undo, and the choice that goref makes.
+//! A plain game on the plain board: plays by positional superko, undo, and the choice that goref makes.
 //! Nothing of it is proved.
 
 use crate::board::{Board, POINTS, neighbours};

@@ -1,5 +1,5 @@
-//! A plain program to compare `goref gtp` with: it reads `boardsize 19`, `play`, `undo`, `genmove` and
-//! `quit`, and answers as goref does. `plain script ROUNDS` writes lines for both: so many times the
+//! A plain program to compare `goref gtp` with: it reads `boardsize` with the lines that it is built for,
+//! `play`, `undo`, `genmove` and `quit`, and answers as goref does. `plain script ROUNDS` writes lines for both: so many times the
 //! same 300 random plays, all of them legal, and 300 undos. Nothing of it is proved.
 
 mod board;
@@ -9,7 +9,7 @@ use board::{LINES, POINTS};
 use game::Game;
 use std::io::{self, BufRead, BufWriter, Write};
 
-const LETTERS: &[u8] = b"ABCDEFGHJKLMNOPQRST";
+const LETTERS: &[u8] = b"ABCDEFGHJKLMNOPQRSTUVWXYZ";
 
 fn name_of(point: usize) -> String {
     let letter = char::from(LETTERS[point % LINES]);
@@ -107,7 +107,7 @@ fn random_plays() -> String {
 fn script(rounds: usize) -> io::Result<()> {
     let mut out = BufWriter::new(io::stdout().lock());
     let round = random_plays() + &"undo\n".repeat(300);
-    writeln!(out, "boardsize 19")?;
+    writeln!(out, "boardsize {LINES}")?;
     for _ in 0..rounds {
         out.write_all(round.as_bytes())?;
     }
