@@ -2,6 +2,7 @@
 #![tactic(auto)]
 
 mod cursor;
+pub mod laws;
 mod line;
 mod request;
 mod stones;
