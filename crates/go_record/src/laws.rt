@@ -1,6 +1,8 @@
 //! What the words of this crate's contracts mean: laws about definitions, each the contract of a
 //! function that does nothing.
+ghost use Rattle.std.specs.Prelude.{◌≡◌};
 ghost use Rattle.go_record.specs.Laws.{OneOutcome, RecordLaw, SoundGames};
+ghost use Rattle.go_record.specs.declared.root.TheConstants.{USUAL_LINES};
 
 use go_sgf::laws::{canonical_spells_plain, one_record};
 
@@ -22,3 +24,8 @@ pub fn record_law()
     canonical_spells_plain();
     one_record();
 }
+
+/// A board whose record says nothing of its size has 19 lines.
+pub fn usual_lines()
+    ensures { USUAL_LINES ≡ 19 }
+{}
