@@ -72,7 +72,7 @@ fn size_argument<'a>(alloc: Global) -> Arg<'a>
     Arg::new(alloc, "size")
         .long("size")
         .value_name("N")
-        .help("The lines of the board at the start, from 1 to 19")
+        .help("The lines of the board at the start, from 1 to 25")
         .default_value("19")
         .value_parser(value_parser!(u8).range(1..=i64::from(MAX_LINES)))
 }

@@ -32,7 +32,7 @@ fn program_words(rt: HostRuntime) {
     assert!(rt; asked(alloc, &["goref", "gtp"]) == Ok(gtp(&rt, 19)));
     assert!(rt; asked(alloc, &["goref", "gtp", "--size", "9"]) == Ok(gtp(&rt, 9)));
     assert!(rt; asked(alloc, &["goref", "gtp", "--size=1"]) == Ok(gtp(&rt, 1)));
-    assert!(rt; asked(alloc, &["goref", "gtp", "--size", "19"]) == Ok(gtp(&rt, 19)));
+    assert!(rt; asked(alloc, &["goref", "gtp", "--size", "25"]) == Ok(gtp(&rt, 25)));
     assert!(rt; asked(alloc, &["goref", "judge"]) == Ok(Task::Judge));
     assert!(rt; asked(alloc, &["goref", "tidy"]) == Ok(Task::Tidy));
 }
@@ -43,7 +43,7 @@ fn refused_words(rt: HostRuntime) {
     let invalid = Err(ErrorKind::ValueValidation);
     let unknown = Err(ErrorKind::InvalidSubcommand);
     assert!(rt; asked(alloc, &["goref", "gtp", "--size", "0"]) == invalid);
-    assert!(rt; asked(alloc, &["goref", "gtp", "--size", "20"]) == invalid);
+    assert!(rt; asked(alloc, &["goref", "gtp", "--size", "26"]) == invalid);
     assert!(rt; asked(alloc, &["goref", "gtp", "--size", "nine"]) == invalid);
     assert!(rt; asked(alloc, &["goref", "gtp", "--size"]) == Err(ErrorKind::InvalidValue));
     assert!(rt; asked(alloc, &["goref", "gtp", "9"]) == Err(ErrorKind::UnknownArgument));
