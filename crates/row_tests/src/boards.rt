@@ -1,4 +1,8 @@
 use crate::scripts::says;
+use crate::sessions::told;
+use go_board::Size;
+use goref::Session;
+use std::test::Fail;
 
 #[test]
 fn two_by_two_capture(rt: HostRuntime) {
@@ -64,4 +68,48 @@ fn rows_with_two_digits(rt: HostRuntime) {
         4 . . . . . . . . . .\n 3 . . . . . . . . . .\n 2 . . . . . . . . . .\n \
         1 . . . . . . . . . .\n   A B C D E F G H J K\n\n",
     );
+}
+
+#[test]
+fn the_largest_board(rt: HostRuntime) {
+    says(
+        &rt,
+        rt.alloc(),
+        b"boardsize 26\nboardsize 25\nplay b z25\nplay w y25\nplay b z26\ngoref-chains\n",
+        b"? unacceptable size\n\n=\n\n=\n\n=\n\n? syntax error\n\n\
+        = W Y25 : Y24 X25\nB Z25 : Z24\n\n",
+    );
+    says(
+        &rt,
+        rt.alloc(),
+        b"boardsize 25\nplay b n13\nfinal_score\n",
+        b"=\n\n=\n\n= B+625\n\n",
+    );
+    says(
+        &rt,
+        rt.alloc(),
+        b"boardsize 25\nplay b z1\ngoref-printsgf\n",
+        b"=\n\n=\n\n= (;GM[1]FF[4]SZ[25]KM[0]PL[B];B[yy])\n\n",
+    );
+}
+
+#[test]
+fn the_largest_diagram(rt: HostRuntime) -> Result<(), Fail> {
+    let alloc = rt.alloc();
+    let mut session = Session::new(alloc, Size::new(25).expect(&rt, "a size"));
+    assert!(rt; told(&rt, alloc, &mut session, b"play b z1")?.is_empty());
+    let diagram = told(&rt, alloc, &mut session, b"showboard")?;
+    assert!(rt;
+        diagram.as_slice().starts_with(
+            b" size 25 komi 0 prisoners B 0 W 0 moves 1 next W\n\
+            25 . . . . . . . . . . . . . . . . . . . . . . . . .\n24 .",
+        )
+    );
+    assert!(rt;
+        diagram.as_slice().ends_with(
+            b"\n 1 . . . . . . . . . . . . . . . . . . . . . . . . X\n   \
+            A B C D E F G H J K L M N O P Q R S T U V W X Y Z",
+        )
+    );
+    Ok(())
 }

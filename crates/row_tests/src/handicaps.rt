@@ -46,6 +46,16 @@ fn handicap_counts(rt: HostRuntime) {
 }
 
 #[test]
+fn handicap_on_the_largest_board(rt: HostRuntime) {
+    says(
+        &rt,
+        rt.alloc(),
+        b"boardsize 25\nfixed_handicap 9\n",
+        b"=\n\n= D4 W22 D22 W4 D13 W13 N4 N22 N13\n\n",
+    );
+}
+
+#[test]
 fn the_start_of_a_handicap(rt: HostRuntime) {
     says(
         &rt,

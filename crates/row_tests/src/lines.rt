@@ -1,5 +1,5 @@
 use crate::sessions::answered;
-use go_board::{MAX_LINES, Size};
+use go_board::Size;
 use goref::{Line, Session};
 use memory_devices::Writer;
 use std::alloc::Global;
@@ -34,15 +34,15 @@ fn lines_as_sent(rt: HostRuntime) {
 
 #[test]
 fn long_lines(rt: HostRuntime) {
-    let long = filled(b"play ", b'a', 4_092, b"");
+    let long = filled(b"play ", b'a', 8_188, b"");
     assert!(rt; long.is_long());
-    assert_eq!(rt; long.text().len(), 4_096);
-    let fits = filled(b"play ", b'a', 4_091, b"");
+    assert_eq!(rt; long.text().len(), 8_192);
+    let fits = filled(b"play ", b'a', 8_187, b"");
     assert!(rt; !fits.is_long());
-    assert_eq!(rt; fits.text().len(), 4_096);
-    let fits = filled(b"play ", b'a', 4_091, b"   # and more");
+    assert_eq!(rt; fits.text().len(), 8_192);
+    let fits = filled(b"play ", b'a', 8_187, b"   # and more");
     assert!(rt; !fits.is_long());
-    let with_id = filled(b"9 play ", b'a', 4_090, b"");
+    let with_id = filled(b"9 play ", b'a', 8_186, b"");
     assert!(rt; with_id.is_long());
     assert!(rt; with_id.text().starts_with(b"9 play a"));
 }
@@ -53,11 +53,13 @@ fn hostile_lines(rt: HostRuntime) {
     assert!(rt; bells.text().is_empty() && !bells.is_long());
     let spaces = filled(b"", b' ', 1_000_000, b"");
     assert!(rt; spaces.text().is_empty() && !spaces.is_long());
-    assert!(rt; !filled(b"", b'a', 4_096, b"").is_long());
-    assert!(rt; filled(b"", b'a', 4_097, b"").is_long());
-    assert!(rt; filled(b"", b'1', 5_000, b"").is_long());
-    assert!(rt; filled(b"2147483648 ", b'a', 5_000, b"").is_long());
-    let mut reused = filled(b"", b'a', 5_000, b"#");
+    assert!(rt; !filled(b"", b'a', 8_192, b"").is_long());
+    assert!(rt; filled(b"", b'a', 8_193, b"").is_long());
+    assert!(rt; !filled(b"", b'1', 5_000, b"").is_long());
+    assert!(rt; !filled(b"2147483648 ", b'a', 5_000, b"").is_long());
+    assert!(rt; filled(b"", b'1', 9_000, b"").is_long());
+    assert!(rt; filled(b"2147483648 ", b'a', 9_000, b"").is_long());
+    let mut reused = filled(b"", b'a', 9_000, b"#");
     reused.clear();
     reused.extend(b"quit");
     assert!(rt; reused.text() == b"quit".as_slice() && !reused.is_long());
@@ -65,7 +67,7 @@ fn hostile_lines(rt: HostRuntime) {
 
 /// Asserts how a line is answered over an empty board.
 fn answers(rt: &impl Abort, alloc: Global, line: &Line, text: &[u8]) {
-    let size = Size::new(MAX_LINES).expect(rt, "a size");
+    let size = Size::new(19).expect(rt, "a size");
     let mut session = Session::new(alloc, size);
     let mut writer = Writer::new(alloc);
     assert!(rt; answered(&mut session, line, &mut writer).is_ok());
@@ -78,50 +80,67 @@ fn long_lines_are_answered(rt: HostRuntime) {
     answers(
         &rt,
         alloc,
-        &filled(b"play ", b'a', 4_092, b""),
+        &filled(b"play ", b'a', 8_188, b""),
         b"? line too long\n\n",
     );
     answers(
         &rt,
         alloc,
-        &filled(b"play ", b'a', 4_091, b""),
+        &filled(b"play ", b'a', 8_187, b""),
         b"? syntax error\n\n",
     );
     answers(
         &rt,
         alloc,
-        &filled(b"9 play ", b'a', 4_090, b""),
+        &filled(b"9 play ", b'a', 8_186, b""),
         b"?9 line too long\n\n",
     );
     answers(
         &rt,
         alloc,
-        &filled(b"", b'a', 4_096, b""),
+        &filled(b"", b'a', 8_192, b""),
         b"? unknown command\n\n",
     );
     answers(
         &rt,
         alloc,
-        &filled(b"", b'a', 4_097, b""),
+        &filled(b"", b'a', 8_193, b""),
         b"? line too long\n\n",
     );
     answers(
         &rt,
         alloc,
         &filled(b"", b'1', 5_000, b""),
-        b"? line too long\n\n",
+        b"? unknown command\n\n",
     );
     answers(
         &rt,
         alloc,
         &filled(b"2147483648 ", b'a', 5_000, b""),
-        b"? line too long\n\n",
+        b"? unknown command\n\n",
     );
-    let mut commented = filled(b"play ", b'a', 4_091, b"   #");
+    let mut commented = filled(b"play ", b'a', 8_187, b"   #");
     for _ in 0..9_000u16 {
         commented.push(b'x');
     }
     answers(&rt, alloc, &commented, b"? syntax error\n\n");
+}
+
+#[test]
+fn long_lines_without_an_id(rt: HostRuntime) {
+    let alloc = rt.alloc();
+    answers(
+        &rt,
+        alloc,
+        &filled(b"", b'1', 9_000, b""),
+        b"? line too long\n\n",
+    );
+    answers(
+        &rt,
+        alloc,
+        &filled(b"2147483648 ", b'a', 9_000, b""),
+        b"? line too long\n\n",
+    );
 }
 
 #[test]

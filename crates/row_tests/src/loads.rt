@@ -1,10 +1,11 @@
 use crate::sessions::answered;
-use go_board::{MAX_LINES, Size};
+use go_board::Size;
 use goref::{Fetched, Flow, Line, Session};
 use goref_runs::{Shelf, run};
 use memory_devices::{Reader, Writer};
 use std::alloc::{Allocator, Global};
 use std::process::Abort;
+use std::test::Fail;
 
 const HANDICAP_GAME: &[u8] = b"(;GM[1]SZ[9]KM[5.5]AB[cc][gg];W[ee];B[])";
 
@@ -17,11 +18,12 @@ enum Gift<'a> {
     Memory,
 }
 
-/// A shelf that gives the same for each name, and counts how often it is asked for `f`.
+/// A shelf that gives the same for each name, and counts how often it is asked for one of them.
 #[derive(Drop)]
 struct OneFile<'a, A: Allocator + Copy> {
     alloc: A,
     gift: Gift<'a>,
+    name: &'a [u8],
     asked: usize,
 }
 
@@ -45,7 +47,7 @@ impl<A: Allocator + Copy> Shelf<A> for OneFile<'_, A> {
     ghost given = { λ _. None };
 
     fn fetch(&mut self, name: &[u8]) -> Fetched<A> {
-        if name == b"f".as_slice() {
+        if name == self.name {
             self.asked = self.asked.wrapping_add(1);
         }
         self.given()
@@ -60,7 +62,7 @@ fn runs(
     writer: &mut Writer<Global>,
     shelf: &mut OneFile<'_, Global>,
 ) {
-    let size = Size::new(MAX_LINES).expect(rt, "a size");
+    let size = Size::new(19).expect(rt, "a size");
     let end = run(alloc, size, &mut reader, writer, shelf);
     assert!(rt; end == Ok(()));
 }
@@ -92,6 +94,7 @@ fn answers_to(
     let mut shelf = OneFile {
         alloc,
         gift,
+        name: b"f",
         asked: 0,
     };
     let mut writer = Writer::new(alloc);
@@ -105,11 +108,33 @@ fn begins(rt: &impl Abort, alloc: Global, script: &[u8], heading: &[u8]) {
     let mut shelf = OneFile {
         alloc,
         gift: Gift::Bytes(HANDICAP_GAME),
+        name: b"f",
         asked: 0,
     };
     let mut writer = Writer::new(alloc);
     runs(rt, alloc, Reader::new(script), &mut writer, &mut shelf);
     assert!(rt; writer.bytes().starts_with(heading));
+}
+
+#[test]
+fn a_long_name(rt: HostRuntime) -> Result<(), Fail> {
+    let alloc = rt.alloc();
+    let name = vec![in alloc; b'a'; 4_095]?;
+    let mut script = b"loadsgf ".to_vec(alloc)?;
+    script.extend_from_slice(name.as_slice())?;
+    script.push(b'\n')?;
+    let mut shelf = OneFile {
+        alloc,
+        gift: Gift::Bytes(HANDICAP_GAME),
+        name: name.as_slice(),
+        asked: 0,
+    };
+    let mut writer = Writer::new(alloc);
+    let reader = Reader::new(script.as_slice());
+    runs(&rt, alloc, reader, &mut writer, &mut shelf);
+    assert!(rt; writer.bytes() == b"=\n\n".as_slice());
+    assert_eq!(rt; shelf.asked, 1);
+    Ok(())
 }
 
 #[test]
@@ -170,7 +195,7 @@ fn records_refused(rt: HostRuntime) {
 
 #[test]
 fn nothing_fetched(rt: HostRuntime) {
-    let size = Size::new(MAX_LINES).expect(&rt, "a size");
+    let size = Size::new(19).expect(&rt, "a size");
     let mut session = Session::new(rt.alloc(), size);
     let mut writer = Writer::new(rt.alloc());
     let line = Line::of(b"loadsgf f");

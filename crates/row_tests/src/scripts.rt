@@ -1,5 +1,5 @@
 use crate::sessions::answered;
-use go_board::{MAX_LINES, Size};
+use go_board::Size;
 use goref::{Fetched, Flow, Line, Session};
 use goref_runs::{RunError, Shelf, run, run_within};
 use memory_devices::{Reader, Writer};
@@ -21,8 +21,9 @@ impl<A: Allocator> Shelf<A> for NoFiles {
     }
 }
 
-fn largest(rt: &impl Abort) -> Size {
-    Size::new(MAX_LINES).expect(rt, "a board has so many lines")
+/// The size of a session that is told none.
+fn usual(rt: &impl Abort) -> Size {
+    Size::new(19).expect(rt, "a board has so many lines")
 }
 
 /// Asserts that a script is answered by this text, however its bytes come in and the answers leave.
@@ -60,7 +61,7 @@ fn ends(
     mut reader: Reader<'_>,
     writer: &mut Writer<Global>,
 ) -> Result<(), RunError> {
-    run(alloc, largest(rt), &mut reader, writer, &mut NoFiles)
+    run(alloc, usual(rt), &mut reader, writer, &mut NoFiles)
 }
 
 #[test]
@@ -118,9 +119,9 @@ fn lines_as_sent(rt: HostRuntime) {
 fn long_lines(rt: HostRuntime) -> Result<(), Fail> {
     let mut script = Vec::new(rt.alloc());
     for (front, letters) in [
-        (b"play ".as_slice(), 4_092u32),
-        (b"play ".as_slice(), 4_091),
-        (b"9 play ".as_slice(), 4_090),
+        (b"play ".as_slice(), 8_188u32),
+        (b"play ".as_slice(), 8_187),
+        (b"9 play ".as_slice(), 8_186),
     ] {
         script.extend_from_slice(front)?;
         for _ in 0..letters {
@@ -143,7 +144,7 @@ fn sizes_and_vertices(rt: HostRuntime) {
         &rt,
         rt.alloc(),
         b"boardsize 20\nboardsize 0\nboardsize x\nboardsize 2147483648\nboardsize 9\nplay b k1\n",
-        b"? unacceptable size\n\n? unacceptable size\n\n? syntax error\n\n? syntax error\n\n=\n\n? illegal move\n\n",
+        b"=\n\n? unacceptable size\n\n? syntax error\n\n? syntax error\n\n=\n\n? illegal move\n\n",
     );
     says(
         &rt,
@@ -214,7 +215,7 @@ fn ends_within(
     reader: &mut Reader<'_>,
     writer: &mut Writer<Global>,
 ) -> Result<(), RunError> {
-    run_within(limit, alloc, largest(rt), reader, writer, &mut NoFiles)
+    run_within(limit, alloc, usual(rt), reader, writer, &mut NoFiles)
 }
 
 /// Asserts how a run of `undo`, one byte at a time, ends within so many reads.
@@ -250,7 +251,7 @@ fn reads_are_limited(rt: HostRuntime) {
 
 #[test]
 fn an_answer_that_fails_was_decided(rt: HostRuntime) {
-    let mut session = Session::new(rt.alloc(), largest(&rt));
+    let mut session = Session::new(rt.alloc(), usual(&rt));
     let mut broken = Writer::new(rt.alloc()).failing_at_put(1);
     let end = answered(&mut session, &Line::of(b"play b e5"), &mut broken);
     assert!(rt; end.is_err());
@@ -312,7 +313,7 @@ fn komi_after(alloc: Global, size: Size, line: &[u8]) -> i64 {
 
 #[test]
 fn komi_in_hundredths(rt: HostRuntime) {
-    let size = largest(&rt);
+    let size = usual(&rt);
     assert_eq!(rt; komi_after(rt.alloc(), size, b"komi .5"), 50);
     assert_eq!(rt; komi_after(rt.alloc(), size, b"komi 6."), 600);
     assert_eq!(rt; komi_after(rt.alloc(), size, b"komi -0.05"), -5);

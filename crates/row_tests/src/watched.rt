@@ -1,7 +1,7 @@
 ghost use Rattle.std.specs.Prelude.{None};
 
 use crate::scripts::NoFiles;
-use go_board::{Failed, MAX_LINES, Meter, Sink, Size, Source};
+use go_board::{Failed, Meter, Sink, Size, Source};
 use goref_runs::run;
 use std::cell::Cell;
 
@@ -88,7 +88,7 @@ fn answers_only_at_end(rt: HostRuntime) {
         held_back: &held_back,
         failures: Meter::new(),
     };
-    let size = Size::new(MAX_LINES).expect(&rt, "a board has so many lines");
+    let size = Size::new(19).expect(&rt, "a board has so many lines");
     let end = run(rt.alloc(), size, &mut reader, &mut writer, &mut NoFiles);
     assert!(rt; end == Ok(()));
     assert!(rt; !reader.was_late);
