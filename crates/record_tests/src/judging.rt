@@ -148,7 +148,7 @@ fn records_without_a_game(rt: HostRuntime) {
     illegal(
         &rt,
         alloc,
-        b"(;SZ[20])",
+        b"(;SZ[26])",
         RecordError::BadSize,
         "bad board size",
     );

@@ -228,6 +228,23 @@ fn points_and_lists(rt: HostRuntime) {
 }
 
 #[test]
+fn two_letters_t(rt: HostRuntime) {
+    let alloc = rt.alloc();
+    let nineteen = Size::new(19).expect(&rt, "a size");
+    assert!(rt; point_of(b"tt", nineteen) == Some(Vertex::Pass));
+    let listed = points_of(alloc, &[b"tt".as_slice()], nineteen).expect(&rt, "memory");
+    assert!(rt; listed.is_none());
+    for (lines, row) in [(20u8, 0u8), (25, 5)] {
+        let size = Size::new(lines).expect(&rt, "a size");
+        let point = Point { col: 19, row };
+        assert!(rt; point_of(b"tt", size) == Some(Vertex::At(point)));
+        let listed = points_of(alloc, &[b"tt".as_slice()], size).expect(&rt, "memory");
+        let points = listed.expect(&rt, "points");
+        assert!(rt; points.as_slice() == [point].as_slice());
+    }
+}
+
+#[test]
 fn numbers_and_hundredths(rt: HostRuntime) {
     assert!(rt; number_of(b"+1") == Some(1));
     assert!(rt; number_of(b" 007\n") == Some(7));

@@ -1,5 +1,5 @@
 use failing::Failing;
-use go_board::{Colour, Pen, Point, Vertex, WriteFault, read_vertex};
+use go_board::{Colour, Move, Pen, Point, Vertex, WriteFault, read_vertex};
 use go_game::{Game, PlayError, hundredths_text, score_text};
 use go_record::{RecordError, Stated, Verdict, judge, put_record, replay, write_record};
 use go_sgf::{Collection, read, trim};
@@ -64,6 +64,13 @@ fn refusals_of_replay(rt: HostRuntime) {
         &rt,
         alloc,
         b"(;SZ[0])",
+        RecordError::BadSize,
+        "bad board size",
+    );
+    refused(
+        &rt,
+        alloc,
+        b"(;SZ[26])",
         RecordError::BadSize,
         "bad board size",
     );
@@ -153,6 +160,37 @@ fn numbers_end_the_walk(rt: HostRuntime) {
     let square = game_of(&rt, alloc, b"(;SZ[9:9]AB[])", None);
     assert_eq!(rt; square.size().lines(), 9);
     assert!(rt; square.is_vacant());
+}
+
+#[test]
+fn a_record_without_a_size(rt: HostRuntime) {
+    let alloc = rt.alloc();
+    let game = game_of(&rt, alloc, b"(;B[pd])", None);
+    assert_eq!(rt; game.size().lines(), 19);
+    assert!(rt; stone(&rt, &game, b"q16") == Some(Colour::Black));
+}
+
+#[test]
+fn two_letters_t(rt: HostRuntime) {
+    let alloc = rt.alloc();
+    let point = game_of(&rt, alloc, b"(;SZ[20];B[tt])", None);
+    assert_eq!(rt; point.size().lines(), 20);
+    assert!(rt; stone(&rt, &point, b"u1") == Some(Colour::Black));
+    let pass = game_of(&rt, alloc, b"(;SZ[19];B[tt])", None);
+    assert_eq!(rt; pass.move_count(), 1);
+    let made = Move {
+        colour: Colour::Black,
+        vertex: Vertex::Pass,
+    };
+    assert!(rt; pass.move_at(0) == Some(made));
+}
+
+#[test]
+fn a_start_on_the_largest_board(rt: HostRuntime) {
+    let game = game_of(&rt, rt.alloc(), b"(;SZ[25]AB[yy])", None);
+    assert_eq!(rt; game.size().lines(), 25);
+    assert_eq!(rt; game.move_count(), 0);
+    assert!(rt; stone(&rt, &game, b"z1") == Some(Colour::Black));
 }
 
 /// Asserts what stands after so much of the record with stones set up.
