@@ -41,9 +41,33 @@ fn shows(rt: &impl Abort, grid: &Grid, word: &[u8], colour: Option<Colour>) {
 #[test]
 fn sizes(rt: HostRuntime) {
     assert!(rt; Size::new(0).is_none());
-    assert!(rt; Size::new(20).is_none());
+    assert!(rt; Size::new(1).is_some());
+    assert!(rt; Size::new(25).is_some());
+    assert!(rt; Size::new(26).is_none());
     assert_eq!(rt; size_of(&rt, 1).points(), 1);
     assert_eq!(rt; size_of(&rt, 19).points(), 361);
+    assert_eq!(rt; size_of(&rt, 25).points(), 625);
+}
+
+#[test]
+fn the_last_point_of_the_largest_board(rt: HostRuntime) {
+    let size = size_of(&rt, 25);
+    let last = Point { col: 24, row: 24 };
+    assert!(rt; last.on(size));
+    assert!(rt; !Point { col: 25, row: 24 }.on(size));
+    assert!(rt; !Point { col: 24, row: 25 }.on(size));
+    assert!(rt; Point::nth(size, 624) == Some(last));
+    assert!(rt; Point::nth(size, 625).is_none());
+    assert!(rt; read_vertex(b"z25", size) == Ok(Vertex::At(last)));
+    assert!(rt; read_vertex(b"Z26", size) == Err(VertexError::Malformed));
+    assert!(rt; read_vertex(b"Z25", size_of(&rt, 24)) == Err(VertexError::OffBoard));
+    assert!(rt; vertex_text(Vertex::At(last)).as_str() == "Z25");
+    has_neighbours(
+        &rt,
+        size,
+        b"Z25",
+        [Point { col: 24, row: 23 }, Point { col: 23, row: 24 }].as_slice(),
+    );
 }
 
 #[test]
@@ -101,7 +125,7 @@ fn reads_back(rt: &impl Abort, size: Size, vertex: Vertex) {
 
 #[test]
 fn each_vertex_reads_back(rt: HostRuntime) {
-    let size = size_of(&rt, 19);
+    let size = size_of(&rt, 25);
     for number in 0..size.points() {
         reads_back(&rt, size, Vertex::At(Point::numbered(size, number)));
     }

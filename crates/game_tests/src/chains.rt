@@ -163,10 +163,15 @@ fn middle_boards_as_the_plain_body(rt: HostRuntime) {
 }
 
 #[test]
-fn the_largest_board_as_the_plain_body(rt: HostRuntime) {
+fn large_boards_as_the_plain_body(rt: HostRuntime) {
     for left in 700..702u32 {
         explore_board(&rt, rt.alloc(), 19, left, 900);
     }
+}
+
+#[test]
+fn the_largest_board_as_the_plain_body(rt: HostRuntime) {
+    explore_board(&rt, rt.alloc(), 25, 800, 900);
 }
 
 /// Plays on each point in turn, sent again where memory was refused; how many were.

@@ -45,7 +45,7 @@ fn downward(size: Size) -> Grid {
 
 #[test]
 fn equal_grids_have_equal_packs(rt: HostRuntime) {
-    for lines in 1..20u8 {
+    for lines in 1..26u8 {
         let size = Size::new(lines).expect(&rt, "a size");
         let up = upward(size).pack();
         let down = downward(size).pack();
@@ -56,7 +56,7 @@ fn equal_grids_have_equal_packs(rt: HostRuntime) {
 
 #[test]
 fn one_point_changes_the_pack(rt: HostRuntime) {
-    for lines in 1..20u8 {
+    for lines in 1..26u8 {
         let size = Size::new(lines).expect(&rt, "a size");
         let pack = upward(size).pack();
         for number in 0..size.points() {
@@ -67,4 +67,16 @@ fn one_point_changes_the_pack(rt: HostRuntime) {
             }
         }
     }
+}
+
+#[test]
+fn the_last_point_of_the_largest_board(rt: HostRuntime) {
+    let size = Size::new(25).expect(&rt, "a size");
+    let pack = downward(size).pack();
+    let mut other = upward(size);
+    paint(&mut other, 624, colour_for(625));
+    assert!(rt; other.pack() != pack);
+    assert!(rt; hash_of(other.pack()) != hash_of(pack));
+    paint(&mut other, 624, colour_for(624));
+    assert!(rt; other.pack() == pack);
 }

@@ -286,6 +286,12 @@ fn a_large_game_as_the_plain_body(rt: HostRuntime) {
 }
 
 #[test]
+fn the_largest_game_as_the_plain_body(rt: HostRuntime) {
+    let mut seen = Seen::new();
+    from_a_start(&rt, rt.alloc(), size_of(&rt, 25), 6, 0, &mut seen);
+}
+
+#[test]
 fn a_board_of_one_point(rt: HostRuntime) {
     let mut game = Game::new(rt.alloc(), size_of(&rt, 1));
     let only = Vertex::At(Point { col: 0, row: 0 });
