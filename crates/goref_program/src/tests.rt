@@ -14,7 +14,7 @@ fn words_that_get_a_status(rt: HostRuntime) -> Result<(), Fail> {
     assert!(rt; obeyed(&rt, &vec![in alloc; "goref", "gtp", "--help"]?) == 0);
     assert!(rt; obeyed(&rt, &vec![in alloc; "goref", "judge", "--help"]?) == 0);
     assert!(rt; obeyed(&rt, &vec![in alloc; "goref"]?) == 2);
-    assert!(rt; obeyed(&rt, &vec![in alloc; "goref", "gtp", "--size", "20"]?) == 2);
+    assert!(rt; obeyed(&rt, &vec![in alloc; "goref", "gtp", "--size", "26"]?) == 2);
     Ok(())
 }
 
