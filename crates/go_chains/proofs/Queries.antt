@@ -97,37 +97,40 @@ pub bit_read : (cells : List ℕ) (word l q at : ℕ) → word ≡ word_of cells
 bit_read cells word l q at read is =
     ap (λ b. nat_eq b 1) (shr_and_one word (at % 64) ∙ ap (λ w. bit_at w (at % 64)) read ∙ ap (λ k. lib_of cells l k) is)
 
--- cells that are all 0
-zero_cell : (count : ℕ) (cells : List ℕ) → cells ≡ replicate count 0 → (p : ℕ) → colour_of cells p ≡ 0
+-- cells that are all 0 have no stone
+pub zero_cell : (count : ℕ) (cells : List ℕ) → cells ≡ replicate count 0 → (p : ℕ) → colour_of cells p ≡ 0
 zero_cell count cells zeros p = ap (λ l. get_or l p 0) zeros ∙ elim (cases_lt p count) [
   | inl inside ↦ get_or-replicate count p 0 0 inside
   | inr past ↦ get_or_past (replicate count 0) p 0 (omega (arith, length-replicate {A = ℕ} count 0))
 ]
 
--- have no stone, and are kept
-pub IsKept-zeros : (n count : ℕ) (cells : List ℕ) → cells ≡ replicate count 0 → n ≤ MAX_LINES → IsKept n cells
-IsKept-zeros n count cells zeros small =
-    let none : (p : ℕ) → IsStone (n * n) (tables_of cells) p → ⊥ = λ p s. (let z = zero_cell count cells zeros p in let some : 0 < colour_of cells p = s.1 in omega arith) in
-    IsKept-tidy n cells small (λ p p_in. (let z = zero_cell count cells zeros p in omega arith))
-    (record {
-      head_in = λ p s. absurd (none p s);
-      head_colour = λ p s. absurd (none p s);
-      head_label = λ p s. absurd (none p s);
-      ring = λ p s. absurd (none p s);
-      on_ring = λ p q s. absurd (none p s);
-      ring_has = λ p q s. absurd (none p s);
-      lib_is = λ p q s. absurd (none p s);
-      has_lib = λ p q s. absurd (none p s);
-      joined = λ p q s. absurd (none p s);
-    })
-    (λ p q s. absurd (none p s)) (λ p s. absurd (none p s))
+-- a board without stones is kept, whatever its other cells have
+module _ (n : ℕ) (cells : List ℕ) (empty : (p : ℕ) → p < n * n → colour_of cells p ≡ 0) where
+  no_stone : (p : ℕ) → IsStone (n * n) (tables_of cells) p → ⊥
+  no_stone p stone = let z = empty p stone.0 in let some : 0 < colour_of cells p = stone.1 in omega arith
 
-pub colouring-zeros : (n count : ℕ) (cells : List ℕ) → cells ≡ replicate count 0 → colouring_of n cells ≡ replicate (n * n) None
-colouring-zeros n count cells zeros =
-    let size = length-colouring n cells in
-    ext_get_or None (colouring_of n cells) (replicate (n * n) None) (size ∙ sym (length-replicate (n * n) None))
-    (λ i below. (let i_in : i < n * n = omega arith in
-    colouring-at n cells i i_in ∙ ap value_of (zero_cell count cells zeros i) ∙ sym (get_or-replicate (n * n) i None None i_in)))
+  pub IsKept-empty : n ≤ MAX_LINES → IsKept n cells
+  IsKept-empty small =
+      IsKept-tidy n cells small (λ p p_in. (let z = empty p p_in in omega arith))
+      (record {
+        head_in = λ p s. absurd (no_stone p s);
+        head_colour = λ p s. absurd (no_stone p s);
+        head_label = λ p s. absurd (no_stone p s);
+        ring = λ p s. absurd (no_stone p s);
+        on_ring = λ p q s. absurd (no_stone p s);
+        ring_has = λ p q s. absurd (no_stone p s);
+        lib_is = λ p q s. absurd (no_stone p s);
+        has_lib = λ p q s. absurd (no_stone p s);
+        joined = λ p q s. absurd (no_stone p s);
+      })
+      (λ p q s. absurd (no_stone p s)) (λ p s. absurd (no_stone p s))
+
+  pub colouring-empty : colouring_of n cells ≡ replicate (n * n) None
+  colouring-empty =
+      let size = length-colouring n cells in
+      ext_get_or None (colouring_of n cells) (replicate (n * n) None) (size ∙ sym (length-replicate (n * n) None))
+      (λ i below. (let i_in : i < n * n = omega arith in
+      colouring-at n cells i i_in ∙ ap value_of (empty i i_in) ∙ sym (get_or-replicate (n * n) i None None i_in)))
 
 -- a grid with the colour of each point is that colouring
 pub grid_filled : (n : ℕ) (cells : List ℕ) (colours : Colouring) (i : ℕ) → n * n ≤ i → length colours ≡ n * n

@@ -11,7 +11,7 @@ ghost use Rattle.go_board.specs.declared.pack.TheConstants.{PACK_BYTES};
 ghost use Rattle.go_board.specs.declared.size.TheConstants.{MAX_POINTS};
 ghost use Rattle.go_chains.specs.declared.cells.TheConstants.{COUNT, WORDS};
 ghost use Rattle.go_chains.specs.declared.log.Change.{Change};
-ghost use Rattle.go_chains.specs.Cells.{label_of};
+ghost use Rattle.go_chains.specs.Cells.{colour_of, label_of};
 ghost use Rattle.go_chains.specs.Playing.{most_of};
 ghost use Rattle.go_chains.specs.Rewound.{IsRewound, NamesCells, PlayLogged, rewound};
 ghost use Rattle.go_chains.specs.Sound.{IsKept, IsStoneOf, grid_of};
@@ -59,6 +59,17 @@ impl Board {
             size,
             cells: Cells::new(),
         }
+    }
+
+    /// Takes all stones off, and gives the board this size. It writes the colours of the points alone,
+    /// and counts nothing.
+    pub fn clear(&mut self, size: Size)
+        ensures lines { self.new.lines ≡ lines_of size }
+        ensures colours { grid_of self.new ≡ replicate (lines_of size * lines_of size) None }
+        ensures kept { IsKept self.new.lines self.new.cells }
+    {
+        empty_points(&mut self.cells, usize::from(size.points()));
+        self.size = size;
     }
 
     /// The size of the board.
@@ -327,5 +338,16 @@ impl Board {
         ensures kept { IsKept self.new.lines self.new.cells }
     {
         log.put_back(&mut self.cells, meter);
+    }
+}
+
+/// Empties the first so many points.
+fn empty_points(cells: &mut Cells, points: usize)
+    requires { points ≤ MAX_POINTS }
+    ensures { (p : ℕ) → p < points → colour_of cells.new p ≡ 0 }
+{
+    let mut meter = Meter::new();
+    for number in 0..points {
+        cells.set(number, 0, &mut meter);
     }
 }

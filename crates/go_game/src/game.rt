@@ -170,7 +170,7 @@ impl<A: Allocator + Copy> Game<A> {
         let alloc = *self.steps.allocator();
         self.start = Grid::new(size);
         self.first = Colour::Black;
-        self.board = Board::new(size);
+        self.board.clear(size);
         self.log = Log::new(alloc);
         self.steps.clear();
         self.history.restart(self.start.pack());

@@ -5,6 +5,6 @@ use Rattle.go_game.proofs.game.Game.resize.Goals as goal
 
 pub invariant_of-self : goal.invariant_of-self
 invariant_of-self g c =
-    keeping_empty c.packs_tell_colourings_apart.ensures (lines_of c.args.size) (c.args.size.some, c.args.size.in_range) c.new-self-inside.result c.self.inside.komi Black c.clear.new.self.items
-    c.new-self-inside-2.result c.new.result c.restart.new.self c.pack.result c.new-self-inside.ensures.lines c.new-self-inside.ensures.colours c.self.invariant.held.sound.komi
-    c.new-self-inside-2.ensures.lines c.new-self-inside-2.ensures.colours c.new-self-inside-2.ensures.kept c.new.ensures c.clear.ensures.items c.restart.ensures c.pack.ensures
+    keeping_empty c.packs_tell_colourings_apart.ensures (lines_of c.args.size) (c.args.size.some, c.args.size.in_range) c.new-self-inside.result c.self.inside.komi Black c.clear-2.new.self.items
+    c.clear.new.self c.new.result c.restart.new.self c.pack.result c.new-self-inside.ensures.lines c.new-self-inside.ensures.colours c.self.invariant.held.sound.komi
+    c.clear.ensures.lines c.clear.ensures.colours c.clear.ensures.kept c.new.ensures c.clear-2.ensures.items c.restart.ensures c.pack.ensures
