@@ -103,11 +103,11 @@ fn main() {
         least_plain = least_plain.min(plain_time);
         let ratio = time.as_secs_f64() / plain_time.as_secs_f64();
         println!(
-            "plays {plays} goref_ms {} plain_ms {} ratio {ratio:.2}, the same answers",
+            "size {LINES} plays {plays} goref_ms {} plain_ms {} ratio {ratio:.2}, the same answers",
             time.as_millis(),
             plain_time.as_millis(),
         );
     }
     let ratio = least.as_secs_f64() / least_plain.as_secs_f64();
-    println!("least of three: ratio {ratio:.2}");
+    println!("size {LINES} least of three: ratio {ratio:.2}");
 }
