@@ -1,11 +1,11 @@
 -- What a game keeps before its first move.
+use Rattle.go_game.specs.declared.superko.Superko.{Superko}
 use Rattle.std.specs.Prelude.{pos, replicate}
-use Rattle.std.proofs.Common.{arith, rules, ◌≡◌, ◌≢◌, ◌<◌, ◌≤◌, ◌*◌, ◌∙◌, ◌&&◌, true, false, not, inl, inr, ℕ, ℤ, IsTrue, List, [], Option, Some, None, length, refl, sym, ap, subst}
+use Rattle.std.proofs.Common.{arith, rules, ◌≡◌, ◌≢◌, ◌<◌, ◌≤◌, ◌*◌, ◌∙◌, ◌&&◌, true, false, not, inl, inr, ℕ, ℤ, IsTrue, List, [], Option, Some, None, length, map, refl, sym, ap, subst}
 use Rattle.std.proofs.lemmas.Bool.{cases_Bool, false≢true}
 use Rattle.std.proofs.lemmas.List.{get_or-replicate, length-replicate}
 use Rattle.go_board.specs.declared.colour.Colour.{Colour}
 use Rattle.go_board.specs.declared.colour.Colour.TheVariants.{Black, White}
-use Rattle.go_board.specs.declared.pack.Packed.{Packed}
 use Rattle.go_board.specs.declared.size.TheConstants.{MAX_LINES}
 use Rattle.go_board.specs.Colours.{Colouring, colour_at}
 use Rattle.go_board.specs.Grids.{GridValue}
@@ -14,10 +14,12 @@ use Rattle.go_chains.specs.declared.log.Change.{Change}
 use Rattle.go_chains.specs.Sound.{BoardValue, IsKept, colouring_of, grid_of}
 use Rattle.go_game.specs.declared.step.Step.{Step}
 use Rattle.go_game.specs.Building.{AreAlive}
-use Rattle.go_game.specs.Held.{IsHeld, IsKeeping}
+use Rattle.go_board.specs.declared.vertex.Move.{Move}
+use Rattle.go_game.specs.Held.{IsHeld, IsKeeping, made_of}
+use Rattle.go_history.specs.declared.key.Key.{Key}
 use Rattle.go_history.specs.Histories.{HistoryValue, IsBegun}
-use Rattle.go_game.specs.Histories.{IsPackOf}
-use Rattle.go_game.specs.Standings.{IsKomi}
+use Rattle.go_game.specs.Histories.{IsKeyOf, StandsFor}
+use Rattle.go_game.specs.Standings.{IsKomi, seen_by, stood}
 use Rattle.go_game.proofs.Played.{square-le}
 use Rattle.go_game.proofs.Remembered.{TellApart, history_begun}
 
@@ -39,9 +41,9 @@ alive_reaches n g k alive stone = elim (cases_Bool (reaches n g k None)) [
     held (Some Black) e = refl
     held (Some White) e = refl
 
-pub held_begun : (start : GridValue) (komi : ℤ) (first : Colour) → (0 < start.lines) × (start.lines ≤ MAX_LINES) → length start.colours ≡ start.lines * start.lines → IsKomi komi → AreAlive start.lines start.colours
-    → IsHeld start komi first [] 0 0
-held_begun start komi first size whole komi_is alive = record {
+pub held_begun : (rule : Superko) (start : GridValue) (komi : ℤ) (first : Colour) → (0 < start.lines) × (start.lines ≤ MAX_LINES) → length start.colours ≡ start.lines * start.lines → IsKomi komi → AreAlive start.lines start.colours
+    → IsHeld rule start komi first [] 0 0
+held_begun rule start komi first size whole komi_is alive = record {
   played = tt;
   sound = record {
     size = size;
@@ -54,10 +56,10 @@ held_begun start komi first size whole komi_is alive = record {
   white_taken = refl;
 }
 
-pub keeping_begun : TellApart → (start : GridValue) (komi : ℤ) (first : Colour) (b : BoardValue) (log : List (List Change)) (history : HistoryValue) (p : Packed)
-    → IsHeld start komi first [] 0 0 → b.lines ≡ start.lines → grid_of b ≡ start.colours → IsKept b.lines b.cells → log ≡ [] → IsBegun history p → IsPackOf p start.colours
-    → IsKeeping start komi first [] b log history 0 0
-keeping_begun law start komi first b log history p held lines colours kept empty begun packs = record {
+pub keeping_begun : TellApart → (rule : Superko) (start : GridValue) (komi : ℤ) (first : Colour) (b : BoardValue) (log : List (List Change)) (history : HistoryValue) (p : Key)
+    → IsHeld rule start komi first [] 0 0 → b.lines ≡ start.lines → grid_of b ≡ start.colours → IsKept b.lines b.cells → log ≡ [] → IsBegun history p → IsKeyOf p (seen_by rule (start.colours, first))
+    → IsKeeping rule start komi first [] b log history 0 0
+keeping_begun law rule start komi first b log history p held lines colours kept empty begun packs = record {
   held = held;
   tracked = record {
     lines = lines;
@@ -66,19 +68,41 @@ keeping_begun law start komi first b log history p held lines colours kept empty
     begun = ap (λ (n : ℕ). colouring_of n b.cells) (sym lines) ∙ colours;
     went = (empty, refl);
   };
-  told = history_begun law (start.lines * start.lines) (square-le start.lines held.sound.size.1) history p start.colours begun packs held.sound.whole;
+  told = history_begun law (start.lines * start.lines) (square-le start.lines held.sound.size.1) history p (seen_by rule (start.colours, first)) begun packs held.sound.whole;
 }
 
 pub komi_none : IsKomi (pos 0)
 komi_none = search rules
 
 -- the same on an empty board
-pub keeping_empty : TellApart → (n : ℕ) → (0 < n) × (n ≤ MAX_LINES) → (start : GridValue) (komi : ℤ) (first : Colour) (steps : List Step) (b : BoardValue) (log : List (List Change)) (history : HistoryValue) (p : Packed)
-    → start.lines ≡ n → start.colours ≡ replicate (n * n) None → IsKomi komi → b.lines ≡ n → grid_of b ≡ replicate (n * n) None → IsKept b.lines b.cells → log ≡ [] → steps ≡ [] → IsBegun history p → IsPackOf p start.colours
-    → IsKeeping start komi first steps b log history 0 0
-keeping_empty law n size start komi first steps b log history p lines colours komi_is b_lines b_colours kept empty none begun packs =
+pub keeping_empty : TellApart → (n : ℕ) → (0 < n) × (n ≤ MAX_LINES) → (rule : Superko) (start : GridValue) (komi : ℤ) (first : Colour) (steps : List Step) (b : BoardValue) (log : List (List Change)) (history : HistoryValue) (p : Key)
+    → start.lines ≡ n → start.colours ≡ replicate (n * n) None → IsKomi komi → b.lines ≡ n → grid_of b ≡ replicate (n * n) None → IsKept b.lines b.cells → log ≡ [] → steps ≡ [] → IsBegun history p → IsKeyOf p (seen_by rule (start.colours, first))
+    → IsKeeping rule start komi first steps b log history 0 0
+keeping_empty law n size rule start komi first steps b log history p lines colours komi_is b_lines b_colours kept empty none begun packs =
     let here : start.colours ≡ replicate (start.lines * start.lines) None = colours ∙ ap (λ m. let g : Colouring = replicate (m * m) None in g) (sym lines) in
-    let held = held_begun start komi first (subst (λ (m : ℕ). (0 < m) × (m ≤ MAX_LINES)) (sym lines) size)
+    let held = held_begun rule start komi first (subst (λ (m : ℕ). (0 < m) × (m ≤ MAX_LINES)) (sym lines) size)
     (ap length here ∙ length-replicate {A = Option Colour} (start.lines * start.lines) None) komi_is (none_alive start.lines start.colours here) in
-    subst (λ (xs : List Step). IsKeeping start komi first xs b log history 0 0) (sym none)
-    (keeping_begun law start komi first b log history p held (b_lines ∙ sym lines) (b_colours ∙ sym colours) kept empty begun packs)
+    subst (λ (xs : List Step). IsKeeping rule start komi first xs b log history 0 0) (sym none)
+    (keeping_begun law rule start komi first b log history p held (b_lines ∙ sym lines) (b_colours ∙ sym colours) kept empty begun packs)
+
+-- another rule, while no move stands
+pub keeping_by : TellApart → (rule other_rule : Superko) (start : GridValue) (komi : ℤ) (first : Colour) (steps : List Step) (b : BoardValue) (log : List (List Change)) (history history' : HistoryValue) (p : Key) (black white : ℕ)
+    → IsKeeping rule start komi first steps b log history black white → map made_of steps ≡ [] → IsBegun history' p → IsKeyOf p (seen_by other_rule (start.colours, first))
+    → IsKeeping other_rule start komi first steps b log history' black white
+keeping_by law rule other_rule start komi first steps b log history history' p black white k none begun packs = record {
+  held = record {
+    played = k.held.played;
+    sound = record {
+      size = k.held.sound.size;
+      whole = k.held.sound.whole;
+      komi = k.held.sound.komi;
+      alive = k.held.sound.alive;
+      legal = λ i m low. let few = ap length none in absurd (omega (arith, low, few));
+    };
+    black_taken = k.held.black_taken;
+    white_taken = k.held.white_taken;
+  };
+  tracked = k.tracked;
+  told = subst (λ (moves : List Move). StandsFor (start.lines * start.lines) history' (stood other_rule start.lines start.colours first moves)) (sym none)
+      (history_begun law (start.lines * start.lines) (square-le start.lines k.held.sound.size.1) history' p (seen_by other_rule (start.colours, first)) begun packs k.held.sound.whole);
+}

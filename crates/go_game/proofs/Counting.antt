@@ -1,4 +1,5 @@
 -- What a move's changes are among those of a game, and what taking it back gives.
+use Rattle.go_game.specs.declared.superko.Superko.{Superko}
 use Rattle.std.proofs.Common.{arith, ◌≡◌, ◌≤◌, ◌+◌, ◌∙◌, ℕ, ℤ, List, [], ◌∷◌, ◌++◌, length, map, refl, sym, ap, ap₂, subst}
 use Rattle.std.proofs.lemmas.List.{append-nil, same_from_push}
 use Rattle.go_board.specs.declared.colour.Colour.{Colour}
@@ -48,11 +49,11 @@ as_many [] plays = refl
 as_many (m ∷ moves) plays = let same = as_many moves (plays_behind m.vertex plays) in omega (arith, same)
 
 -- what contracts see of what a game keeps
-abbrev pub seen : GridValue → ℤ → Colour → List Step → BoardValue → List (List Change) → ℕ → GameValue
-seen start komi first steps b log count = record { standing = standing_of start komi first steps; cells = b.cells; changes = changes_of (map made_of steps) log; count = count }
+abbrev pub seen : Superko → GridValue → ℤ → Colour → List Step → BoardValue → List (List Change) → ℕ → GameValue
+seen rule start komi first steps b log count = record { standing = standing_of rule start komi first steps; cells = b.cells; changes = changes_of (map made_of steps) log; count = count }
 
-module _ (start : GridValue) (komi : ℤ) (first : Colour) (steps : List Step) (b : BoardValue) (log : List (List Change)) (history : HistoryValue) (black white : ℕ)
-    (k : IsKeeping start komi first steps b log history black white) (more : List Step) (s : Step) (is : more ≡ steps ++ s ∷ []) where
+module _ (rule : Superko) (start : GridValue) (komi : ℤ) (first : Colour) (steps : List Step) (b : BoardValue) (log : List (List Change)) (history : HistoryValue) (black white : ℕ)
+    (k : IsKeeping rule start komi first steps b log history black white) (more : List Step) (s : Step) (is : more ≡ steps ++ s ∷ []) where
   all : map made_of more ≡ map made_of steps ++ made_of s ∷ []
   all = ap (λ (xs : List Step). map made_of xs) is ∙ made_push steps s
 
@@ -69,12 +70,12 @@ module _ (start : GridValue) (komi : ℤ) (first : Colour) (steps : List Step) (
       ∙ changes_push start.lines k.tracked.first (map made_of steps) log b.cells (made_of s) (own ∷ []) k.tracked.went
       ∙ ap (λ (v : Vertex). changes_of (map made_of steps) log ++ own_changes v (own ∷ []) ∷ []) at
 
-  pub logged_pass : s.made.vertex ≡ Pass → (count : ℕ) → IsLogged (seen start komi first steps b log count) (seen start komi first more b log count) 0
+  pub logged_pass : s.made.vertex ≡ Pass → (count : ℕ) → IsLogged (seen rule start komi first steps b log count) (seen rule start komi first more b log count) 0
   logged_pass pass count = record { own = []; gained = changes_pass pass; back = refl; few = omega arith; ticked = omega arith }
 
   pub logged_put : (p : Point) → s.made.vertex ≡ At p → (b' : BoardValue) (log' : List (List Change)) (most most' count count' : ℕ) → PlayLogged b.cells b'.cells log log' most → most ≡ most'
       → ((own : List Change) → log' ≡ log ++ own ∷ [] → count + length own ≤ count')
-      → IsLogged (seen start komi first steps b log count) (seen start komi first more b' log' count') most'
+      → IsLogged (seen rule start komi first steps b log count) (seen rule start komi first more b' log' count') most'
   logged_put p at b' log' most most' count count' logged is_most ticked = record {
     own = logged.changes;
     gained = changes_put p at log' logged.changes logged.gained;
@@ -84,11 +85,11 @@ module _ (start : GridValue) (komi : ℤ) (first : Colour) (steps : List Step) (
   }
 
   -- the move taken back again
-  pub taken_back_pass : s.made.vertex ≡ Pass → (count : ℕ) → IsTakenBack (seen start komi first more b log count) (seen start komi first steps b log count)
+  pub taken_back_pass : s.made.vertex ≡ Pass → (count : ℕ) → IsTakenBack (seen rule start komi first more b log count) (seen rule start komi first steps b log count)
   taken_back_pass pass count = record { own = []; lost = changes_pass pass; cells = refl; count = omega arith }
 
   pub taken_back_put : (p : Point) → s.made.vertex ≡ At p → (b' : BoardValue) (log' : List (List Change)) (own : List Change) (count count' : ℕ) → log' ≡ log ++ own ∷ [] → b.cells ≡ rewound b'.cells own → count' ≡ count + length own
-      → IsTakenBack (seen start komi first more b' log' count) (seen start komi first steps b log count')
+      → IsTakenBack (seen rule start komi first more b' log' count) (seen rule start komi first steps b log count')
   taken_back_put p at b' log' own count count' gained cells ticks = record { own = own; lost = changes_put p at log' own gained; cells = cells; count = ticks }
 
 -- a move played and taken back

@@ -1,4 +1,5 @@
 -- What the board of a game says, by the game's standing.
+use Rattle.go_game.specs.declared.superko.Superko.{Superko}
 use Rattle.std.proofs.Common.{◌≡◌, ◌∙◌, ℕ, ℤ, true, cond, List, Option, Some, None, ap, ap₂, map, refl, sym}
 use Rattle.std.specs.Prelude.{is_some, length}
 use Rattle.std.proofs.lemmas.Bool.{false≢true}
@@ -24,9 +25,9 @@ grid_is start moves b log t =
     ap (λ n. colouring_of n b.cells) t.lines ∙ (went_kept start.lines t.first moves log b.cells t.kept t.went).1 ∙ ap (λ (g : Colouring). board start.lines g moves) t.begun
 
 -- what is said by the board's lines and colouring is said by the standing
-pub seen_as : {X : Type 0} (f : ℕ → Colouring → X) (start : GridValue) (komi : ℤ) (first : Colour) (steps : List Step) (b : BoardValue) (log : List (List Change)) (history : HistoryValue) (black white : ℕ)
-    → IsKeeping start komi first steps b log history black white → f b.lines (grid_of b) ≡ f start.lines (board start.lines start.colours (map made_of steps))
-seen_as f start komi first steps b log history black white k = ap₂ f k.tracked.lines (grid_is start (map made_of steps) b log k.tracked)
+pub seen_as : {X : Type 0} (f : ℕ → Colouring → X) (rule : Superko) (start : GridValue) (komi : ℤ) (first : Colour) (steps : List Step) (b : BoardValue) (log : List (List Change)) (history : HistoryValue) (black white : ℕ)
+    → IsKeeping rule start komi first steps b log history black white → f b.lines (grid_of b) ≡ f start.lines (board start.lines start.colours (map made_of steps))
+seen_as f rule start komi first steps b log history black white k = ap₂ f k.tracked.lines (grid_is start (map made_of steps) b log k.tracked)
 
 pub some_of : (o : Option Colour) → is_some o ≡ true → (x : Colour) × (o ≡ Some x)
 some_of None e = absurd (false≢true e)

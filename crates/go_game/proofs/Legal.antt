@@ -15,8 +15,8 @@ use Rattle.go_board.specs.declared.vertex.Vertex.TheVariants.{Pass, At}
 use Rattle.go_board.specs.Colours.{Colouring, colour_at}
 use Rattle.go_board.specs.Points.{IsOn, number_of}
 use Rattle.go_board.specs.Reaching.{has_colour, is_same, moved}
-use Rattle.go_game.specs.Standings.{Standing, IsLegal, IsOccupied, IsOffBoard, Repeats, board_of, positions_of}
-use Rattle.go_game.specs.Legal.{same_colours, has_stood, is_open, is_repeat, is_legal}
+use Rattle.go_game.specs.Standings.{Seen, Standing, IsLegal, IsOccupied, IsOffBoard, Repeats, board_of, seen_after, stood_of}
+use Rattle.go_game.specs.Legal.{same_colours, same_seen, has_stood, is_open, is_repeat, is_legal}
 
 same_is : (a b : Option Colour) → is_same a b ≡ true → a ≡ b
 same_is None None e = refl
@@ -46,7 +46,15 @@ pub same_colours_self : (g : Colouring) → same_colours g g ≡ true
 same_colours_self [] = refl
 same_colours_self (a ∷ g) = ap₂ (λ x y. x && y) (is_same_self a) (same_colours_self g)
 
-any_here : (b : Bool) (g : Colouring) (gs : List Colouring) (rest : Bool) → b ≡ true → (b || rest) ≡ true
+pub seen_same : (x y : Seen) → same_seen x y ≡ true → x ≡ y
+seen_same x y e =
+    let two = both (same_colours x.0 y.0) (is_same x.1 y.1) e in
+    ap₂ (λ (g : Colouring) (c : Option Colour). let seen : Seen = (g, c) in seen) (colours_same x.0 y.0 two.0) (same_is x.1 y.1 two.1)
+
+pub same_seen_self : (x : Seen) → same_seen x x ≡ true
+same_seen_self x = ap₂ (λ a b. a && b) (same_colours_self x.0) (is_same_self x.1)
+
+any_here : (b : Bool) (g : Seen) (gs : List Seen) (rest : Bool) → b ≡ true → (b || rest) ≡ true
 any_here true g gs rest e = refl
 any_here false g gs rest e = cc
 
@@ -54,13 +62,13 @@ or_true : (a b : Bool) → b ≡ true → (a || b) ≡ true
 or_true true b e = refl
 or_true false b e = e
 
-any_at : (g : Colouring) (gs : List Colouring) (k : ℕ) → k < length gs → slice_index_or gs k [] ≡ g → list_any (same_colours g) gs ≡ true
+any_at : (g : Seen) (gs : List Seen) (k : ℕ) → k < length gs → slice_index_or gs k ([], None) ≡ g → list_any (same_seen g) gs ≡ true
 any_at g [] k l e = absurd (omega arith)
-any_at g (h ∷ gs) zero l e = any_here (same_colours g h) g gs (list_any (same_colours g) gs) (ap (same_colours g) e ∙ same_colours_self g)
-any_at g (h ∷ gs) (suc k) l e = or_true (same_colours g h) (list_any (same_colours g) gs) (any_at g gs k (omega arith) e)
+any_at g (h ∷ gs) zero l e = any_here (same_seen g h) g gs (list_any (same_seen g) gs) (ap (same_seen g) e ∙ same_seen_self g)
+any_at g (h ∷ gs) (suc k) l e = or_true (same_seen g h) (list_any (same_seen g) gs) (any_at g gs k (omega arith) e)
 
-not_stood : (s : Standing) (g : Colouring) (b : Bool) → has_stood s g ≡ b → (Contains (positions_of s) g → ⊥) → b ≡ false
-not_stood s g true e h = absurd (h (Contains-from_any colours_same g (positions_of s) e))
+not_stood : (s : Standing) (g : Seen) (b : Bool) → has_stood s g ≡ b → (Contains (stood_of s) g → ⊥) → b ≡ false
+not_stood s g true e h = absurd (h (Contains-from_any seen_same g (stood_of s) e))
 not_stood s g false e h = refl
 
 open_here : (s : Standing) (p : Point) → IsOn s.lines p → colour_at (board_of s) (number_of s.lines p) ≡ None → is_open s (At p) ≡ true
@@ -73,7 +81,7 @@ open_here s p on empty = ap (λ c. (nat_lt p.col s.lines && nat_lt p.row s.lines
 pub legal_passes : (s : Standing) (c : Colour) (v : Vertex) → IsLegal s c v → is_legal s c v ≡ true
 legal_passes s c Pass h = refl
 legal_passes s c (At p) h =
-    ap₂ (λ a b. a && not b) (open_here s p h.0 h.1) (not_stood s (moved s.lines (board_of s) c (number_of s.lines p)) _ refl h.2)
+    ap₂ (λ a b. a && not b) (open_here s p h.0 h.1) (not_stood s (seen_after s c (number_of s.lines p)) _ refl h.2)
 
 on_or_off : (a b n : ℕ) → ((a < n) × (b < n) × ((nat_lt a n && nat_lt b n) ≡ true)) ⊎ (((a < n) × (b < n) → ⊥) × ((nat_lt a n && nat_lt b n) ≡ false))
 on_or_off a b n = on_at (nat_lt a n) (nat_lt b n) refl refl
@@ -114,7 +122,7 @@ occupied_fails s c (At p) h = held_at (none_or_some (colour_at (board_of s) (num
 pub repeat_fails : (s : Standing) (c : Colour) (v : Vertex) (k : ℕ) → Repeats s c v k → is_legal s c v ≡ false
 repeat_fails s c Pass k h = absurd h
 repeat_fails s c (At p) k h =
-    ap (λ b. is_open s (At p) && not b) (any_at (moved s.lines (board_of s) c (number_of s.lines p)) (positions_of s) k h.0 h.1) ∙ and_false (is_open s (At p))
+    ap (λ b. is_open s (At p) && not b) (any_at (seen_after s c (number_of s.lines p)) (stood_of s) k h.0 h.1) ∙ and_false (is_open s (At p))
   where
     and_false : (b : Bool) → (b && false) ≡ false
     and_false true = refl
@@ -138,11 +146,11 @@ passes_legal s c (At p) e =
     let parts = both (is_open s (At p)) (not (is_repeat s c (At p))) e in
     let empty = both (nat_lt p.col s.lines && nat_lt p.row s.lines) (has_colour (board_of s) (number_of s.lines p) None) parts.0 in
     let on = both (nat_lt p.col s.lines) (nat_lt p.row s.lines) empty.0 in
-    let g = moved s.lines (board_of s) c (number_of s.lines p) in (
+    let x = seen_after s c (number_of s.lines p) in (
       (ltb-true p.col s.lines on.0, ltb-true p.row s.lines on.1),
       same_is (colour_at (board_of s) (number_of s.lines p)) None empty.1,
       λ found.
-          let stood = any_at g (positions_of s) found.0 found.1 (get_or_default (positions_of s) found.0 [] g found.1 ∙ found.2) in
+          let stood = any_at x (stood_of s) found.0 found.1 (get_or_default (stood_of s) found.0 ([], None) x found.1 ∙ found.2) in
           let wrong : false ≡ true = sym (ap not stood) ∙ parts.1 in
           cc,
     )

@@ -17,3 +17,4 @@ pub mod Turns
 pub mod Puts
 pub mod Undoing
 pub mod Counting
+pub mod Rules

@@ -8,16 +8,18 @@ use Rattle.go_board.specs.declared.colour.Colour.TheVariants.{Black, White}
 use Rattle.go_board.specs.declared.vertex.Move.{Move}
 use Rattle.go_board.specs.Colours.{Colouring, other}
 use Rattle.go_game.specs.declared.step.Step.{Step}
-use Rattle.go_game.specs.Standings.{IsLegal, IsSound, after_move, after_vertex, board, mover_after, positions}
+use Rattle.go_game.specs.declared.superko.Superko.{Superko}
+use Rattle.go_game.specs.Standings.{IsLegal, IsSound, after_move, after_vertex, board, mover_after}
 use Rattle.go_game.specs.Playing.{prisoners_from, taken_by}
 use Rattle.go_game.specs.Prisoners.{share_of}
 use Rattle.go_board.specs.declared.size.TheConstants.{MAX_LINES, MAX_POINTS}
 use Rattle.go_board.specs.declared.vertex.Vertex.{Vertex}
 use Rattle.go_board.specs.declared.vertex.Vertex.TheVariants.{Pass, At}
 use Rattle.go_board.specs.Points.{number_of}
-use Rattle.go_board.specs.Reaching.{has_colour, moved, points, stones, vanished}
+use Rattle.go_board.specs.Reaching.{after_clearing, cleared, has_colour, moved, points, stones, vanished}
 use Rattle.std.proofs.lemmas.List.Sums.{count_by-le-length}
-use Rattle.std.proofs.lemmas.List.FromFn.{length-range_with_len}
+use Rattle.std.specs.Prelude.{slice_set}
+use Rattle.std.proofs.lemmas.List.FromFn.{length-map-range_with_len, length-range_with_len}
 use Rattle.std.proofs.Math.ListN.{set}
 use Rattle.go_board.specs.Grids.{GridValue}
 use Rattle.go_game.specs.Held.{ArePlayed, IsHeld, IsPlayed, made_of, standing_of}
@@ -65,11 +67,11 @@ mover_last first steps s last =
     sym (mover_push first (map made_of split.0) (made_of s)) ∙ ap (mover_after first) (sym (made_push split.0 s)) ∙ ap (λ (xs : List Step). mover_after first (map made_of xs)) (sym split.1)
 
 -- taking the last step off leaves what was held before it, and what it took is among the prisoners
-pub held_front : (start : GridValue) (komi : ℤ) (first : Colour) (steps front : List Step) (s : Step) (black white black' white' : ℕ)
-    → steps ≡ front ++ s ∷ [] → IsHeld start komi first steps black white
+pub held_front : (rule : Superko) (start : GridValue) (komi : ℤ) (first : Colour) (steps front : List Step) (s : Step) (black white black' white' : ℕ)
+    → steps ≡ front ++ s ∷ [] → IsHeld rule start komi first steps black white
     → black ≡ black' + share_of s.made.colour s.taken Black → white ≡ white' + share_of s.made.colour s.taken White
-    → IsHeld start komi first front black' white'
-held_front start komi first steps front s black white black' white' is held less_black less_white =
+    → IsHeld rule start komi first front black' white'
+held_front rule start komi first steps front s black white black' white' is held less_black less_white =
     let moves = map made_of front in
     let all : map made_of steps ≡ moves ++ made_of s ∷ [] = ap (λ (xs : List Step). map made_of xs) is ∙ made_push front s in
     let parts = played_front start.lines start.colours front s (subst (ArePlayed start.lines start.colours) is held.played) in
@@ -77,15 +79,15 @@ held_front start komi first steps front s black white black' white' is held less
     let w = held.white_taken ∙ ap (λ (ms : List Move). prisoners_from start.lines start.colours ms White) all ∙ prisoners_push start.lines start.colours moves (made_of s) White in
     record {
       played = parts.0;
-      sound = sound_front (standing_of start komi first front) moves (made_of s) (subst (λ (ms : List Move). IsSound (record (standing_of start komi first front) { moves = ms })) all held.sound);
+      sound = sound_front (standing_of rule start komi first front) moves (made_of s) (subst (λ (ms : List Move). IsSound (record (standing_of rule start komi first front) { moves = ms })) all held.sound);
       black_taken = omega (arith, b, parts.1.taken Black, less_black);
       white_taken = omega (arith, w, parts.1.taken White, less_white);
     }
 
-pub share_held : (start : GridValue) (komi : ℤ) (first : Colour) (steps front : List Step) (s : Step) (black white : ℕ)
-    → steps ≡ front ++ s ∷ [] → IsHeld start komi first steps black white
+pub share_held : (rule : Superko) (start : GridValue) (komi : ℤ) (first : Colour) (steps front : List Step) (s : Step) (black white : ℕ)
+    → steps ≡ front ++ s ∷ [] → IsHeld rule start komi first steps black white
     → (share_of s.made.colour s.taken Black ≤ black) × (share_of s.made.colour s.taken White ≤ white)
-share_held start komi first steps front s black white is held =
+share_held rule start komi first steps front s black white is held =
     let moves = map made_of front in
     let all : map made_of steps ≡ moves ++ made_of s ∷ [] = ap (λ (xs : List Step). map made_of xs) is ∙ made_push front s in
     let parts = played_front start.lines start.colours front s (subst (ArePlayed start.lines start.colours) is held.played) in
@@ -93,9 +95,10 @@ share_held start komi first steps front s black white is held =
     let w = held.white_taken ∙ ap (λ (ms : List Move). prisoners_from start.lines start.colours ms White) all ∙ prisoners_push start.lines start.colours moves (made_of s) White in
     (omega (arith, b, parts.1.taken Black), omega (arith, w, parts.1.taken White))
 
-pub length-positions : (n : ℕ) (g : Colouring) (moves : List Move) → length (positions n g moves) ≡ length moves + 1
-length-positions n g [] = refl
-length-positions n g (m ∷ moves) = let rest = length-positions n (after_move n g m) moves in omega (arith, rest)
+-- what a move leaves has a value for each point
+pub length-moved : (n : ℕ) (g : Colouring) (c : Colour) (p : ℕ) → length (moved n g c p) ≡ n * n
+unfolding moved cleared
+length-moved n g c p = length-map-range_with_len (after_clearing n (cleared n (slice_set g p (Some c)) (other c)) c) 0 (n * n)
 
 pub same_grid : (a b : GridValue) → a.lines ≡ b.lines → a.colours ≡ b.colours → a ≡ b
 same_grid a b lines colours = ap₂ (λ (n : ℕ) (g : Colouring). let grid : GridValue = record { lines = n; colours = g } in grid) lines colours
@@ -124,10 +127,10 @@ prisoners_le law n g (m ∷ moves) of =
     omega (arith, rest, first)
 
 -- the counters have room for what one more step takes
-pub room_held : TakenAndLeft → (start : GridValue) (komi : ℤ) (first : Colour) (steps : List Step) (s : Step) (black white : ℕ)
-    → IsHeld start komi first steps black white → length (map made_of steps) < 2 ^ 63 → IsPlayed start.lines (board start.lines start.colours (map made_of steps)) s
+pub room_held : TakenAndLeft → (rule : Superko) (start : GridValue) (komi : ℤ) (first : Colour) (steps : List Step) (s : Step) (black white : ℕ)
+    → IsHeld rule start komi first steps black white → length (map made_of steps) < 2 ^ 63 → IsPlayed start.lines (board start.lines start.colours (map made_of steps)) s
     → (black + share_of s.made.colour s.taken Black < 2 ^ 64) × (white + share_of s.made.colour s.taken White < 2 ^ 64)
-room_held law start komi first steps s black white held few played =
+room_held law rule start komi first steps s black white held few played =
     let small : start.lines ≤ MAX_LINES = held.sound.size.1 in
     let n = start.lines in
     let square = square-le n small in
@@ -143,19 +146,19 @@ room_held law start komi first steps s black white held few played =
     (omega (arith, held.black_taken, b, gb, nb, played.taken Black, tb, few, square), omega (arith, held.white_taken, w, gw, nw, played.taken White, tw, few, square))
 
 -- what is held with one more step
-pub held_push : (start : GridValue) (komi : ℤ) (first : Colour) (steps more : List Step) (s : Step) (black white black' white' : ℕ)
-    → more ≡ steps ++ s ∷ [] → IsHeld start komi first steps black white
-    → IsPlayed start.lines (board start.lines start.colours (map made_of steps)) s → IsLegal (standing_of start komi first steps) s.made.colour s.made.vertex
+pub held_push : (rule : Superko) (start : GridValue) (komi : ℤ) (first : Colour) (steps more : List Step) (s : Step) (black white black' white' : ℕ)
+    → more ≡ steps ++ s ∷ [] → IsHeld rule start komi first steps black white
+    → IsPlayed start.lines (board start.lines start.colours (map made_of steps)) s → IsLegal (standing_of rule start komi first steps) s.made.colour s.made.vertex
     → black' ≡ black + share_of s.made.colour s.taken Black → white' ≡ white + share_of s.made.colour s.taken White
-    → IsHeld start komi first more black' white'
-held_push start komi first steps more s black white black' white' is held played legal more_black more_white =
+    → IsHeld rule start komi first more black' white'
+held_push rule start komi first steps more s black white black' white' is held played legal more_black more_white =
     let moves = map made_of steps in
     let all : map made_of more ≡ moves ++ made_of s ∷ [] = ap (λ (xs : List Step). map made_of xs) is ∙ made_push steps s in
     let b = ap (λ (ms : List Move). prisoners_from start.lines start.colours ms Black) all ∙ prisoners_push start.lines start.colours moves (made_of s) Black in
     let w = ap (λ (ms : List Move). prisoners_from start.lines start.colours ms White) all ∙ prisoners_push start.lines start.colours moves (made_of s) White in
     record {
       played = subst (ArePlayed start.lines start.colours) (sym is) (played_push start.lines start.colours steps s held.played played);
-      sound = subst (λ (ms : List Move). IsSound (record (standing_of start komi first steps) { moves = ms })) (sym all) (sound_more (standing_of start komi first steps) (made_of s) held.sound legal);
+      sound = subst (λ (ms : List Move). IsSound (record (standing_of rule start komi first steps) { moves = ms })) (sym all) (sound_more (standing_of rule start komi first steps) (made_of s) held.sound legal);
       black_taken = omega (arith, b, held.black_taken, played.taken Black, more_black);
       white_taken = omega (arith, w, held.white_taken, played.taken White, more_white);
     }

@@ -1,12 +1,11 @@
 -- What a play on the board of a game tells of the game's standing.
-use Rattle.std.specs.Prelude.{Contains, slice_set}
+use Rattle.std.specs.Prelude.{slice_set}
 use Rattle.std.specs.Prelude.{Result, Ok, Err, IsErrOf}
 use Rattle.go_chains.specs.declared.errors.PlaceError.{PlaceError}
 use Rattle.go_chains.specs.declared.errors.PlaceError.TheVariants.{Memory, Occupied}
 use Rattle.go_game.specs.declared.errors.PlayError.{PlayError}
 use Rattle.go_game.specs.declared.errors.PlayError.TheVariants as error
 use Rattle.std.proofs.Common.{◌≡◌, ◌≢◌, ◌*◌, ◌∙◌, ◌⊎◌, ◌↔◌, inl, inr, ℕ, ℤ, List, Option, Some, None, length, map, refl, sym, ap, subst}
-use Rattle.std.proofs.lemmas.List.FromFn.{length-map-range_with_len}
 use Rattle.go_board.specs.declared.colour.Colour.{Colour}
 use Rattle.go_board.specs.declared.colour.Colour.TheVariants.{Black, White}
 use Rattle.go_board.specs.declared.point.Point.{Point}
@@ -15,25 +14,25 @@ use Rattle.go_board.specs.declared.vertex.Vertex.TheVariants.{At}
 use Rattle.go_board.specs.Colours.{Colouring, colour_at, other}
 use Rattle.go_board.specs.Grids.{GridValue}
 use Rattle.go_board.specs.Points.{IsOn, number_of}
-use Rattle.go_board.specs.Reaching.{after_clearing, cleared, moved, vanished}
+use Rattle.go_board.specs.Packs.{packed_of}
+use Rattle.go_board.specs.PackBytes.{bytes_of}
+use Rattle.go_board.specs.Reaching.{moved, vanished}
 use Rattle.go_chains.specs.declared.log.Change.{Change}
 use Rattle.go_chains.specs.Playing.{most_of}
 use Rattle.go_chains.specs.Sound.{BoardValue, IsStoneOf, grid_of}
-use Rattle.go_history.specs.Histories.{HistoryValue}
+use Rattle.go_history.specs.declared.key.Key.{Key}
+use Rattle.go_history.specs.Histories.{HistoryValue, number_at}
+use Rattle.go_game.specs.declared.superko.Superko.{Superko}
 use Rattle.go_game.specs.declared.step.Step.{Step}
 use Rattle.go_game.specs.Held.{IsKeeping, IsPlayed, made_of, standing_of}
-use Rattle.go_game.specs.Histories.{KnowsAt, Lacks}
+use Rattle.go_game.specs.Histories.{IsKeyOf}
 use Rattle.go_game.specs.Playing.{taken_by}
 use Rattle.go_game.specs.Prisoners.{share_of}
-use Rattle.go_game.specs.Standings.{IsFirstAt, IsLegal, Repeats, board, positions_of}
+use Rattle.go_game.specs.Standings.{IsLegal, Repeats, board, mover_by, seen_after, stood_of}
+use Rattle.go_game.proofs.Played.{length-moved}
 use Rattle.go_game.proofs.Keeping.{seen_as}
 use Rattle.go_game.proofs.Remembered.{history_found, history_lacks}
 use Rattle.go_game.proofs.Turns.{placed}
-
--- what a move leaves has a value for each point
-pub length-moved : (n : ℕ) (g : Colouring) (c : Colour) (p : ℕ) → length (moved n g c p) ≡ n * n
-unfolding moved cleared
-length-moved n g c p = length-map-range_with_len (after_clearing n (cleared n (slice_set g p (Some c)) (other c)) c) 0 (n * n)
 
 pub stone_some : (v w : Option Colour) → v ≡ w → ((c : Colour) × (v ≡ Some c)) → w ≢ None
 stone_some v w same stone none = absurd (let e : Some stone.0 ≡ None = sym stone.1 ∙ same ∙ none in cc)
@@ -52,42 +51,40 @@ share_is Black t n before after theirs own White = theirs
 share_is White t n before after theirs own Black = theirs
 share_is White t n before after theirs own White = own
 
-module _ (start : GridValue) (komi : ℤ) (first : Colour) (steps : List Step) (b : BoardValue) (log : List (List Change)) (history : HistoryValue) (black white : ℕ)
-    (k : IsKeeping start komi first steps b log history black white) (c : Colour) (p : Point) where
+module _ (rule : Superko) (start : GridValue) (komi : ℤ) (first : Colour) (steps : List Step) (b : BoardValue) (log : List (List Change)) (history : HistoryValue) (black white : ℕ)
+    (k : IsKeeping rule start komi first steps b log history black white) (c : Colour) (p : Point) where
   abbrev pub now : Colouring
   now = board start.lines start.colours (map made_of steps)
 
   pub colour_is : colour_at (grid_of b) (number_of b.lines p) ≡ colour_at now (number_of start.lines p)
-  colour_is = let f : ℕ → Colouring → Option Colour = λ m g. colour_at g (number_of m p) in seen_as f start komi first steps b log history black white k
+  colour_is = let f : ℕ → Colouring → Option Colour = λ m g. colour_at g (number_of m p) in seen_as f rule start komi first steps b log history black white k
 
   pub moved_is : moved b.lines (grid_of b) c (number_of b.lines p) ≡ moved start.lines now c (number_of start.lines p)
-  moved_is = let f : ℕ → Colouring → Colouring = λ m g. moved m g c (number_of m p) in seen_as f start komi first steps b log history black white k
+  moved_is = let f : ℕ → Colouring → Colouring = λ m g. moved m g c (number_of m p) in seen_as f rule start komi first steps b log history black white k
 
   pub most_is : most_of b.lines (grid_of b) c (number_of b.lines p) ≡ most_of start.lines now c (number_of start.lines p)
-  most_is = let f : ℕ → Colouring → ℕ = λ m g. most_of m g c (number_of m p) in seen_as f start komi first steps b log history black white k
+  most_is = let f : ℕ → Colouring → ℕ = λ m g. most_of m g c (number_of m p) in seen_as f rule start komi first steps b log history black white k
 
   module _ (b' : BoardValue) (moved_to : grid_of b' ≡ moved b.lines (grid_of b) c (number_of b.lines p)) where
     then_is : grid_of b' ≡ moved start.lines now c (number_of start.lines p)
     then_is = moved_to ∙ moved_is
 
-    whole : length (grid_of b') ≡ start.lines * start.lines
-    whole = ap length then_is ∙ length-moved start.lines now c (number_of start.lines p)
+    module _ (key : Key) (packs : bytes_of key.pack ≡ packed_of (grid_of b')) (mover : key.mover ≡ mover_by rule (other c)) where
+      key_is : IsKeyOf key (seen_after (standing_of rule start komi first steps) c (number_of start.lines p))
+      key_is = (packs ∙ ap packed_of then_is, mover)
 
-    pub whole_put : b'.lines ≡ b.lines → length (grid_of b') ≡ b'.lines * b'.lines
-    whole_put lines = whole ∙ ap (λ m. let j : ℕ = m * m in j) (sym (lines ∙ k.tracked.lines))
+      pub legal_put : IsOn start.lines p → (IsStoneOf (grid_of b) (number_of b.lines p) → ⊥) → number_at history key ≡ None → IsLegal (standing_of rule start komi first steps) c (At p)
+      legal_put on free lacked = (
+        on,
+        sym colour_is ∙ none_of (colour_at (grid_of b) (number_of b.lines p)) free,
+        history_lacks (start.lines * start.lines) history (stood_of (standing_of rule start komi first steps)) key (seen_after (standing_of rule start komi first steps) c (number_of start.lines p))
+            k.told key_is (length-moved start.lines now c (number_of start.lines p)) lacked,
+      )
 
-    pub legal_put : IsOn start.lines p → (IsStoneOf (grid_of b) (number_of b.lines p) → ⊥) → Lacks history (grid_of b') → IsLegal (standing_of start komi first steps) c (At p)
-    legal_put on free lacked = (
-      on,
-      sym colour_is ∙ none_of (colour_at (grid_of b) (number_of b.lines p)) free,
-      λ has. history_lacks (start.lines * start.lines) history (positions_of (standing_of start komi first steps)) lacked.0 (grid_of b') k.told lacked.1 whole lacked.2
-          (subst (λ (g : Colouring). Contains (positions_of (standing_of start komi first steps)) g) (sym then_is) has),
-    )
-
-    pub repeats_put : (j : ℕ) → KnowsAt history (grid_of b') j → Repeats (standing_of start komi first steps) c (At p) j
-    repeats_put j known =
-        subst (λ (g : Colouring). IsFirstAt (positions_of (standing_of start komi first steps)) g j) then_is
-        (history_found (start.lines * start.lines) history (positions_of (standing_of start komi first steps)) known.0 (grid_of b') j k.told known.1 whole known.2)
+      pub repeats_put : (j : ℕ) → number_at history key ≡ Some j → Repeats (standing_of rule start komi first steps) c (At p) j
+      repeats_put j known =
+          history_found (start.lines * start.lines) history (stood_of (standing_of rule start komi first steps)) key (seen_after (standing_of rule start komi first steps) c (number_of start.lines p)) j
+          k.told key_is (length-moved start.lines now c (number_of start.lines p)) known
 
     pub taken_put : (t : Taken) → t.theirs ≡ vanished b.lines (slice_set (grid_of b) (number_of b.lines p) (Some c)) (grid_of b') (other c)
         → t.own ≡ vanished b.lines (slice_set (grid_of b) (number_of b.lines p) (Some c)) (grid_of b') c → (of : Colour) → share_of c t of ≡ taken_by start.lines now c (At p) of
@@ -95,7 +92,7 @@ module _ (start : GridValue) (komi : ℤ) (first : Colour) (steps : List Step) (
         let f : ℕ → Colouring → ℕ = λ m g. vanished m (slice_set g (number_of m p) (Some c)) (moved m g c (number_of m p)) of in
         share_is c t b.lines (slice_set (grid_of b) (number_of b.lines p) (Some c)) (grid_of b') theirs own of
         ∙ ap (λ (g : Colouring). vanished b.lines (slice_set (grid_of b) (number_of b.lines p) (Some c)) g of) moved_to
-        ∙ seen_as f start komi first steps b log history black white k
+        ∙ seen_as f rule start komi first steps b log history black white k
 
     pub played_put : (t : Taken) → t.theirs ≡ vanished b.lines (slice_set (grid_of b) (number_of b.lines p) (Some c)) (grid_of b') (other c)
         → t.own ≡ vanished b.lines (slice_set (grid_of b) (number_of b.lines p) (Some c)) (grid_of b') c → IsOn start.lines p → (IsStoneOf (grid_of b) (number_of b.lines p) → ⊥)

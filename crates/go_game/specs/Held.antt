@@ -13,8 +13,9 @@ use Rattle.go_chains.specs.declared.log.Change.{Change}
 use Rattle.go_chains.specs.Sound.{BoardValue, IsKept, colouring_of}
 use Rattle.go_history.specs.Histories.{HistoryValue}
 use Rattle.go_game.specs.declared.step.Step.{Step}
+use Rattle.go_game.specs.declared.superko.Superko.{Superko}
 use Rattle.go_game.specs.Histories.{StandsFor}
-use Rattle.go_game.specs.Standings.{IsSound, Standing, after_move, positions_of}
+use Rattle.go_game.specs.Standings.{IsSound, Standing, after_move, stood_of}
 use Rattle.go_game.specs.Prisoners.{share_of}
 use Rattle.go_game.specs.Playing.{prisoners_of, taken_by}
 use Rattle.go_game.specs.Trails.{WentThrough}
@@ -38,8 +39,8 @@ ArePlayed n g [] = Unit {0}
 ArePlayed n g (s ∷ steps) = IsPlayed n g s × ArePlayed n (after_move n g s.made) steps
 
 -- the standing of a start and the steps
-abbrev pub standing_of : GridValue → ℤ → Colour → List Step → Standing
-standing_of start komi first steps = record { lines = start.lines; komi = komi; start = start.colours; first = first; moves = map made_of steps }
+abbrev pub standing_of : Superko → GridValue → ℤ → Colour → List Step → Standing
+standing_of rule start komi first steps = record { lines = start.lines; komi = komi; rule = rule; start = start.colours; first = first; moves = map made_of steps }
 
 -- the board went through the moves from cells that say the start
 pub record IsTracked (start : GridValue) (moves : List Move) (board : BoardValue) (log : List (List Change)) : Type 0 where
@@ -50,14 +51,14 @@ pub record IsTracked (start : GridValue) (moves : List Move) (board : BoardValue
   pub went : WentThrough start.lines first moves log board.cells
 
 -- the steps are those of a sound standing, and the counts are its prisoners
-pub record IsHeld (start : GridValue) (komi : ℤ) (first : Colour) (steps : List Step) (black white : ℕ) : Type 0 where
+pub record IsHeld (rule : Superko) (start : GridValue) (komi : ℤ) (first : Colour) (steps : List Step) (black white : ℕ) : Type 0 where
   pub played : ArePlayed start.lines start.colours steps
-  pub sound : IsSound (standing_of start komi first steps)
-  pub black_taken : black ≡ prisoners_of (standing_of start komi first steps) Black
-  pub white_taken : white ≡ prisoners_of (standing_of start komi first steps) White
+  pub sound : IsSound (standing_of rule start komi first steps)
+  pub black_taken : black ≡ prisoners_of (standing_of rule start komi first steps) Black
+  pub white_taken : white ≡ prisoners_of (standing_of rule start komi first steps) White
 
 -- all that a game keeps
-pub record IsKeeping (start : GridValue) (komi : ℤ) (first : Colour) (steps : List Step) (board : BoardValue) (log : List (List Change)) (history : HistoryValue) (black white : ℕ) : Type 0 where
-  pub held : IsHeld start komi first steps black white
+pub record IsKeeping (rule : Superko) (start : GridValue) (komi : ℤ) (first : Colour) (steps : List Step) (board : BoardValue) (log : List (List Change)) (history : HistoryValue) (black white : ℕ) : Type 0 where
+  pub held : IsHeld rule start komi first steps black white
   pub tracked : IsTracked start (map made_of steps) board log
-  pub told : StandsFor (start.lines * start.lines) history (positions_of (standing_of start komi first steps))
+  pub told : StandsFor (start.lines * start.lines) history (stood_of (standing_of rule start komi first steps))

@@ -1,31 +1,23 @@
--- The colourings of a game as its history has them, by their packs.
-use Rattle.std.specs.Prelude.{◌≡◌, ℕ, List, Some, None, length}
-use Rattle.go_board.specs.declared.pack.Packed.{Packed}
-use Rattle.go_board.specs.Colours.{Colouring}
+-- What a game's rule saw, as its history has it, by keys.
+use Rattle.std.specs.Prelude.{◌≡◌, ℕ, List, Option, Some, None, length}
 use Rattle.go_board.specs.PackBytes.{bytes_of}
 use Rattle.go_board.specs.Packs.{packed_of}
-use Rattle.go_history.specs.Histories.{HistoryValue, IsChangedAt, number_at}
+use Rattle.go_history.specs.declared.key.Key.{Key}
+use Rattle.go_history.specs.Histories.{HistoryValue, IsChangedAt, IsUnchanged, number_at}
+use Rattle.go_game.specs.Standings.{Seen}
 use Rattle.go_game.specs.Whole.{first_at}
 
--- the pack of this colouring
-abbrev pub IsPackOf : Packed → Colouring → Type 0
-IsPackOf p g = bytes_of p ≡ packed_of g
+-- the key of what is seen
+abbrev pub IsKeyOf : Key → Seen → Type 0
+IsKeyOf k x = (bytes_of k.pack ≡ packed_of x.0) × (k.mover ≡ x.1)
 
--- the history of these colourings: at the pack of a colouring of n points it has the colouring's first place among them
-abbrev pub StandsFor : ℕ → HistoryValue → List Colouring → Type 0
-StandsFor n h gs = (p : Packed) (g : Colouring) → IsPackOf p g → length g ≡ n → number_at h p ≡ first_at 0 gs g
+-- the history of what was seen: at the key of what is seen of n points it has the first place of it among them
+abbrev pub StandsFor : ℕ → HistoryValue → List Seen → Type 0
+StandsFor n h xs = (k : Key) (x : Seen) → IsKeyOf k x → length x.0 ≡ n → number_at h k ≡ first_at 0 xs x
 
--- the colouring is noted with this number, and nothing else changes
-abbrev pub IsNoted : HistoryValue → HistoryValue → Colouring → ℕ → Type 0
-IsNoted old new g number = (p : Packed) × IsPackOf p g × IsChangedAt old new p (Some number)
-
--- what was noted of the colouring is gone, and nothing else changes
-abbrev pub IsForgotten : HistoryValue → HistoryValue → Colouring → Type 0
-IsForgotten old new g = (p : Packed) × IsPackOf p g × IsChangedAt old new p None
-
--- the history has nothing, or this number, at the colouring's pack
-abbrev pub Lacks : HistoryValue → Colouring → Type 0
-Lacks h g = (p : Packed) × IsPackOf p g × (number_at h p ≡ None)
-
-abbrev pub KnowsAt : HistoryValue → Colouring → ℕ → Type 0
-KnowsAt h g k = (p : Packed) × IsPackOf p g × (number_at h p ≡ Some k)
+-- the key is noted with this number unless it has one already, and nothing else changes
+pub record IsNoted (old new : HistoryValue) (key : Key) (number : ℕ) : Type 0 where
+  pub known : Option ℕ
+  pub found : known ≡ number_at old key
+  pub noted : known ≡ None → IsChangedAt old new key (Some number)
+  pub stood : (k : ℕ) → known ≡ Some k → IsUnchanged old new

@@ -7,27 +7,31 @@ use Rattle.go_board.specs.declared.vertex.Vertex.{Vertex}
 use Rattle.go_board.specs.declared.vertex.Vertex.TheVariants.{Pass, At}
 use Rattle.go_board.specs.Colours.{Colouring}
 use Rattle.go_board.specs.Points.{number_of}
-use Rattle.go_board.specs.Reaching.{has_colour, is_same, moved}
-use Rattle.go_game.specs.Standings.{Standing, board_of, positions_of}
+use Rattle.go_board.specs.Reaching.{has_colour, is_same}
+use Rattle.go_game.specs.Standings.{Seen, Standing, board_of, seen_after, stood_of}
 
 -- whether two colourings are the same
 abbrev pub same_colours : Colouring → Colouring → Bool
 same_colours g h = pointwise is_same g h
 
--- whether a colouring stood before
-abbrev pub has_stood : Standing → Colouring → Bool
-has_stood s g = list_any (same_colours g) (positions_of s)
+-- whether what is seen of two situations is the same
+abbrev pub same_seen : Seen → Seen → Bool
+same_seen x y = same_colours x.0 y.0 && is_same x.1 y.1
+
+-- whether the rule saw it before
+abbrev pub has_stood : Standing → Seen → Bool
+has_stood s x = list_any (same_seen x) (stood_of s)
 
 -- a pass, or an empty point of the board
 abbrev pub is_open : Standing → Vertex → Bool
 is_open s Pass = true
 is_open s (At p) = (nat_lt p.col s.lines && nat_lt p.row s.lines) && has_colour (board_of s) (number_of s.lines p) None
 
--- whether a turn leaves a colouring that stood before; a pass may
+-- whether a turn leaves what the rule saw before; a pass may
 abbrev pub is_repeat : Standing → Colour → Vertex → Bool
 is_repeat s c Pass = false
-is_repeat s c (At p) = has_stood s (moved s.lines (board_of s) c (number_of s.lines p))
+is_repeat s c (At p) = has_stood s (seen_after s c (number_of s.lines p))
 
--- a pass, or a play on an empty point of the board whose colouring didn't stand before
+-- a pass, or a play on an empty point of the board that leaves what the rule didn't see before
 abbrev pub is_legal : Standing → Colour → Vertex → Bool
 is_legal s c v = is_open s v && not (is_repeat s c v)

@@ -1,5 +1,5 @@
 -- What a game stands for: its start and its moves.
-use Rattle.std.specs.Prelude.{◌≡◌, ◌≢◌, ◌<◌, ◌≤◌, ◌-◌, ◌*◌, ◌++◌, ◌&&◌, ◌==◌, ℕ, ℤ, Bool, not, is_some, pos, negsuc, List, [], ◌∷◌, None, IsTrue, Contains, length, replicate, slice_index_or, take}
+use Rattle.std.specs.Prelude.{◌≡◌, ◌≢◌, ◌<◌, ◌≤◌, ◌-◌, ◌*◌, ◌++◌, ◌&&◌, ◌==◌, ℕ, ℤ, Bool, not, is_some, pos, negsuc, List, [], ◌∷◌, Option, Some, None, IsTrue, Contains, length, map, replicate, slice_index_or, take}
 use Rattle.std.specs.Prelude.{◌≤ℤ◌}
 use Rattle.std.specs.List.{list_any}
 use Rattle.go_board.specs.declared.colour.Colour.{Colour}
@@ -13,11 +13,14 @@ use Rattle.go_board.specs.Grids.{GridValue}
 use Rattle.go_board.specs.Points.{IsOn, number_of}
 use Rattle.go_board.specs.Reaching.{moved, reaches}
 use Rattle.go_chains.specs.declared.log.Change.{Change}
+use Rattle.go_game.specs.declared.superko.Superko.{Superko}
+use Rattle.go_game.specs.declared.superko.Superko.TheVariants.{Positional, Situational}
 
--- the size, the komi in hundredths, the colouring and the mover at the start, and the moves
+-- the size, the komi in hundredths, the superko rule, the colouring and the mover at the start, and the moves
 pub record Standing : Type 0 where
   pub lines : ℕ
   pub komi : ℤ
+  pub rule : Superko
   pub start : Colouring
   pub first : Colour
   pub moves : List Move
@@ -72,16 +75,16 @@ abbrev pub first_moves : Standing → ℕ → Standing
 first_moves s k = record s { moves = take k s.moves }
 
 -- no move stands on an empty board, and Black is to move
-abbrev pub IsEmptyStart : Standing → ℕ → ℤ → Type 0
-IsEmptyStart s n komi = s ≡ record { lines = n; komi = komi; start = replicate (n * n) None; first = Black; moves = [] }
+abbrev pub IsEmptyStart : Standing → ℕ → ℤ → Superko → Type 0
+IsEmptyStart s n komi rule = s ≡ record { lines = n; komi = komi; rule = rule; start = replicate (n * n) None; first = Black; moves = [] }
 
 -- neither a stone nor a move stands
 abbrev pub is_vacant : Standing → Bool
 is_vacant s = not (list_any is_some s.start) && length s.moves == 0
 
--- no move stands over the colours of this grid
+-- no move stands over the colours of this grid, and the rule is the positional one
 abbrev pub started : GridValue → Colour → Standing
-started grid first = record { lines = grid.lines; komi = pos 0; start = grid.colours; first = first; moves = [] }
+started grid first = record { lines = grid.lines; komi = pos 0; rule = Positional; start = grid.colours; first = first; moves = [] }
 
 -- the colour that is to move: the other than the last mover's
 abbrev pub mover_after : Colour → List Move → Colour
@@ -90,6 +93,40 @@ mover_after first (m ∷ moves) = mover_after (other m.colour) moves
 
 abbrev pub mover_of : Standing → Colour
 mover_of s = mover_after s.first s.moves
+
+-- a colouring, and the colour that is to move
+abbrev pub Situation : Type 0
+Situation = Colouring × Colour
+
+-- the situation after each number of moves, the start's first
+abbrev pub situations : ℕ → Colouring → Colour → List Move → List Situation
+situations n g c [] = (g, c) ∷ []
+situations n g c (m ∷ moves) = (g, c) ∷ situations n (after_move n g m) (other m.colour) moves
+
+abbrev pub situations_of : Standing → List Situation
+situations_of s = situations s.lines s.start s.first s.moves
+
+-- what a rule sees of a situation: the colouring, and by the situational rule the mover too
+abbrev pub Seen : Type 0
+Seen = Colouring × Option Colour
+
+abbrev pub mover_by : Superko → Colour → Option Colour
+mover_by Positional c = None
+mover_by Situational c = Some c
+
+abbrev pub seen_by : Superko → Situation → Seen
+seen_by rule x = (x.0, mover_by rule x.1)
+
+-- what the rule saw after each number of moves
+abbrev pub stood : Superko → ℕ → Colouring → Colour → List Move → List Seen
+stood rule n g c moves = map (seen_by rule) (situations n g c moves)
+
+abbrev pub stood_of : Standing → List Seen
+stood_of s = stood s.rule s.lines s.start s.first s.moves
+
+-- what it would see after a play of this colour: the other one is to move then
+abbrev pub seen_after : Standing → Colour → ℕ → Seen
+seen_after s c p = seen_by s.rule (moved s.lines (board_of s) c p, other c)
 
 -- the point is past the board's edge
 abbrev pub IsOffBoard : Standing → Vertex → Type 0
@@ -101,20 +138,20 @@ abbrev pub IsOccupied : Standing → Vertex → Type 0
 IsOccupied s Pass = ⊥
 IsOccupied s (At p) = IsOn s.lines p × (colour_at (board_of s) (number_of s.lines p) ≢ None)
 
--- the colouring stood after k moves, and not after fewer
-abbrev pub IsFirstAt : List Colouring → Colouring → ℕ → Type 0
-IsFirstAt gs g k = (k < length gs) × (slice_index_or gs k [] ≡ g) × ((j : ℕ) → j < k → slice_index_or gs j [] ≢ g)
+-- what is seen stood after k moves, and not after fewer
+abbrev pub IsFirstAt : List Seen → Seen → ℕ → Type 0
+IsFirstAt xs x k = (k < length xs) × (slice_index_or xs k ([], None) ≡ x) × ((j : ℕ) → j < k → slice_index_or xs j ([], None) ≢ x)
 
--- the play would repeat the colouring that stood first after k moves
+-- the play would repeat what the rule saw first after k moves
 abbrev pub Repeats : Standing → Colour → Vertex → ℕ → Type 0
 Repeats s c Pass k = ⊥
-Repeats s c (At p) k = IsFirstAt (positions_of s) (moved s.lines (board_of s) c (number_of s.lines p)) k
+Repeats s c (At p) k = IsFirstAt (stood_of s) (seen_after s c (number_of s.lines p)) k
 
--- a pass, or a play on an empty point of the board whose colouring didn't stand yet
+-- a pass, or a play on an empty point of the board that leaves what the rule didn't see yet
 abbrev pub IsLegal : Standing → Colour → Vertex → Type 0
 IsLegal s c Pass = Unit {0}
 IsLegal s c (At p) = IsOn s.lines p × (colour_at (board_of s) (number_of s.lines p) ≡ None)
-    × (Contains (positions_of s) (moved s.lines (board_of s) c (number_of s.lines p)) → ⊥)
+    × (Contains (stood_of s) (seen_after s c (number_of s.lines p)) → ⊥)
 
 -- a komi in hundredths of a point: at most 999,999,999.99 either way
 abbrev pub IsKomi : ℤ → Type 0

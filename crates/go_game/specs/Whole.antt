@@ -3,22 +3,22 @@ use Rattle.std.specs.Prelude.{◌+◌, ℕ, List, [], ◌∷◌, Option, Some, N
 use Rattle.go_board.specs.declared.colour.Colour.{Colour}
 use Rattle.go_board.specs.Colours.{Colouring}
 use Rattle.go_board.specs.Chains.{Chain, chains}
-use Rattle.go_game.specs.Legal.{same_colours}
-use Rattle.go_game.specs.Standings.{Standing, board_of, mover_of, positions_of}
+use Rattle.go_game.specs.Legal.{same_seen}
+use Rattle.go_game.specs.Standings.{Seen, Standing, board_of, mover_of, stood_of}
 use Rattle.go_game.specs.Playing.{prisoners_of}
 
--- the place of the first such colouring, counted from k
-abbrev pub first_at : ℕ → List Colouring → Colouring → Option ℕ
-first_at k [] g = None
-first_at k (h ∷ hs) g = if same_colours h g then Some k else first_at (k + 1) hs g
+-- the first place where this was seen, counted from k
+abbrev pub first_at : ℕ → List Seen → Seen → Option ℕ
+first_at k [] x = None
+first_at k (y ∷ ys) x = if same_seen y x then Some k else first_at (k + 1) ys x
 
 -- the colouring, its chains with their liberties, the prisoners, the least number of moves after
--- which each colouring stood, the mover, and the standing itself
+-- which the rule saw each situation, the mover, and the standing itself
 pub record WholeState : Type 0 where
   pub board : Colouring
   pub chains : List Chain
   pub prisoners : Colour → ℕ
-  pub history : Colouring → Option ℕ
+  pub history : Seen → Option ℕ
   pub mover : Colour
   pub standing : Standing
 
@@ -27,7 +27,7 @@ whole_of s = record {
   board = board_of s;
   chains = chains s.lines (board_of s);
   prisoners = prisoners_of s;
-  history = first_at 0 (positions_of s);
+  history = first_at 0 (stood_of s);
   mover = mover_of s;
   standing = s;
 }

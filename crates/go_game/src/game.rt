@@ -2,6 +2,7 @@ ghost use Rattle.std.specs.Prelude.{◌≡◌, ◌<◌, ◌++◌, ◌∷◌, ◌
 
 use crate::prisoners::Prisoners;
 use crate::step::Step;
+use crate::Superko;
 use go_board::laws::packs_tell_colourings_apart;
 use go_board::plain::{areas, is_liberty, same_chain};
 use go_board::{Area, Colour, Grid, Meter, Move, Point, Size};
@@ -13,12 +14,13 @@ use std::marker::Model;
 /// The greatest size of a komi, in hundredths of a point.
 pub const MAX_KOMI: i64 = 99_999_999_999;
 
-/// A game: its start, the komi, and the moves played since. It takes memory as moves are played,
+/// A game: its start, the komi, the superko rule, and the moves played since. It takes memory as moves are played,
 /// from the allocator that it was made with.
 #[derive(Drop)]
 pub struct Game<A: Allocator + Copy> {
     pub(crate) start: Grid,
     pub(crate) komi: i64,
+    pub(crate) superko: Superko,
     pub(crate) first: Colour,
     pub(crate) board: Board,
     pub(crate) log: Log<A>,
@@ -37,14 +39,14 @@ impl<A: Allocator + Copy> Model for Game<A> {
     ghost Value = { GameValue };
 
     ghost view = { λ a. record {
-      standing = standing_of a.start a.komi a.first a.steps.items;
+      standing = standing_of a.superko a.start a.komi a.first a.steps.items;
       cells = a.board.cells;
       changes = changes_of (map made_of a.steps.items) a.log;
       count = a.meter;
     } };
 
-    ghost invariant = { λ a. IsKeeping a.start a.komi a.first a.steps.items a.board a.log
-        a.history a.prisoners.black a.prisoners.white };
+    ghost invariant = { λ a. IsKeeping a.superko a.start a.komi a.first a.steps.items a.board
+        a.log a.history a.prisoners.black a.prisoners.white };
 }
 
 impl<A: Allocator + Copy> Game<A> {
@@ -57,6 +59,7 @@ impl<A: Allocator + Copy> Game<A> {
     ghost use Rattle.go_board.specs.declared.point.Point.{Point};
     ghost use Rattle.go_board.specs.declared.size.TheConstants.{MAX_POINTS};
     ghost use Rattle.go_chains.specs.Sound.{IsKept, colouring_of};
+    ghost use Rattle.go_game.specs.declared.superko.Superko.{Superko};
     ghost use Rattle.go_game.specs.Choices.{liberties_on};
     ghost use Rattle.go_game.specs.Held.{IsPlayed};
     ghost use Rattle.go_game.specs.Prisoners.{share_of};
@@ -64,17 +67,20 @@ impl<A: Allocator + Copy> Game<A> {
     ghost use Rattle.go_game.specs.Scores.{area_of, margin_of};
     ghost use Rattle.go_game.specs.Playing.{prisoners_of, stones_taken};
 
-    /// An empty board, Black to move, komi 0.
+    /// An empty board, Black to move, komi 0, positional superko.
     pub fn new(alloc: A, size: Size) -> Game<A>
-        ensures start { IsEmptyStart result.standing (lines_of size) (pos 0) }
+        ensures start { IsEmptyStart result.standing (lines_of size) (pos 0)
+            Superko.Positional }
         ensures count { result.count ≡ 0 }
     {
         packs_tell_colourings_apart();
         let start = Grid::new(size);
-        let history = History::new(alloc, start.pack());
+        let superko = Superko::Positional;
+        let history = History::new(alloc, superko.key(start.pack(), Colour::Black));
         Game {
             start,
             komi: 0,
+            superko,
             first: Colour::Black,
             board: Board::new(size),
             log: Log::new(alloc),
@@ -111,6 +117,25 @@ impl<A: Allocator + Copy> Game<A> {
         ensures others { self.new ≡ record self.old { standing = self.new.standing } }
     {
         self.komi = komi;
+    }
+
+    /// The superko rule.
+    pub fn superko(&self) -> Superko
+        ensures { result ≡ self.now.standing.rule }
+    {
+        self.superko
+    }
+
+    /// Sets the superko rule, while no move stands. It is no move: undo leaves it. It takes no memory.
+    pub fn set_superko(&mut self, superko: Superko)
+        requires { self.old.standing.moves ≡ [] }
+        ensures rule { self.new.standing ≡ record self.old.standing { rule = superko } }
+        ensures others { self.new ≡ record self.old { standing = self.new.standing } }
+    {
+        packs_tell_colourings_apart();
+        self.superko = superko;
+        let key = superko.key(self.start.pack(), self.first);
+        self.history.restart(key);
     }
 
     /// How many moves stand.
@@ -152,18 +177,19 @@ impl<A: Allocator + Copy> Game<A> {
         self.move_count() == 0 && self.start.is_same_as(&Grid::new(self.size()))
     }
 
-    /// Back to the empty board, Black to move. The komi stays.
+    /// Back to the empty board, Black to move. The komi and the superko rule stay.
     pub fn clear(&mut self)
         ensures start { IsEmptyStart self.new.standing self.old.standing.lines
-            self.old.standing.komi }
+            self.old.standing.komi self.old.standing.rule }
         ensures count { self.new.count ≡ self.old.count }
     {
         self.resize(self.size());
     }
 
-    /// An empty board of this size, Black to move. The komi stays.
+    /// An empty board of this size, Black to move. The komi and the superko rule stay.
     pub fn resize(&mut self, size: Size)
-        ensures start { IsEmptyStart self.new.standing (lines_of size) self.old.standing.komi }
+        ensures start { IsEmptyStart self.new.standing (lines_of size) self.old.standing.komi
+            self.old.standing.rule }
         ensures count { self.new.count ≡ self.old.count }
     {
         packs_tell_colourings_apart();
@@ -173,7 +199,8 @@ impl<A: Allocator + Copy> Game<A> {
         self.board.clear(size);
         self.log = Log::new(alloc);
         self.steps.clear();
-        self.history.restart(self.start.pack());
+        let key = self.superko.key(self.start.pack(), self.first);
+        self.history.restart(key);
         self.prisoners = Prisoners { black: 0, white: 0 };
     }
 

@@ -1,13 +1,18 @@
 //! Laws about what a game stands for, each the contract of a function that does nothing.
-ghost use Rattle.std.specs.Prelude.{◌≡◌, ◌↔◌, IsTrue, List, length};
+ghost use Rattle.std.specs.Prelude.{◌≡◌, ◌↔◌, Contains, IsTrue, List, length};
 ghost use Rattle.go_board.specs.declared.colour.Colour.{Colour};
+ghost use Rattle.go_board.specs.declared.point.Point.{Point};
 ghost use Rattle.go_board.specs.declared.vertex.Move.{Move};
 ghost use Rattle.go_board.specs.declared.vertex.Vertex.{Vertex};
+ghost use Rattle.go_board.specs.Colours.{other};
+ghost use Rattle.go_board.specs.Points.{number_of};
+ghost use Rattle.go_board.specs.Reaching.{moved};
 ghost use Rattle.go_game.specs.Choices.{IsChoice, chosen};
 ghost use Rattle.go_game.specs.Legal.{is_legal};
-ghost use Rattle.go_game.specs.Standings.{IsLegal, Standing, with_moves, without_last};
+ghost use Rattle.go_game.specs.Standings.{IsLegal, Standing, board_of, positions_of, seen_after, situations_of, stood_of, with_moves, without_last};
 ghost use Rattle.go_game.specs.Whole.{whole_of};
 
+use crate::Superko;
 use go_board::laws::points_by_number;
 
 /// Any moves, then as many taken back, leave the standing as it was.
@@ -20,6 +25,20 @@ pub fn moves_taken_back()
 pub fn whole_state_restored()
     ensures { (s : Standing) (moves : List Move)
         → whole_of (without_last (length moves) (with_moves s moves)) ≡ whole_of s }
+{}
+
+/// Under the positional rule what may not come again is a colouring.
+pub fn positional_by_positions()
+    ensures { (s : Standing) (c : Colour) (p : Point) → s.rule ≡ Superko.Positional
+        → Contains (stood_of s) (seen_after s c (number_of s.lines p))
+        ↔ Contains (positions_of s) (moved s.lines (board_of s) c (number_of s.lines p)) }
+{}
+
+/// Under the situational rule it is a colouring together with the colour to move.
+pub fn situational_by_situations()
+    ensures { (s : Standing) (c : Colour) (p : Point) → s.rule ≡ Superko.Situational
+        → Contains (stood_of s) (seen_after s c (number_of s.lines p))
+        ↔ Contains (situations_of s) (moved s.lines (board_of s) c (number_of s.lines p), other c) }
 {}
 
 /// The test whether a move is legal holds exactly where the rules say that it is.

@@ -11,8 +11,10 @@ mod prisoners;
 mod score;
 mod start;
 mod step;
+mod superko;
 
 pub use errors::{PlayError, SetupError};
 pub use game::{Game, MAX_KOMI};
 pub use handicap::{fixed_points, greatest_handicap, stones_on};
 pub use score::{hundredths_text, score_text};
+pub use superko::Superko;

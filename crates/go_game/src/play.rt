@@ -1,13 +1,8 @@
 //! Moves played and taken back.
-ghost use Rattle.std.specs.Prelude.{◌≡◌, ◌<◌, ◌≤◌, ◌++◌, ◌∷◌, ◌*◌, [], ◌↔◌, ℕ, Err, IfErr, IfNone, IfOk, IfSome, List, OnErr, OnOk, Some, None, Contains, ◌+◌, ◌⊎◌, length};
+ghost use Rattle.std.specs.Prelude.{◌≡◌, ◌≤◌, ◌++◌, ◌∷◌, ◌*◌, [], ◌↔◌, ℕ, Err, IfErr, IfNone, IfOk, IfSome, List, OnErr, OnOk, Some, None, Contains, ◌+◌, ◌⊎◌, length};
 ghost use Rattle.go_board.specs.Points.{IsOn};
-ghost use Rattle.go_chains.specs.declared.cells.TheConstants.{COUNT};
-ghost use Rattle.go_chains.specs.declared.log.Change.{Change};
-ghost use Rattle.go_chains.specs.Rewound.{IsRewound, NamesCells, rewound};
-ghost use Rattle.go_chains.specs.Sound.{IsKept, grid_of};
 ghost use Rattle.go_game.specs.Counts.{IsAsBefore, IsLogged, IsTakenBack, most_for};
-ghost use Rattle.go_history.specs.Histories.{IsUnchanged};
-ghost use Rattle.go_game.specs.Histories.{IsForgotten, IsNoted, KnowsAt, Lacks};
+ghost use Rattle.go_history.specs.Histories.{IsChangedAt, IsUnchanged, number_at};
 ghost use Rattle.go_game.specs.Prisoners.{share_of};
 ghost use Rattle.go_game.specs.Standings.{IsLegal, IsOccupied, IsOffBoard, Repeats, with_move, without_last};
 ghost use Rattle.go_game.specs.Playing.{stones_taken};
@@ -15,14 +10,14 @@ ghost use Rattle.go_game.specs.Playing.{stones_taken};
 use crate::step::Step;
 use crate::{Game, PlayError};
 use go_board::laws::{packs_tell_colourings_apart, taken_and_left};
-use go_board::{Colour, Meter, Move, Point, Taken, Vertex};
-use go_chains::{Board, Log, PlaceError};
-use go_history::History;
+use go_board::{Colour, Move, Point, Taken, Vertex};
+use go_chains::PlaceError;
+use go_history::{History, Key};
 use std::alloc::Allocator;
 
 impl<A: Allocator + Copy> Game<A> {
-    /// Plays a move: a pass, or a stone on an empty point of the board whose colouring didn't stand
-    /// before. Captured stones are taken, and then stones of the player's own that have no liberty.
+    /// Plays a move: a pass, or a stone on an empty point of the board that repeats nothing by the
+    /// superko rule. Captured stones are taken, and then stones of the player's own that have no liberty.
     /// A refused move changes nothing.
     pub fn play(&mut self, made: Move) -> Result<Taken, PlayError>
         ensures off_board { (result ≡ Err PlayError.OffBoard)
@@ -62,19 +57,28 @@ impl<A: Allocator + Copy> Game<A> {
         ensures logged { OnOk result (IsLogged self.old self.new 0) }
         ensures count { self.new.count ≡ self.old.count }
     {
+        packs_tell_colourings_apart();
+        if self.steps.reserve(1).is_err() {
+            return Err(PlayError::Memory);
+        }
+        let key = self.superko.key(self.board.pack(), colour.other());
+        match self.history.note(key, self.steps.len() + 1) {
+            Ok(_known) => {}
+            Err(_) => return Err(PlayError::Memory),
+        }
         let taken = Taken { theirs: 0, own: 0 };
         let made = Move {
             colour,
             vertex: Vertex::Pass,
         };
-        if self.steps.push(Step { made, taken }).is_err() {
-            return Err(PlayError::Memory);
-        }
+        let pushed = self.steps.push(Step { made, taken });
+        prove!(pushed.is_ok());
+        let _ = pushed;
         Ok(taken)
     }
 
     /// Places a stone where that is legal. The board is played on first, and the play taken back
-    /// where its colouring stood before or there is no memory to keep it.
+    /// where it repeats or there is no memory to keep it.
     fn put(&mut self, colour: Colour, p: Point) -> Result<Taken, PlayError>
         ensures off_board { (result ≡ Err PlayError.OffBoard)
             ↔ (IsOn self.old.standing.lines p → ⊥) }
@@ -115,7 +119,8 @@ impl<A: Allocator + Copy> Game<A> {
             vertex: Vertex::At(p),
         };
         let step = Step { made, taken };
-        match note(&self.board, &mut self.history, &mut self.steps, step) {
+        let key = self.superko.key(self.board.pack(), colour.other());
+        match note(key, &mut self.history, &mut self.steps, step) {
             Ok(()) => {
                 self.prisoners.add(colour, taken);
                 Ok(taken)
@@ -137,15 +142,12 @@ impl<A: Allocator + Copy> Game<A> {
     {
         packs_tell_colourings_apart();
         let step = self.steps.pop()?;
+        let key = self.superko.key(self.board.pack(), step.made.colour.other());
+        self.history.forget(&key, self.steps.len() + 1);
         match step.made.vertex {
             Vertex::Pass => Some(step.made),
             Vertex::At(_) => {
-                take_back(
-                    &mut self.board,
-                    &mut self.log,
-                    &mut self.meter,
-                    &mut self.history,
-                );
+                self.board.rewind(&mut self.log, &mut self.meter);
                 self.prisoners.give_back(step.made.colour, step.taken);
                 Some(step.made)
             }
@@ -153,19 +155,19 @@ impl<A: Allocator + Copy> Game<A> {
     }
 }
 
-/// Notes a step in the history and among the steps, unless the board's colouring stood before.
+/// Notes a step in the history by this key and among the steps, unless what has the key stood before.
 fn note<A: Allocator + Copy>(
-    board: &Board,
+    key: Key,
     history: &mut History<A>,
     steps: &mut Vec<Step, A>,
     step: Step,
 ) -> Result<(), PlayError>
-    ensures noted { OnOk result (IsNoted history.old history.new (grid_of board.now)
-        (length steps.old.items + 1)) }
-    ensures lacked { OnOk result (Lacks history.old (grid_of board.now)) }
+    ensures noted { OnOk result (IsChangedAt history.old history.new key
+        (Some (length steps.old.items + 1))) }
+    ensures lacked { OnOk result (number_at history.old key ≡ None) }
     ensures pushed { OnOk result (steps.new.items ≡ steps.old.items ++ step ∷ []) }
     ensures repeats { (k : ℕ) → result ≡ Err (PlayError.Repeats k)
-        → KnowsAt history.old (grid_of board.now) k }
+        → number_at history.old key ≡ Some k }
     ensures history { OnErr result (IsUnchanged history.old history.new) }
     ensures steps { OnErr result (steps.new.items ≡ steps.old.items) }
     ensures others { IfErr result (λ e. (e ≡ PlayError.Memory)
@@ -174,7 +176,7 @@ fn note<A: Allocator + Copy>(
     if steps.reserve(1).is_err() {
         return Err(PlayError::Memory);
     }
-    match history.note(board.pack(), steps.len() + 1) {
+    match history.note(key, steps.len() + 1) {
         Ok(None) => {}
         Ok(Some(number)) => return Err(PlayError::Repeats(number)),
         Err(_) => return Err(PlayError::Memory),
@@ -183,25 +185,4 @@ fn note<A: Allocator + Copy>(
     prove!(pushed.is_ok());
     let _ = pushed;
     Ok(())
-}
-
-/// Takes the last play off a board, and its colouring out of the history.
-fn take_back<A: Allocator + Copy>(
-    board: &mut Board,
-    log: &mut Log<A>,
-    meter: &mut Meter,
-    history: &mut History<A>,
-)
-    requires play { 0 < length log.old }
-    requires cells { (earlier : List (List Change)) (changes : List Change)
-        → log.old ≡ earlier ++ changes ∷ []
-        → NamesCells COUNT changes × IsKept board.old.lines (rewound board.old.cells changes) }
-    ensures rewound { (earlier : List (List Change)) (changes : List Change)
-        → log.old ≡ earlier ++ changes ∷ []
-        → IsRewound board.old board.new log.new earlier changes meter.old meter.new }
-    ensures forgotten { IsForgotten history.old history.new (grid_of board.old) }
-{
-    let pack = board.pack();
-    history.forget(&pack);
-    board.rewind(log, meter);
 }

@@ -11,7 +11,7 @@ ghost use Rattle.go_game.specs.Building.{AreAlive, IsFront};
 ghost use Rattle.go_game.specs.Standings.{started};
 
 use crate::prisoners::Prisoners;
-use crate::{Game, SetupError};
+use crate::{Game, SetupError, Superko};
 use go_board::laws::{packs_tell_colourings_apart, points_by_number, reaches_by_a_path};
 use go_board::plain::first_dead;
 use go_board::{Colour, Grid, Meter, Point};
@@ -20,7 +20,7 @@ use go_history::History;
 use std::alloc::{AllocError, Allocator};
 
 impl<A: Allocator + Copy> Game<A> {
-    /// A game that starts from this grid, with komi 0 and this colour to move.
+    /// A game that starts from this grid, with komi 0, positional superko and this colour to move.
     pub fn start_from(alloc: A, grid: &Grid, first: Colour) -> Result<Game<A>, SetupError>
         ensures ok { IfOk result (λ game. game.standing ≡ started grid.now first) }
         ensures count { IfOk result (λ game. game.count ≡ 0) }
@@ -34,15 +34,18 @@ impl<A: Allocator + Copy> Game<A> {
             return Err(SetupError::NoLiberty(p));
         }
         let board = built(alloc, grid)?;
+        let superko = Superko::Positional;
+        let history = History::new(alloc, superko.key(grid.pack(), first));
         Ok(Game {
             start: grid.copy(),
             komi: 0,
+            superko,
             first,
             board,
             log: Log::new(alloc),
             meter: Meter::new(),
             steps: Vec::new(alloc),
-            history: History::new(alloc, grid.pack()),
+            history,
             prisoners: Prisoners { black: 0, white: 0 },
         })
     }

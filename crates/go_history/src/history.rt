@@ -1,19 +1,19 @@
 ghost use Rattle.std.specs.Prelude.{◌≡◌, ℕ, IfOk, None, Ok, OnErr, Some};
-ghost use Rattle.go_history.specs.Histories.{IsBegun, IsChangedAt, IsUnchanged, number_at};
+ghost use Rattle.go_history.specs.Histories.{IsBegun, IsChangedAt, IsForgotten, IsUnchanged, number_at};
 
-use go_board::Packed;
+use crate::Key;
 use std::alloc::{AllocError, Allocator};
 use std::collections::HashMap;
 use std::hash::{BuildHasherDefault, FoldHasher};
 use std::marker::Model;
 
-/// After how many moves each colouring of a game stood first, by its pack. The start's is kept
-/// beside the others, so that a game without moves takes no memory. It takes memory as packs are
-/// noted, from the allocator that it was made with.
+/// After how many moves what each key is of stood first. The start's is kept beside the others, so
+/// that a game without moves takes no memory. It takes memory as keys are noted, from the allocator
+/// that it was made with.
 #[derive(Drop)]
 pub struct History<A: Allocator + Copy> {
-    start: Packed,
-    later: HashMap<Packed, usize, BuildHasherDefault<FoldHasher>, A>,
+    start: Key,
+    later: HashMap<Key, usize, BuildHasherDefault<FoldHasher>, A>,
 }
 
 impl<A: Allocator + Copy> Model for History<A> {
@@ -26,7 +26,7 @@ impl<A: Allocator + Copy> Model for History<A> {
 
 impl<A: Allocator + Copy> History<A> {
     /// The history of a game without moves. It takes no memory.
-    pub fn new(alloc: A, start: Packed) -> History<A>
+    pub fn new(alloc: A, start: Key) -> History<A>
         ensures { IsBegun result start }
     {
         History {
@@ -35,36 +35,39 @@ impl<A: Allocator + Copy> History<A> {
         }
     }
 
-    /// After how many moves the colouring with this pack stood first; or none where it didn't stand,
-    /// and then it is noted with this number.
-    pub fn note(&mut self, pack: Packed, number: usize) -> Result<Option<usize>, AllocError>
-        ensures known { IfOk result (λ known. known ≡ number_at self.old pack) }
-        ensures noted { result ≡ Ok None → IsChangedAt self.old self.new pack (Some number) }
+    /// After how many moves what has this key stood first; or none where it didn't stand, and then
+    /// it is noted with this number.
+    pub fn note(&mut self, key: Key, number: usize) -> Result<Option<usize>, AllocError>
+        ensures known { IfOk result (λ known. known ≡ number_at self.old key) }
+        ensures noted { result ≡ Ok None → IsChangedAt self.old self.new key (Some number) }
         ensures stood { (k : ℕ) → result ≡ Ok (Some k) → IsUnchanged self.old self.new }
         ensures err { OnErr result (IsUnchanged self.old self.new) }
     {
-        if self.start == pack {
+        if self.start == key {
             return Ok(Some(0));
         }
-        let known = self.later.insert(pack, number)?;
+        let known = self.later.insert(key, number)?;
         match known {
             None => Ok(None),
             Some(earlier) => {
-                self.later.insert(pack, earlier)?;
+                self.later.insert(key, earlier)?;
                 Ok(Some(earlier))
             }
         }
     }
 
-    /// Takes back what was noted of a pack. It takes no memory.
-    pub fn forget(&mut self, pack: &Packed)
-        ensures { IsChangedAt self.old self.new pack.now None }
+    /// Takes back that a key was noted with this number. What was noted of it with another stays,
+    /// and so does the start's. It takes no memory.
+    pub fn forget(&mut self, key: &Key, number: usize)
+        ensures { IsForgotten self.old self.new key.now number }
     {
-        self.later.remove(pack);
+        if self.later.get(key).copied() == Some(number) {
+            self.later.remove(key);
+        }
     }
 
     /// Begins anew. It takes no memory.
-    pub fn restart(&mut self, start: Packed)
+    pub fn restart(&mut self, start: Key)
         ensures { IsBegun self.new start }
     {
         self.start = start;

@@ -1,4 +1,4 @@
-use crate::History;
+use crate::{History, Key};
 use go_board::{Colour, Grid, Packed, Point, Size};
 use std::alloc::{AllocError, Global};
 use std::process::Abort;
@@ -14,13 +14,26 @@ fn pack_with(rt: &impl Abort, number: u16) -> Packed {
     grid.pack()
 }
 
+/// Its key, whoever is to move.
+fn key_with(rt: &impl Abort, number: u16) -> Key {
+    key_before(rt, number, None)
+}
+
+/// Its key where this colour is to move.
+fn key_before(rt: &impl Abort, number: u16, mover: Option<Colour>) -> Key {
+    Key {
+        pack: pack_with(rt, number),
+        mover,
+    }
+}
+
 const NO_STONE: u16 = 361;
 
 /// A history of so many stones on the empty board, each taken away by the next.
 fn history_of(rt: &impl Abort, alloc: Global, moves: u16) -> Result<History<Global>, AllocError> {
-    let mut history = History::new(alloc, pack_with(rt, NO_STONE));
+    let mut history = History::new(alloc, key_with(rt, NO_STONE));
     for number in 0..moves {
-        history.note(pack_with(rt, number), usize::from(number) + 1)?;
+        history.note(key_with(rt, number), usize::from(number) + 1)?;
     }
     Ok(history)
 }
@@ -28,15 +41,15 @@ fn history_of(rt: &impl Abort, alloc: Global, moves: u16) -> Result<History<Glob
 #[test]
 fn what_is_noted_is_found(rt: HostRuntime) -> Result<(), Fail> {
     let mut history = history_of(&rt, rt.alloc(), 300)?;
-    assert!(rt; history.note(pack_with(&rt, NO_STONE), 1)? == Some(0));
+    assert!(rt; history.note(key_with(&rt, NO_STONE), 1)? == Some(0));
     // Asked once more, since to ask is to note.
     for number in (0..300u16).chain(0..300u16) {
-        let found = history.note(pack_with(&rt, number), 1)?;
+        let found = history.note(key_with(&rt, number), 1)?;
         assert!(rt; found == Some(usize::from(number) + 1), "stone {number}");
     }
     for number in 300..NO_STONE {
         assert!(rt;
-            history.note(pack_with(&rt, number), 1)?.is_none(),
+            history.note(key_with(&rt, number), 1)?.is_none(),
             "stone {number}"
         );
     }
@@ -47,12 +60,12 @@ fn what_is_noted_is_found(rt: HostRuntime) -> Result<(), Fail> {
 fn what_is_taken_back_is_not_found(rt: HostRuntime) -> Result<(), Fail> {
     let mut history = history_of(&rt, rt.alloc(), 300)?;
     for number in 150..300u16 {
-        history.forget(&pack_with(&rt, 449 - number));
+        history.forget(&key_with(&rt, 449 - number), 450 - usize::from(number));
     }
-    history.forget(&pack_with(&rt, 320));
-    assert!(rt; history.note(pack_with(&rt, NO_STONE), 1)? == Some(0));
+    history.forget(&key_with(&rt, 320), 321);
+    assert!(rt; history.note(key_with(&rt, NO_STONE), 1)? == Some(0));
     for number in 0..300u16 {
-        let found = history.note(pack_with(&rt, number), 1)?.is_some();
+        let found = history.note(key_with(&rt, number), 1)?.is_some();
         assert!(rt; found == (number < 150), "stone {number}");
     }
     Ok(())
@@ -61,12 +74,43 @@ fn what_is_taken_back_is_not_found(rt: HostRuntime) -> Result<(), Fail> {
 #[test]
 fn begun_anew_the_start_alone_is_found(rt: HostRuntime) -> Result<(), Fail> {
     let mut history = history_of(&rt, rt.alloc(), 40)?;
-    history.restart(pack_with(&rt, 7));
+    history.restart(key_with(&rt, 7));
     for number in 0..NO_STONE {
-        let found = history.note(pack_with(&rt, number), 1)?.is_some();
+        let found = history.note(key_with(&rt, number), 1)?.is_some();
         assert!(rt; found == (number == 7), "stone {number}");
     }
-    assert!(rt; history.note(pack_with(&rt, NO_STONE), 1)?.is_none());
-    assert!(rt; history.note(pack_with(&rt, NO_STONE), 2)? == Some(1));
+    assert!(rt; history.note(key_with(&rt, NO_STONE), 1)?.is_none());
+    assert!(rt; history.note(key_with(&rt, NO_STONE), 2)? == Some(1));
+    Ok(())
+}
+
+#[test]
+fn another_number_is_not_taken_back(rt: HostRuntime) -> Result<(), Fail> {
+    let mut history = history_of(&rt, rt.alloc(), 9)?;
+    for number in [0, 3, 5, 9] {
+        history.forget(&key_with(&rt, 3), number);
+    }
+    history.forget(&key_with(&rt, NO_STONE), 0);
+    assert!(rt; history.note(key_with(&rt, 3), 10)? == Some(4));
+    assert!(rt; history.note(key_with(&rt, NO_STONE), 10)? == Some(0));
+    history.forget(&key_with(&rt, 3), 4);
+    assert!(rt; history.note(key_with(&rt, 3), 10)?.is_none());
+    Ok(())
+}
+
+#[test]
+fn movers_are_told_apart(rt: HostRuntime) -> Result<(), Fail> {
+    let start = key_before(&rt, 5, Some(Colour::Black));
+    let mut history = History::new(rt.alloc(), start);
+    let white = key_before(&rt, 5, Some(Colour::White));
+    assert!(rt; history.note(white, 1)?.is_none());
+    assert!(rt; history.note(key_with(&rt, 5), 2)?.is_none());
+    assert!(rt; history.note(start, 3)? == Some(0));
+    assert!(rt; history.note(white, 3)? == Some(1));
+    assert!(rt; history.note(key_with(&rt, 5), 3)? == Some(2));
+    history.forget(&white, 1);
+    assert!(rt; history.note(start, 3)? == Some(0));
+    assert!(rt; history.note(key_with(&rt, 5), 3)? == Some(2));
+    assert!(rt; history.note(white, 3)?.is_none());
     Ok(())
 }

@@ -1,21 +1,34 @@
-use Rattle.std.proofs.Common.{◌∙◌, ◌++◌, ◌∷◌, [], List, ap, cond, refl, subst}
+use Rattle.std.proofs.Common.{arith, ◌≡◌, ◌∙◌, ◌+◌, ◌++◌, ◌∷◌, [], ℕ, List, Ok, Option, Result, ap, cond, length, refl, sym, subst}
+use Rattle.std.specs.declared.alloc.AllocError.{AllocError}
+use Rattle.go_board.specs.PackBytes.{bytes_of}
 use Rattle.go_game.specs.declared.step.Step.{Step}
 use Rattle.go_game.specs.Counts.{IsLogged}
-use Rattle.go_game.specs.Standings.{GameValue}
+use Rattle.go_game.specs.Histories.{IsNoted}
+use Rattle.go_game.specs.Standings.{GameValue, mover_by}
 use Rattle.go_game.proofs.Counting.{logged_pass, seen}
 use Rattle.go_game.proofs.Turns.{keep_pass, passed}
 use Rattle.go_game.proofs.game.Game.pass.Goals as goal
 
 pub invariant_of-self-2 : goal.invariant_of-self-2
 invariant_of-self-2 g c =
-    keep_pass c.self.inside.start c.self.inside.komi c.self.inside.first c.self.inside.steps.items c.push.new.self.items c.args.colour c.self.inside.board c.self.inside.log c.self.inside.history
-    c.self.inside.prisoners.black c.self.inside.prisoners.white c.self.invariant
-    (c.push.ensures.items ∙ ap (λ b. let xs : List Step = cond b (c.self.inside.steps.items ++ passed c.args.colour ∷ []) c.self.inside.steps.items in xs) c.if-is_err.ensures.negation)
+    let pushed : c.push-pushed.new.self.items ≡ c.self.inside.steps.items ++ passed c.args.colour ∷ [] =
+    c.push-pushed.ensures.items ∙ ap (λ b. let xs : List Step = cond b (c.reserve.new.self.items ++ passed c.args.colour ∷ []) c.reserve.new.self.items in xs) (sym c.if-prove.ensures.value)
+    ∙ ap (λ (xs : List Step). xs ++ passed c.args.colour ∷ []) c.reserve.ensures.items in
+    keep_pass c.packs_tell_colourings_apart.ensures c.self.inside.superko c.self.inside.start c.self.inside.komi c.self.inside.first c.self.inside.steps.items c.push-pushed.new.self.items c.args.colour c.self.inside.board c.self.inside.log c.self.inside.history c.note.new.self c.key-key.result
+    c.self.inside.prisoners.black c.self.inside.prisoners.white c.self.invariant pushed (ap bytes_of c.key-key.ensures.pack ∙ c.pack.ensures) (c.key-key.ensures.mover ∙ ap (mover_by c.self.inside.superko) c.other.ensures)
+    (subst (λ (i : ℕ). IsNoted c.self.inside.history c.note.new.self c.key-key.result (i + 1)) (let l = c.len.ensures in let ok = c.reserve.new.self.ok in let same = ap length c.reserve.ensures.items in omega (arith, l, ok, same)) (record {
+      known = c.in-Ok._known;
+      found = c.in-Ok.ensures.known;
+      noted = λ e. c.in-Ok.ensures.noted (ap (λ (o : Option ℕ). let r : Result (Option ℕ) AllocError = Ok o in r) e);
+      stood = λ j e. c.in-Ok.ensures.stood j (ap (λ (o : Option ℕ). let r : Result (Option ℕ) AllocError = Ok o in r) e);
+    }))
 
 pub returns-clause-logged : goal.returns-clause-logged
 returns-clause-logged g c =
-    let new : GameValue = seen c.self.inside.start c.self.inside.komi c.self.inside.first c.push.new.self.items c.self.inside.board c.self.inside.log c.self.inside.meter in
+    let pushed : c.push-pushed.new.self.items ≡ c.self.inside.steps.items ++ passed c.args.colour ∷ [] =
+    c.push-pushed.ensures.items ∙ ap (λ b. let xs : List Step = cond b (c.reserve.new.self.items ++ passed c.args.colour ∷ []) c.reserve.new.self.items in xs) (sym c.if-prove.ensures.value)
+    ∙ ap (λ (xs : List Step). xs ++ passed c.args.colour ∷ []) c.reserve.ensures.items in
+    let new : GameValue = seen c.self.inside.superko c.self.inside.start c.self.inside.komi c.self.inside.first c.push-pushed.new.self.items c.self.inside.board c.self.inside.log c.self.inside.meter in
     subst (λ (v : GameValue). IsLogged v new 0) c.self.view_is
-    (logged_pass c.self.inside.start c.self.inside.komi c.self.inside.first c.self.inside.steps.items c.self.inside.board c.self.inside.log c.self.inside.history
-    c.self.inside.prisoners.black c.self.inside.prisoners.white c.self.invariant c.push.new.self.items (passed c.args.colour)
-    (c.push.ensures.items ∙ ap (λ b. let xs : List Step = cond b (c.self.inside.steps.items ++ passed c.args.colour ∷ []) c.self.inside.steps.items in xs) c.if-is_err.ensures.negation) refl c.self.inside.meter)
+    (logged_pass c.self.inside.superko c.self.inside.start c.self.inside.komi c.self.inside.first c.self.inside.steps.items c.self.inside.board c.self.inside.log c.self.inside.history
+    c.self.inside.prisoners.black c.self.inside.prisoners.white c.self.invariant c.push-pushed.new.self.items (passed c.args.colour) pushed refl c.self.inside.meter)

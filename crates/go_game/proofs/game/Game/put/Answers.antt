@@ -1,4 +1,5 @@
-use Rattle.std.proofs.Common.{arith, ◌≡◌, ◌∙◌, ℕ, refl, sym, ap, subst}
+use Rattle.std.proofs.Common.{arith, ◌≡◌, ◌∙◌, ℕ, None, refl, sym, ap, subst}
+use Rattle.go_board.specs.PackBytes.{bytes_of}
 use Rattle.std.proofs.Math.ListN.{length-map}
 use Rattle.go_board.specs.declared.vertex.Vertex.TheVariants.{At}
 use Rattle.go_board.specs.Colours.{colour_at}
@@ -8,11 +9,11 @@ use Rattle.go_chains.specs.Playing.{most_of}
 use Rattle.go_game.specs.Counts.{IsLogged, most_for}
 use Rattle.go_game.specs.Held.{made_of}
 use Rattle.go_game.specs.Playing.{stones_taken}
-use Rattle.go_game.specs.Standings.{GameValue, IsLegal, Repeats, board_of}
+use Rattle.go_game.specs.Standings.{GameValue, IsLegal, Repeats, board_of, mover_by}
 use Rattle.go_game.proofs.Counting.{logged_put, seen}
 use Rattle.go_game.proofs.Keeping.{some_of}
 use Rattle.go_game.proofs.Played.{room_held}
-use Rattle.go_game.proofs.Puts.{colour_is, free_memory, free_ok, most_is, noted_apart, occupied_stone, same_error, legal_put, played_put, repeats_put, some_stone, stone_some, taken_put, whole_put}
+use Rattle.go_game.proofs.Puts.{colour_is, free_memory, free_ok, most_is, noted_apart, occupied_stone, same_error, legal_put, played_put, repeats_put, some_stone, stone_some, taken_put}
 use Rattle.go_game.proofs.Turns.{keep_put, placed, rewinds}
 use Rattle.go_game.proofs.game.Game.put.Goals as goal
 
@@ -20,64 +21,64 @@ pub returns-in-Err-Occupied-clause-occupied : goal.returns-in-Err-Occupied-claus
 returns-in-Err-Occupied-clause-occupied g c =
     let on_now : IsOn c.args.self.now.standing.lines c.args.p = subst (λ (m : ℕ). IsOn m c.args.p) c.size.ensures.lines (c.on.ensures.0 c.if-not-on.false) in
     let on : IsOn c.self.inside.start.lines c.args.p = subst (λ (v : GameValue). IsOn v.standing.lines c.args.p) (sym c.self.view_is) on_now in
-    let seen = colour_is c.self.inside.start c.self.inside.komi c.self.inside.first c.self.inside.steps.items c.self.inside.board c.self.inside.log c.self.inside.history c.self.inside.prisoners.black c.self.inside.prisoners.white c.self.invariant c.args.colour c.args.p ∙ ap (λ (v : GameValue). colour_at (board_of v.standing) (number_of v.standing.lines c.args.p)) c.self.view_is in
+    let seen = colour_is c.self.inside.superko c.self.inside.start c.self.inside.komi c.self.inside.first c.self.inside.steps.items c.self.inside.board c.self.inside.log c.self.inside.history c.self.inside.prisoners.black c.self.inside.prisoners.white c.self.invariant c.args.colour c.args.p ∙ ap (λ (v : GameValue). colour_at (board_of v.standing) (number_of v.standing.lines c.args.p)) c.self.view_is in
     ((λ e. (on_now, stone_some (colour_at (grid_of c.self.inside.board) (number_of c.self.inside.board.lines c.args.p)) (colour_at (board_of c.args.self.now.standing) (number_of c.args.self.now.standing.lines c.args.p)) seen (occupied_stone c.play.result c.in-Err-Occupied.field-0 c.in-Err-Occupied.is c.in-Err-Occupied.field-0-is c.play.ensures.occupied))), λ h. refl)
 
 pub returns-in-Err-Memory-clause-occupied : goal.returns-in-Err-Memory-clause-occupied
 returns-in-Err-Memory-clause-occupied g c =
     let on_now : IsOn c.args.self.now.standing.lines c.args.p = subst (λ (m : ℕ). IsOn m c.args.p) c.size.ensures.lines (c.on.ensures.0 c.if-not-on.false) in
     let on : IsOn c.self.inside.start.lines c.args.p = subst (λ (v : GameValue). IsOn v.standing.lines c.args.p) (sym c.self.view_is) on_now in
-    let seen = colour_is c.self.inside.start c.self.inside.komi c.self.inside.first c.self.inside.steps.items c.self.inside.board c.self.inside.log c.self.inside.history c.self.inside.prisoners.black c.self.inside.prisoners.white c.self.invariant c.args.colour c.args.p ∙ ap (λ (v : GameValue). colour_at (board_of v.standing) (number_of v.standing.lines c.args.p)) c.self.view_is in
+    let seen = colour_is c.self.inside.superko c.self.inside.start c.self.inside.komi c.self.inside.first c.self.inside.steps.items c.self.inside.board c.self.inside.log c.self.inside.history c.self.inside.prisoners.black c.self.inside.prisoners.white c.self.invariant c.args.colour c.args.p ∙ ap (λ (v : GameValue). colour_at (board_of v.standing) (number_of v.standing.lines c.args.p)) c.self.view_is in
     ((λ e. absurd (cc)), λ h. absurd (free_memory c.play.result c.in-Err-Memory.field-0 c.in-Err-Memory.is c.in-Err-Memory.field-0-is c.play.ensures.occupied (some_stone (colour_at (grid_of c.self.inside.board) (number_of c.self.inside.board.lines c.args.p)) (colour_at (board_of c.args.self.now.standing) (number_of c.args.self.now.standing.lines c.args.p)) seen h.1)))
 
 pub returns-in-Ok-note-clause-occupied : goal.returns-in-Ok-note-clause-occupied
 returns-in-Ok-note-clause-occupied g c =
     let on_now : IsOn c.args.self.now.standing.lines c.args.p = subst (λ (m : ℕ). IsOn m c.args.p) c.size.ensures.lines (c.on.ensures.0 c.if-not-on.false) in
     let on : IsOn c.self.inside.start.lines c.args.p = subst (λ (v : GameValue). IsOn v.standing.lines c.args.p) (sym c.self.view_is) on_now in
-    let seen = colour_is c.self.inside.start c.self.inside.komi c.self.inside.first c.self.inside.steps.items c.self.inside.board c.self.inside.log c.self.inside.history c.self.inside.prisoners.black c.self.inside.prisoners.white c.self.invariant c.args.colour c.args.p ∙ ap (λ (v : GameValue). colour_at (board_of v.standing) (number_of v.standing.lines c.args.p)) c.self.view_is in
+    let seen = colour_is c.self.inside.superko c.self.inside.start c.self.inside.komi c.self.inside.first c.self.inside.steps.items c.self.inside.board c.self.inside.log c.self.inside.history c.self.inside.prisoners.black c.self.inside.prisoners.white c.self.invariant c.args.colour c.args.p ∙ ap (λ (v : GameValue). colour_at (board_of v.standing) (number_of v.standing.lines c.args.p)) c.self.view_is in
     ((λ e. absurd (cc)), λ h. absurd (free_ok c.play.result c.in-Ok.taken c.in-Ok.is c.play.ensures.occupied (some_stone (colour_at (grid_of c.self.inside.board) (number_of c.self.inside.board.lines c.args.p)) (colour_at (board_of c.args.self.now.standing) (number_of c.args.self.now.standing.lines c.args.p)) seen h.1)))
 
 pub returns-in-Err-clause-occupied : goal.returns-in-Err-clause-occupied
 returns-in-Err-clause-occupied g c =
     let on_now : IsOn c.args.self.now.standing.lines c.args.p = subst (λ (m : ℕ). IsOn m c.args.p) c.size.ensures.lines (c.on.ensures.0 c.if-not-on.false) in
     let on : IsOn c.self.inside.start.lines c.args.p = subst (λ (v : GameValue). IsOn v.standing.lines c.args.p) (sym c.self.view_is) on_now in
-    let seen = colour_is c.self.inside.start c.self.inside.komi c.self.inside.first c.self.inside.steps.items c.self.inside.board c.self.inside.log c.self.inside.history c.self.inside.prisoners.black c.self.inside.prisoners.white c.self.invariant c.args.colour c.args.p ∙ ap (λ (v : GameValue). colour_at (board_of v.standing) (number_of v.standing.lines c.args.p)) c.self.view_is in
+    let seen = colour_is c.self.inside.superko c.self.inside.start c.self.inside.komi c.self.inside.first c.self.inside.steps.items c.self.inside.board c.self.inside.log c.self.inside.history c.self.inside.prisoners.black c.self.inside.prisoners.white c.self.invariant c.args.colour c.args.p ∙ ap (λ (v : GameValue). colour_at (board_of v.standing) (number_of v.standing.lines c.args.p)) c.self.view_is in
     ((λ e. absurd (noted_apart c.in-Err.error c.in-Err.ensures.others e)), λ h. absurd (free_ok c.play.result c.in-Ok.taken c.in-Ok.is c.play.ensures.occupied (some_stone (colour_at (grid_of c.self.inside.board) (number_of c.self.inside.board.lines c.args.p)) (colour_at (board_of c.args.self.now.standing) (number_of c.args.self.now.standing.lines c.args.p)) seen h.1)))
 
 pub returns-in-Err-clause-repeats : goal.returns-in-Err-clause-repeats
 returns-in-Err-clause-repeats g c k e =
     subst (λ (v : GameValue). Repeats v.standing c.args.colour (At c.args.p) k) c.self.view_is
-    (repeats_put c.self.inside.start c.self.inside.komi c.self.inside.first c.self.inside.steps.items c.self.inside.board c.self.inside.log c.self.inside.history c.self.inside.prisoners.black c.self.inside.prisoners.white c.self.invariant c.args.colour c.args.p c.play.new.self c.in-Ok.ensures.moved k (c.in-Err.ensures.repeats k (same_error c.in-Err.error _ e)))
+    (repeats_put c.self.inside.superko c.self.inside.start c.self.inside.komi c.self.inside.first c.self.inside.steps.items c.self.inside.board c.self.inside.log c.self.inside.history c.self.inside.prisoners.black c.self.inside.prisoners.white c.self.invariant c.args.colour c.args.p c.play.new.self c.in-Ok.ensures.moved c.key-key.result (ap bytes_of c.key-key.ensures.pack ∙ c.pack.ensures) (c.key-key.ensures.mover ∙ ap (mover_by c.self.inside.superko) c.other.ensures) k (c.in-Err.ensures.repeats k (same_error c.in-Err.error _ e)))
 
 pub returns-in-Ok-note-clause-legal : goal.returns-in-Ok-note-clause-legal
 returns-in-Ok-note-clause-legal g c =
     let on_now : IsOn c.args.self.now.standing.lines c.args.p = subst (λ (m : ℕ). IsOn m c.args.p) c.size.ensures.lines (c.on.ensures.0 c.if-not-on.false) in
     let on : IsOn c.self.inside.start.lines c.args.p = subst (λ (v : GameValue). IsOn v.standing.lines c.args.p) (sym c.self.view_is) on_now in
     subst (λ (v : GameValue). IsLegal v.standing c.args.colour (At c.args.p)) c.self.view_is
-    (legal_put c.self.inside.start c.self.inside.komi c.self.inside.first c.self.inside.steps.items c.self.inside.board c.self.inside.log c.self.inside.history c.self.inside.prisoners.black c.self.inside.prisoners.white c.self.invariant c.args.colour c.args.p c.play.new.self c.in-Ok.ensures.moved on (free_ok c.play.result c.in-Ok.taken c.in-Ok.is c.play.ensures.occupied) c.in-Ok-note.ensures.lacked)
+    (legal_put c.self.inside.superko c.self.inside.start c.self.inside.komi c.self.inside.first c.self.inside.steps.items c.self.inside.board c.self.inside.log c.self.inside.history c.self.inside.prisoners.black c.self.inside.prisoners.white c.self.invariant c.args.colour c.args.p c.play.new.self c.in-Ok.ensures.moved c.key-key.result (ap bytes_of c.key-key.ensures.pack ∙ c.pack.ensures) (c.key-key.ensures.mover ∙ ap (mover_by c.self.inside.superko) c.other.ensures) on (free_ok c.play.result c.in-Ok.taken c.in-Ok.is c.play.ensures.occupied) c.in-Ok-note.ensures.lacked)
 
 pub returns-in-Ok-note-clause-taken : goal.returns-in-Ok-note-clause-taken
 returns-in-Ok-note-clause-taken g c of =
-    taken_put c.self.inside.start c.self.inside.komi c.self.inside.first c.self.inside.steps.items c.self.inside.board c.self.inside.log c.self.inside.history c.self.inside.prisoners.black c.self.inside.prisoners.white c.self.invariant c.args.colour c.args.p c.play.new.self c.in-Ok.ensures.moved c.in-Ok.taken c.in-Ok.ensures.theirs c.in-Ok.ensures.own of
+    taken_put c.self.inside.superko c.self.inside.start c.self.inside.komi c.self.inside.first c.self.inside.steps.items c.self.inside.board c.self.inside.log c.self.inside.history c.self.inside.prisoners.black c.self.inside.prisoners.white c.self.invariant c.args.colour c.args.p c.play.new.self c.in-Ok.ensures.moved c.in-Ok.taken c.in-Ok.ensures.theirs c.in-Ok.ensures.own of
     ∙ ap (λ (v : GameValue). stones_taken v.standing c.args.colour (At c.args.p) of) c.self.view_is
 
 pub add-requires-clause-black : goal.add-requires-clause-black
 add-requires-clause-black g c =
     let on_now : IsOn c.args.self.now.standing.lines c.args.p = subst (λ (m : ℕ). IsOn m c.args.p) c.size.ensures.lines (c.on.ensures.0 c.if-not-on.false) in
     let on : IsOn c.self.inside.start.lines c.args.p = subst (λ (v : GameValue). IsOn v.standing.lines c.args.p) (sym c.self.view_is) on_now in
-    let played = played_put c.self.inside.start c.self.inside.komi c.self.inside.first c.self.inside.steps.items c.self.inside.board c.self.inside.log c.self.inside.history c.self.inside.prisoners.black c.self.inside.prisoners.white c.self.invariant c.args.colour c.args.p c.play.new.self c.in-Ok.ensures.moved c.in-Ok.taken c.in-Ok.ensures.theirs c.in-Ok.ensures.own on (free_ok c.play.result c.in-Ok.taken c.in-Ok.is c.play.ensures.occupied) in
-    (room_held (record { together = c.taken_and_left.ensures.together; placed = c.taken_and_left.ensures.placed }) c.self.inside.start c.self.inside.komi c.self.inside.first c.self.inside.steps.items (placed c.args.colour c.args.p c.in-Ok.taken) c.self.inside.prisoners.black c.self.inside.prisoners.white c.self.invariant.held (let few = c.self.inside.steps.small in let ok = c.self.inside.steps.ok in let long = length-map c.self.inside.steps.items made_of in omega arith) played).0
+    let played = played_put c.self.inside.superko c.self.inside.start c.self.inside.komi c.self.inside.first c.self.inside.steps.items c.self.inside.board c.self.inside.log c.self.inside.history c.self.inside.prisoners.black c.self.inside.prisoners.white c.self.invariant c.args.colour c.args.p c.play.new.self c.in-Ok.ensures.moved c.in-Ok.taken c.in-Ok.ensures.theirs c.in-Ok.ensures.own on (free_ok c.play.result c.in-Ok.taken c.in-Ok.is c.play.ensures.occupied) in
+    (room_held (record { together = c.taken_and_left.ensures.together; placed = c.taken_and_left.ensures.placed }) c.self.inside.superko c.self.inside.start c.self.inside.komi c.self.inside.first c.self.inside.steps.items (placed c.args.colour c.args.p c.in-Ok.taken) c.self.inside.prisoners.black c.self.inside.prisoners.white c.self.invariant.held (let few = c.self.inside.steps.small in let ok = c.self.inside.steps.ok in let long = length-map c.self.inside.steps.items made_of in omega arith) played).0
 
 pub add-requires-clause-white : goal.add-requires-clause-white
 add-requires-clause-white g c =
     let on_now : IsOn c.args.self.now.standing.lines c.args.p = subst (λ (m : ℕ). IsOn m c.args.p) c.size.ensures.lines (c.on.ensures.0 c.if-not-on.false) in
     let on : IsOn c.self.inside.start.lines c.args.p = subst (λ (v : GameValue). IsOn v.standing.lines c.args.p) (sym c.self.view_is) on_now in
-    let played = played_put c.self.inside.start c.self.inside.komi c.self.inside.first c.self.inside.steps.items c.self.inside.board c.self.inside.log c.self.inside.history c.self.inside.prisoners.black c.self.inside.prisoners.white c.self.invariant c.args.colour c.args.p c.play.new.self c.in-Ok.ensures.moved c.in-Ok.taken c.in-Ok.ensures.theirs c.in-Ok.ensures.own on (free_ok c.play.result c.in-Ok.taken c.in-Ok.is c.play.ensures.occupied) in
-    (room_held (record { together = c.taken_and_left.ensures.together; placed = c.taken_and_left.ensures.placed }) c.self.inside.start c.self.inside.komi c.self.inside.first c.self.inside.steps.items (placed c.args.colour c.args.p c.in-Ok.taken) c.self.inside.prisoners.black c.self.inside.prisoners.white c.self.invariant.held (let few = c.self.inside.steps.small in let ok = c.self.inside.steps.ok in let long = length-map c.self.inside.steps.items made_of in omega arith) played).1
+    let played = played_put c.self.inside.superko c.self.inside.start c.self.inside.komi c.self.inside.first c.self.inside.steps.items c.self.inside.board c.self.inside.log c.self.inside.history c.self.inside.prisoners.black c.self.inside.prisoners.white c.self.invariant c.args.colour c.args.p c.play.new.self c.in-Ok.ensures.moved c.in-Ok.taken c.in-Ok.ensures.theirs c.in-Ok.ensures.own on (free_ok c.play.result c.in-Ok.taken c.in-Ok.is c.play.ensures.occupied) in
+    (room_held (record { together = c.taken_and_left.ensures.together; placed = c.taken_and_left.ensures.placed }) c.self.inside.superko c.self.inside.start c.self.inside.komi c.self.inside.first c.self.inside.steps.items (placed c.args.colour c.args.p c.in-Ok.taken) c.self.inside.prisoners.black c.self.inside.prisoners.white c.self.invariant.held (let few = c.self.inside.steps.small in let ok = c.self.inside.steps.ok in let long = length-map c.self.inside.steps.items made_of in omega arith) played).1
 
 pub rewind-requires-clause-cells : goal.rewind-requires-clause-cells
 rewind-requires-clause-cells g c earlier changes split =
-    rewinds c.self.inside.start c.self.inside.komi c.self.inside.first c.self.inside.steps.items c.self.inside.board c.play.new.self c.self.inside.log c.play.new.log c.self.inside.history c.self.inside.prisoners.black c.self.inside.prisoners.white _
+    rewinds c.self.inside.superko c.self.inside.start c.self.inside.komi c.self.inside.first c.self.inside.steps.items c.self.inside.board c.play.new.self c.self.inside.log c.play.new.log c.self.inside.history c.self.inside.prisoners.black c.self.inside.prisoners.white _
     c.self.invariant c.play.ensures.lines c.in-Ok.ensures.logged earlier changes split
 
 pub invariant_of-self-in-Ok-note : goal.invariant_of-self-in-Ok-note
@@ -85,49 +86,49 @@ invariant_of-self-in-Ok-note g c =
     let on_now : IsOn c.args.self.now.standing.lines c.args.p = subst (λ (m : ℕ). IsOn m c.args.p) c.size.ensures.lines (c.on.ensures.0 c.if-not-on.false) in
     let on : IsOn c.self.inside.start.lines c.args.p = subst (λ (v : GameValue). IsOn v.standing.lines c.args.p) (sym c.self.view_is) on_now in
     let free = free_ok c.play.result c.in-Ok.taken c.in-Ok.is c.play.ensures.occupied in
-    keep_put c.packs_tell_colourings_apart.ensures c.self.inside.start c.self.inside.komi c.self.inside.first c.self.inside.steps.items c.note.new.steps.items c.args.colour c.args.p c.in-Ok.taken c.self.inside.board c.play.new.self c.self.inside.log c.play.new.log
-    c.self.inside.history c.note.new.history c.self.inside.prisoners.black c.self.inside.prisoners.white c.add.new.self.black c.add.new.self.white c.self.invariant c.in-Ok-note.ensures.pushed
+    keep_put c.packs_tell_colourings_apart.ensures c.self.inside.superko c.self.inside.start c.self.inside.komi c.self.inside.first c.self.inside.steps.items c.note.new.steps.items c.args.colour c.args.p c.in-Ok.taken c.self.inside.board c.play.new.self c.self.inside.log c.play.new.log
+    c.self.inside.history c.note.new.history c.key-key.result c.self.inside.prisoners.black c.self.inside.prisoners.white c.add.new.self.black c.add.new.self.white c.self.invariant c.in-Ok-note.ensures.pushed
     (record {
       lines = c.play.ensures.lines;
       moved_to = c.in-Ok.ensures.moved;
       most = most_of c.self.inside.board.lines (grid_of c.self.inside.board) c.args.colour (number_of c.self.inside.board.lines c.args.p);
       logged = c.in-Ok.ensures.logged;
       kept = c.play.ensures.kept;
-      whole = whole_put c.self.inside.start c.self.inside.komi c.self.inside.first c.self.inside.steps.items c.self.inside.board c.self.inside.log c.self.inside.history c.self.inside.prisoners.black c.self.inside.prisoners.white c.self.invariant c.args.colour c.args.p c.play.new.self c.in-Ok.ensures.moved c.play.ensures.lines;
-      noted = c.in-Ok-note.ensures.noted;
-      lacked = c.in-Ok-note.ensures.lacked;
+      packs = ap bytes_of c.key-key.ensures.pack ∙ c.pack.ensures;
+      mover = c.key-key.ensures.mover ∙ ap (mover_by c.self.inside.superko) c.other.ensures;
+      noted = record { known = None; found = sym c.in-Ok-note.ensures.lacked; noted = λ e. c.in-Ok-note.ensures.noted; stood = λ j e. cc };
     })
-    (played_put c.self.inside.start c.self.inside.komi c.self.inside.first c.self.inside.steps.items c.self.inside.board c.self.inside.log c.self.inside.history c.self.inside.prisoners.black c.self.inside.prisoners.white c.self.invariant c.args.colour c.args.p c.play.new.self c.in-Ok.ensures.moved c.in-Ok.taken c.in-Ok.ensures.theirs c.in-Ok.ensures.own on free)
-    (legal_put c.self.inside.start c.self.inside.komi c.self.inside.first c.self.inside.steps.items c.self.inside.board c.self.inside.log c.self.inside.history c.self.inside.prisoners.black c.self.inside.prisoners.white c.self.invariant c.args.colour c.args.p c.play.new.self c.in-Ok.ensures.moved on free c.in-Ok-note.ensures.lacked) c.add.ensures.black c.add.ensures.white
+    (played_put c.self.inside.superko c.self.inside.start c.self.inside.komi c.self.inside.first c.self.inside.steps.items c.self.inside.board c.self.inside.log c.self.inside.history c.self.inside.prisoners.black c.self.inside.prisoners.white c.self.invariant c.args.colour c.args.p c.play.new.self c.in-Ok.ensures.moved c.in-Ok.taken c.in-Ok.ensures.theirs c.in-Ok.ensures.own on free)
+    (legal_put c.self.inside.superko c.self.inside.start c.self.inside.komi c.self.inside.first c.self.inside.steps.items c.self.inside.board c.self.inside.log c.self.inside.history c.self.inside.prisoners.black c.self.inside.prisoners.white c.self.invariant c.args.colour c.args.p c.play.new.self c.in-Ok.ensures.moved c.key-key.result (ap bytes_of c.key-key.ensures.pack ∙ c.pack.ensures) (c.key-key.ensures.mover ∙ ap (mover_by c.self.inside.superko) c.other.ensures) on free c.in-Ok-note.ensures.lacked) c.add.ensures.black c.add.ensures.white
 
 pub returns-in-Ok-note-clause-logged : goal.returns-in-Ok-note-clause-logged
 returns-in-Ok-note-clause-logged g c =
     let most : most_of c.self.inside.board.lines (grid_of c.self.inside.board) c.args.colour (number_of c.self.inside.board.lines c.args.p) ≡ most_for c.args.self.now.standing c.args.colour (At c.args.p) =
-    most_is c.self.inside.start c.self.inside.komi c.self.inside.first c.self.inside.steps.items c.self.inside.board c.self.inside.log c.self.inside.history c.self.inside.prisoners.black c.self.inside.prisoners.white c.self.invariant c.args.colour c.args.p ∙ ap (λ (v : GameValue). most_for v.standing c.args.colour (At c.args.p)) c.self.view_is in
+    most_is c.self.inside.superko c.self.inside.start c.self.inside.komi c.self.inside.first c.self.inside.steps.items c.self.inside.board c.self.inside.log c.self.inside.history c.self.inside.prisoners.black c.self.inside.prisoners.white c.self.invariant c.args.colour c.args.p ∙ ap (λ (v : GameValue). most_for v.standing c.args.colour (At c.args.p)) c.self.view_is in
     let before : c.self.inside.meter ≡ c.args.self.now.count = ap (λ (v : GameValue). v.count) c.self.view_is in
-    let new : GameValue = seen c.self.inside.start c.self.inside.komi c.self.inside.first c.note.new.steps.items c.play.new.self c.play.new.log c.play.new.meter in
+    let new : GameValue = seen c.self.inside.superko c.self.inside.start c.self.inside.komi c.self.inside.first c.note.new.steps.items c.play.new.self c.play.new.log c.play.new.meter in
     subst (λ (v : GameValue). IsLogged v new (most_for c.args.self.now.standing c.args.colour (At c.args.p))) c.self.view_is
-    (logged_put c.self.inside.start c.self.inside.komi c.self.inside.first c.self.inside.steps.items c.self.inside.board c.self.inside.log c.self.inside.history c.self.inside.prisoners.black c.self.inside.prisoners.white c.self.invariant c.note.new.steps.items (placed c.args.colour c.args.p c.in-Ok.taken) c.in-Ok-note.ensures.pushed c.args.p refl
+    (logged_put c.self.inside.superko c.self.inside.start c.self.inside.komi c.self.inside.first c.self.inside.steps.items c.self.inside.board c.self.inside.log c.self.inside.history c.self.inside.prisoners.black c.self.inside.prisoners.white c.self.invariant c.note.new.steps.items (placed c.args.colour c.args.p c.in-Ok.taken) c.in-Ok-note.ensures.pushed c.args.p refl
     c.play.new.self c.play.new.log (most_of c.self.inside.board.lines (grid_of c.self.inside.board) c.args.colour (number_of c.self.inside.board.lines c.args.p)) (most_for c.args.self.now.standing c.args.colour (At c.args.p)) c.self.inside.meter c.play.new.meter c.in-Ok.ensures.logged most c.play.ensures.ticked)
 
 pub returns-in-Ok-note-clause-count : goal.returns-in-Ok-note-clause-count
 returns-in-Ok-note-clause-count g c =
     let most : most_of c.self.inside.board.lines (grid_of c.self.inside.board) c.args.colour (number_of c.self.inside.board.lines c.args.p) ≡ most_for c.args.self.now.standing c.args.colour (At c.args.p) =
-    most_is c.self.inside.start c.self.inside.komi c.self.inside.first c.self.inside.steps.items c.self.inside.board c.self.inside.log c.self.inside.history c.self.inside.prisoners.black c.self.inside.prisoners.white c.self.invariant c.args.colour c.args.p ∙ ap (λ (v : GameValue). most_for v.standing c.args.colour (At c.args.p)) c.self.view_is in
+    most_is c.self.inside.superko c.self.inside.start c.self.inside.komi c.self.inside.first c.self.inside.steps.items c.self.inside.board c.self.inside.log c.self.inside.history c.self.inside.prisoners.black c.self.inside.prisoners.white c.self.invariant c.args.colour c.args.p ∙ ap (λ (v : GameValue). most_for v.standing c.args.colour (At c.args.p)) c.self.view_is in
     let before : c.self.inside.meter ≡ c.args.self.now.count = ap (λ (v : GameValue). v.count) c.self.view_is in
     let ticks = c.play.ensures.count in omega (arith, most, before, ticks)
 
 pub returns-in-Err-Memory-clause-refused : goal.returns-in-Err-Memory-clause-refused
 returns-in-Err-Memory-clause-refused g c =
     let most : most_of c.self.inside.board.lines (grid_of c.self.inside.board) c.args.colour (number_of c.self.inside.board.lines c.args.p) ≡ most_for c.args.self.now.standing c.args.colour (At c.args.p) =
-    most_is c.self.inside.start c.self.inside.komi c.self.inside.first c.self.inside.steps.items c.self.inside.board c.self.inside.log c.self.inside.history c.self.inside.prisoners.black c.self.inside.prisoners.white c.self.invariant c.args.colour c.args.p ∙ ap (λ (v : GameValue). most_for v.standing c.args.colour (At c.args.p)) c.self.view_is in
+    most_is c.self.inside.superko c.self.inside.start c.self.inside.komi c.self.inside.first c.self.inside.steps.items c.self.inside.board c.self.inside.log c.self.inside.history c.self.inside.prisoners.black c.self.inside.prisoners.white c.self.invariant c.args.colour c.args.p ∙ ap (λ (v : GameValue). most_for v.standing c.args.colour (At c.args.p)) c.self.view_is in
     let before : c.self.inside.meter ≡ c.args.self.now.count = ap (λ (v : GameValue). v.count) c.self.view_is in
     let ticks = c.play.ensures.count in omega (arith, most, before, ticks)
 
 pub returns-in-Err-clause-refused : goal.returns-in-Err-clause-refused
 returns-in-Err-clause-refused g c =
     let most : most_of c.self.inside.board.lines (grid_of c.self.inside.board) c.args.colour (number_of c.self.inside.board.lines c.args.p) ≡ most_for c.args.self.now.standing c.args.colour (At c.args.p) =
-    most_is c.self.inside.start c.self.inside.komi c.self.inside.first c.self.inside.steps.items c.self.inside.board c.self.inside.log c.self.inside.history c.self.inside.prisoners.black c.self.inside.prisoners.white c.self.invariant c.args.colour c.args.p ∙ ap (λ (v : GameValue). most_for v.standing c.args.colour (At c.args.p)) c.self.view_is in
+    most_is c.self.inside.superko c.self.inside.start c.self.inside.komi c.self.inside.first c.self.inside.steps.items c.self.inside.board c.self.inside.log c.self.inside.history c.self.inside.prisoners.black c.self.inside.prisoners.white c.self.invariant c.args.colour c.args.p ∙ ap (λ (v : GameValue). most_for v.standing c.args.colour (At c.args.p)) c.self.view_is in
     let before : c.self.inside.meter ≡ c.args.self.now.count = ap (λ (v : GameValue). v.count) c.self.view_is in
     let ticks = c.play.ensures.count in
     let logged = c.in-Ok.ensures.logged in
@@ -138,5 +139,5 @@ returns-in-Err-clause-refused g c =
 pub returns-then-is_some-clause-occupied : goal.returns-then-is_some-clause-occupied
 returns-then-is_some-clause-occupied g c =
     let on_now : IsOn c.args.self.now.standing.lines c.args.p = subst (λ (m : ℕ). IsOn m c.args.p) c.size.ensures.lines (c.on.ensures.0 c.if-not-on.false) in
-    let seen = colour_is c.self.inside.start c.self.inside.komi c.self.inside.first c.self.inside.steps.items c.self.inside.board c.self.inside.log c.self.inside.history c.self.inside.prisoners.black c.self.inside.prisoners.white c.self.invariant c.args.colour c.args.p ∙ ap (λ (v : GameValue). colour_at (board_of v.standing) (number_of v.standing.lines c.args.p)) c.self.view_is in
+    let seen = colour_is c.self.inside.superko c.self.inside.start c.self.inside.komi c.self.inside.first c.self.inside.steps.items c.self.inside.board c.self.inside.log c.self.inside.history c.self.inside.prisoners.black c.self.inside.prisoners.white c.self.invariant c.args.colour c.args.p ∙ ap (λ (v : GameValue). colour_at (board_of v.standing) (number_of v.standing.lines c.args.p)) c.self.view_is in
     ((λ e. (on_now, stone_some (colour_at (grid_of c.self.inside.board) (number_of c.self.inside.board.lines c.args.p)) (colour_at (board_of c.args.self.now.standing) (number_of c.args.self.now.standing.lines c.args.p)) seen (let s = some_of c.colour_at.result (sym c.is_some.ensures ∙ c.if-is_some.true) in (s.0, sym c.colour_at.ensures ∙ s.1)))), λ h. refl)

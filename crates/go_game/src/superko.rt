@@ -1,0 +1,28 @@
+ghost use Rattle.std.specs.Prelude.{◌≡◌};
+ghost use Rattle.go_game.specs.Standings.{mover_by};
+
+use go_board::{Colour, Packed};
+use go_history::Key;
+
+/// Which repetitions are illegal. Passes are legal under both rules.
+#[derive(Clone, Copy, Debug, PartialEq, Eq)]
+pub enum Superko {
+    /// A play may not leave a colouring that stood before.
+    Positional,
+    /// A play may not leave a colouring that stood before with the same colour to move.
+    Situational,
+}
+
+impl Superko {
+    /// The key of what the rule sees where a colouring has this pack and this colour is to move.
+    pub(crate) fn key(self, pack: Packed, mover: Colour) -> Key
+        ensures pack { result.pack ≡ pack }
+        ensures mover { result.mover ≡ mover_by self mover }
+    {
+        let mover = match self {
+            Superko::Positional => None,
+            Superko::Situational => Some(mover),
+        };
+        Key { pack, mover }
+    }
+}
