@@ -1,5 +1,5 @@
 -- Each record comes to an outcome.
-use Rattle.std.proofs.Common.{◌≡◌, ◌≢◌, ◌∙◌, ◌<◌, ◌*◌, ◌+◌, ℕ, ℤ, zero, suc, Bool, true, false, true≢false, List, [], ◌∷◌, refl, sym, ap, subst, inl, inr, arith, length, get_or, replicate}
+use Rattle.std.proofs.Common.{◌≡◌, ◌≢◌, ◌∙◌, ◌<◌, ◌*◌, ◌+◌, ℕ, ℤ, zero, suc, Bool, true, false, true≢false, List, [], ◌∷◌, refl, sym, ap, ap₂, subst, inl, inr, arith, length, get_or, replicate}
 use Rattle.std.specs.Prelude.{Option, Some, None, Ok, Err, ◌⊎◌, Contains, codes}
 use Rattle.std.proofs.lemmas.Bool.{cases_lt}
 use Rattle.std.proofs.lemmas.List.{get_or_default}
@@ -10,10 +10,10 @@ use Rattle.go_board.specs.declared.vertex.Vertex.{Vertex}
 use Rattle.go_board.specs.declared.vertex.Vertex.TheVariants.{Pass, At}
 use Rattle.go_board.specs.Colours.{Colouring, colour_at}
 use Rattle.go_board.specs.Points.{IsOn, number_of, point_at}
-use Rattle.go_board.specs.Reaching.{is_dead, moved}
+use Rattle.go_board.specs.Reaching.{is_dead}
 use Rattle.go_game.specs.declared.errors.PlayError.{PlayError}
 use Rattle.go_game.specs.declared.errors.PlayError.TheVariants as play
-use Rattle.go_game.specs.Standings.{IsFirstAt, IsLegal, Standing, board_of, positions_of, with_move}
+use Rattle.go_game.specs.Standings.{IsFirstAt, IsLegal, Seen, Standing, board_of, seen_after, stood_of, with_move}
 use Rattle.go_sgf.specs.BoardValues.{point_of, points_of}
 use Rattle.go_sgf.specs.Record.{Trees}
 use Rattle.go_record.specs.declared.error.RecordError.{RecordError}
@@ -47,6 +47,14 @@ same_colours [] (b ∷ ys) = inr (λ e. cc e)
 same_colours (a ∷ xs) [] = inr (λ e. cc e)
 same_colours (a ∷ xs) (b ∷ ys) = same_by a b xs ys (same_point a b) (same_colours xs ys)
 
+same_parts : (g h : Colouring) (a b : Option Colour) → (g ≡ h) ⊎ (g ≢ h) → (a ≡ b) ⊎ (a ≢ b) → ((let x : Seen = (g, a) in x) ≡ (h, b)) ⊎ ((let x : Seen = (g, a) in x) ≢ (h, b))
+same_parts g h a b (inl e) (inl f) = inl (ap₂ (λ (k : Colouring) (c : Option Colour). let x : Seen = (k, c) in x) e f)
+same_parts g h a b (inl e) (inr f) = inr (λ i. f (ap (λ (x : Seen). x.1) i))
+same_parts g h a b (inr e) f = inr (λ i. e (ap (λ (x : Seen). x.0) i))
+
+same_seen : (x y : Seen) → (x ≡ y) ⊎ (x ≢ y)
+same_seen x y = same_parts x.0 y.0 x.1 y.1 (same_colours x.0 y.0) (same_point x.1 y.1)
+
 -- ---- the first of the numbers below a bound
 
 -- no number below m is as wanted, or one is and none before it
@@ -68,9 +76,9 @@ module _ (P : ℕ → Type 0) where
 
 -- ---- moves
 
-repeats : (gs : List Colouring) (g : Colouring) → ((k : ℕ) × IsFirstAt gs g k) ⊎ (Contains gs g → ⊥)
-repeats gs g = elim (find (λ j. get_or gs j [] ≡ g) (λ j. same_colours (get_or gs j []) g) (length gs)) [
-  | inl none ↦ inr (λ h. none h.0 h.1 (get_or_default gs h.0 [] g h.1 ∙ h.2))
+repeats : (gs : List Seen) (g : Seen) → ((k : ℕ) × IsFirstAt gs g k) ⊎ (Contains gs g → ⊥)
+repeats gs g = elim (find (λ j. get_or gs j ([], None) ≡ g) (λ j. same_seen (get_or gs j ([], None)) g) (length gs)) [
+  | inl none ↦ inr (λ h. none h.0 h.1 (get_or_default gs h.0 ([], None) g h.1 ∙ h.2))
   | inr f ↦ inl (f.0, (f.1, f.2, f.3))
 ]
 
@@ -88,7 +96,7 @@ Decided s c v = IsLegal s c v ⊎ ((why : PlayError) × IsReason s c v why)
 
 on_empty : (s : Standing) (c : Colour) (p : Point) → IsOn s.lines p → (o : Option Colour) → colour_at (board_of s) (number_of s.lines p) ≡ o → Decided s c (At p)
 on_empty s c p on (Some x) e = inr (play.Occupied, (on, λ f. let z : (let q : Option Colour = Some x in q) ≡ None = sym e ∙ f in cc z))
-on_empty s c p on None e = elim (repeats (positions_of s) (moved s.lines (board_of s) c (number_of s.lines p))) [
+on_empty s c p on None e = elim (repeats (stood_of s) (seen_after s c (number_of s.lines p))) [
   | inl r ↦ inr (play.Repeats r.0, (λ off. off on, λ full. full.1 e, r.1))
   | inr none ↦ inl (on, e, none)
 ]

@@ -1,4 +1,6 @@
 -- The record of a standing replays to the standing.
+use Rattle.go_game.specs.declared.superko.Superko.{Superko}
+use Rattle.go_game.specs.declared.superko.Superko.TheVariants.{Positional}
 use Rattle.std.proofs.Common.{◌≡◌, ◌≢◌, ◌∙◌, ◌<◌, ◌≤◌, ◌*◌, ◌+◌, ◌++◌, ℕ, ℤ, suc, Bool, true, false, true≢false, List, [], ◌∷◌, refl, sym, ap, ap₂, subst, inl, arith, append_assoc, length, take, map, replicate}
 use Rattle.std.specs.Prelude.{Option, Some, None, Ok, ◌==◌, codes, decimal, slice_index_or, IsTrue, not, ◌&&◌, position}
 use Rattle.std.specs.List.{flat_map, AllByRecursion}
@@ -135,8 +137,13 @@ start_events s blacks whites =
     ap (λ (ns : List (List Property)). (flat_map (setup_event 0) (ab ++ aw) ++ flat_map (move_event 0) (ab ++ aw)) ++ events_from 1 ns) (append-nil (map (move_node s.lines) s.moves))
     ∙ ap (λ es. es ++ line) setup ∙ append_assoc (flat_map (setup_event 0) ab) (flat_map (setup_event 0) aw) line
 
-pub replays : (s : Standing) → IsSound s → IsGameOf (tree_of s) None (Ok s)
-replays s sound =
+-- the standing with its rule the positional one
+abbrev judged : Standing → Standing
+judged s = record s { rule = Positional }
+
+replays_judged : (t : Standing) → IsSound (judged t) → IsGameOf (tree_of (judged t)) None (Ok (judged t))
+replays_judged t sound =
+    let s = judged t in
     let n = s.lines in
     let small = sound.size.1 in
     let blacks : List ℕ = points_coloured n s.start Black in
@@ -156,3 +163,8 @@ replays s sound =
     game_walks (tree_of s) None n s.komi (Ok s) refl (lines_read n sound.size.0 small) (komi_back s.komi sound.komi)
     (sets_turn n s.komi empty None 0 (colour_letter s.first) s.first _ (Ok s) (letter_read s.first)
     (subst (λ (es : List Event). SetsUp n s.komi empty (Some s.first) es (Ok s)) (sym (start_events s blacks whites)) whole))
+
+pub replays : (s : Standing) → IsSound s → s.rule ≡ Positional → IsGameOf (tree_of s) None (Ok s)
+replays s sound is =
+    let same : judged s ≡ s = ap (λ (rule : Superko). let t : Standing = record s { rule = rule } in t) (sym is) in
+    subst (λ (t : Standing). IsGameOf (tree_of t) None (Ok t)) same (replays_judged s (subst IsSound (sym same) sound))

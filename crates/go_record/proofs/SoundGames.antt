@@ -14,6 +14,7 @@ use Rattle.go_board.specs.declared.vertex.Move.{Move}
 use Rattle.go_board.specs.Colours.{Colouring, colour_at}
 use Rattle.go_board.specs.Points.{number_of}
 use Rattle.go_board.specs.Reaching.{is_same, reaches}
+use Rattle.go_game.specs.declared.superko.Superko.TheVariants.{Positional}
 use Rattle.go_game.specs.Standings.{IsKomi, IsLegal, IsSound, Standing, with_move}
 use Rattle.go_sgf.specs.BoardValues.{point_of, points_of}
 use Rattle.go_sgf.specs.Numbers.{behind_sign, has_minus, hundredths_in, hundredths_of, is_decimal, size_by, size_of_number, trimmed, with_sign, whole_part, decimals_in}
@@ -66,17 +67,6 @@ from_needs e true s Later P f h = f h
 same_standing : (s t : Standing) → (let r : Outcome = Ok s in r) ≡ Ok t → s ≡ t
 same_standing s t h = cc h
 
-sound_play : (events : List Event) (s t : Standing) → IsSound s → Plays s events (Ok t) → IsSound t
-unfolding Plays
-sound_play [] s t sound h = subst IsSound (sym (same_standing t s h)) sound
-sound_play (stones node c values ∷ events) s t sound h = cc h
-sound_play (turn node value ∷ events) s t sound h = sound_play events s t sound h
-sound_play (move node c value ∷ events) s t sound h =
-    from_bad node (point_of s.lines value) t _ (IsSound t) (λ v e k. elim k [
-      | inl p ↦ sound_play events (with_move s (record { colour = c; vertex = v })) t (sound_more s (record { colour = c; vertex = v }) sound p.0) p.1
-      | inr q ↦ let f = q.refusal in cc f
-    ]) h
-
 lives_by : (o : Option Colour) (r : Bool) → (not (is_same o None) && not r) ≡ false → o ≢ None → IsTrue r
 lives_by None r e some = absurd (some refl)
 lives_by (Some c) true e some = refl
@@ -92,24 +82,9 @@ sound_start n komi g given size kept whole alive = record {
   legal = λ k m low at. absurd (let e : ⊥ = omega (arith, low) in e);
 }
 
-sound_begin : (n : ℕ) (komi : ℤ) (g : Colouring) (given : Option Colour) (events : List Event) (t : Standing) → (0 < n) × (n ≤ MAX_LINES) → IsKomi komi → length g ≡ n * n →
-    Begins n komi g given events (Ok t) → IsSound t
-sound_begin n komi g given events t size kept whole (inl p) = sound_play events (start_of n komi g given) t (sound_start n komi g given size kept whole p.0) p.1
-sound_begin n komi g given events t size kept whole (inr q) = let f = q.refusal in cc f
-
 points_length : (n : ℕ) (c : Option Colour) (ps : List Point) (g : Colouring) → length (with_points n c g ps) ≡ length g
 points_length n c [] g = refl
 points_length n c (p ∷ ps) g = points_length n c ps _ ∙ length-set g (number_of n p) c
-
-sound_setup : (events : List Event) (n : ℕ) (komi : ℤ) (g : Colouring) (given : Option Colour) (t : Standing) → (0 < n) × (n ≤ MAX_LINES) → IsKomi komi → length g ≡ n * n →
-    SetsUp n komi g given events (Ok t) → IsSound t
-unfolding SetsUp
-sound_setup [] n komi g given t size kept whole h = sound_begin n komi g given [] t size kept whole h
-sound_setup (stones node c values ∷ events) n komi g given t size kept whole h =
-    from_bad node (points_of n values) t _ (IsSound t) (λ ps e k. sound_setup events n komi (with_points n c g ps) given t size kept (points_length n c ps g ∙ whole) k) h
-sound_setup (turn node value ∷ events) n komi g given t size kept whole h =
-    from_bad node (colour_of value) t _ (IsSound t) (λ c e k. sound_setup events n komi g (Some c) t size kept whole k) h
-sound_setup (move node c value ∷ events) n komi g given t size kept whole h = sound_begin n komi g given (move node c value ∷ events) t size kept whole h
 
 -- ---- what the first node says
 
@@ -157,11 +132,48 @@ komi_range value k h = elim (cases_Bool (is_blank value)) [
       mapped_range (has_minus word) (size_of_number (behind_sign word)) k (λ n e. size_few (whole_part (behind_sign word)) (decimals_in (behind_sign word)) n e) told
 ]
 
+-- ---- what holds of each start that a record gives, and stays with each legal move, holds of what the record comes to
+
+module _ (P : Standing → Type 0)
+    (begun : (n : ℕ) (komi : ℤ) (g : Colouring) (given : Option Colour) → (0 < n) × (n ≤ MAX_LINES) → IsKomi komi → length g ≡ n * n → IsAlive n g → P (start_of n komi g given))
+    (more : (s : Standing) (m : Move) → P s → IsLegal s m.colour m.vertex → P (with_move s m)) where
+  after_play : (events : List Event) (s t : Standing) → P s → Plays s events (Ok t) → P t
+  unfolding Plays
+  after_play [] s t held h = subst P (sym (same_standing t s h)) held
+  after_play (stones node c values ∷ events) s t held h = cc h
+  after_play (turn node value ∷ events) s t held h = after_play events s t held h
+  after_play (move node c value ∷ events) s t held h =
+      from_bad node (point_of s.lines value) t _ (P t) (λ v e k. elim k [
+        | inl p ↦ after_play events (with_move s (record { colour = c; vertex = v })) t (more s (record { colour = c; vertex = v }) held p.0) p.1
+        | inr q ↦ let f = q.refusal in cc f
+      ]) h
+
+  after_begin : (n : ℕ) (komi : ℤ) (g : Colouring) (given : Option Colour) (events : List Event) (t : Standing) → (0 < n) × (n ≤ MAX_LINES) → IsKomi komi → length g ≡ n * n →
+      Begins n komi g given events (Ok t) → P t
+  after_begin n komi g given events t size kept whole (inl p) = after_play events (start_of n komi g given) t (begun n komi g given size kept whole p.0) p.1
+  after_begin n komi g given events t size kept whole (inr q) = let f = q.refusal in cc f
+
+  after_setup : (events : List Event) (n : ℕ) (komi : ℤ) (g : Colouring) (given : Option Colour) (t : Standing) → (0 < n) × (n ≤ MAX_LINES) → IsKomi komi → length g ≡ n * n →
+      SetsUp n komi g given events (Ok t) → P t
+  unfolding SetsUp
+  after_setup [] n komi g given t size kept whole h = after_begin n komi g given [] t size kept whole h
+  after_setup (stones node c values ∷ events) n komi g given t size kept whole h =
+      from_bad node (points_of n values) t _ (P t) (λ ps e k. after_setup events n komi (with_points n c g ps) given t size kept (points_length n c ps g ∙ whole) k) h
+  after_setup (turn node value ∷ events) n komi g given t size kept whole h =
+      from_bad node (colour_of value) t _ (P t) (λ c e k. after_setup events n komi g (Some c) t size kept whole k) h
+  after_setup (move node c value ∷ events) n komi g given t size kept whole h = after_begin n komi g given (move node c value ∷ events) t size kept whole h
+
+  of_games : (c : Trees) (number : Option ℕ) (t : Standing) → IsGameOf c number (Ok t) → P t
+  unfolding IsGameOf
+  of_games c number t h =
+      from_needs _ (is_go (root_value (codes "GM") c)) t _ (P t) (λ rest.
+      from_else _ (lines_in (root_value (codes "SZ") c)) t _ (P t) (λ n en later.
+      from_else _ (komi_in (root_value (codes "KM") c)) t _ (P t) (λ komi ek walk.
+      after_setup _ n komi (replicate (n * n) None) None t (lines_range (root_value (codes "SZ") c) n en) (komi_range (root_value (codes "KM") c) komi ek) (length-replicate (n * n) None) walk)
+      later) rest) h
+
 pub games_sound : (c : Trees) (number : Option ℕ) (t : Standing) → IsGameOf c number (Ok t) → IsSound t
-unfolding IsGameOf
-games_sound c number t h =
-    from_needs _ (is_go (root_value (codes "GM") c)) t _ (IsSound t) (λ rest.
-    from_else _ (lines_in (root_value (codes "SZ") c)) t _ (IsSound t) (λ n en more.
-    from_else _ (komi_in (root_value (codes "KM") c)) t _ (IsSound t) (λ komi ek walk.
-    sound_setup _ n komi (replicate (n * n) None) None t (lines_range (root_value (codes "SZ") c) n en) (komi_range (root_value (codes "KM") c) komi ek) (length-replicate (n * n) None) walk)
-    more) rest) h
+games_sound = of_games IsSound sound_start sound_more
+
+pub games_positional : (c : Trees) (number : Option ℕ) (t : Standing) → IsGameOf c number (Ok t) → t.rule ≡ Positional
+games_positional = of_games (λ s. s.rule ≡ Positional) (λ n komi g given size kept whole alive. refl) (λ s m is legal. is)

@@ -14,7 +14,7 @@ use Rattle.go_board.specs.Colours.{Colouring}
 use Rattle.go_board.specs.Points.{IsOn, number_of, point_at}
 use Rattle.go_game.specs.declared.errors.PlayError.{PlayError}
 use Rattle.go_game.specs.declared.errors.PlayError.TheVariants as play
-use Rattle.go_game.specs.Standings.{IsFirstAt, IsLegal, IsOccupied, IsOffBoard, Standing, with_move}
+use Rattle.go_game.specs.Standings.{IsFirstAt, IsLegal, IsOccupied, IsOffBoard, Seen, Standing, with_move}
 use Rattle.go_sgf.specs.BoardValues.{point_of, points_of}
 use Rattle.go_sgf.specs.Record.{Trees}
 use Rattle.go_record.specs.declared.error.RecordError.{RecordError}
@@ -36,7 +36,7 @@ number_low n p on = grind (arith, common_steps, rows)
 
 -- ---- reasons
 
-first_unique : (gs : List Colouring) (g : Colouring) (j k : ℕ) → IsFirstAt gs g j → IsFirstAt gs g k → j ≡ k
+first_unique : (gs : List Seen) (g : Seen) (j k : ℕ) → IsFirstAt gs g j → IsFirstAt gs g k → j ≡ k
 first_unique gs g j k a b = elim (cases_lt j k) [
   | inl low ↦ absurd (b.2 j low a.1)
   | inr high ↦ elim (cases_lt k j) [
@@ -45,8 +45,8 @@ first_unique gs g j k a b = elim (cases_lt j k) [
   ]
 ]
 
-first_contained : (gs : List Colouring) (g : Colouring) (k : ℕ) → IsFirstAt gs g k → Contains gs g
-first_contained gs g k a = subst (λ (x : Colouring). Contains gs x) a.1 (Contains-get_or gs k [] a.0)
+first_contained : (gs : List Seen) (g : Seen) (k : ℕ) → IsFirstAt gs g k → Contains gs g
+first_contained gs g k a = subst (λ (x : Seen). Contains gs x) a.1 (Contains-get_or gs k ([], None) a.0)
 
 off_not_occupied : (s : Standing) (v : Vertex) → IsOffBoard s v → IsOccupied s v → ⊥
 off_not_occupied s Pass off on = off

@@ -1,5 +1,6 @@
 -- Laws of records and of their games.
 use Rattle.std.specs.Prelude.{◌≡◌, ℕ, Option, None, Ok}
+use Rattle.go_game.specs.declared.superko.Superko.TheVariants.{Positional}
 use Rattle.go_game.specs.Standings.{IsSound, Standing}
 use Rattle.go_sgf.specs.Record.{IsFit, Trees}
 use Rattle.go_sgf.specs.Spelling.{Spells}
@@ -16,12 +17,17 @@ OneOutcome = (c : Trees) (number : Option ℕ) →
 abbrev pub SoundGames : Type 0
 SoundGames = (c : Trees) (number : Option ℕ) (s : Standing) → IsGameOf c number (Ok s) → IsSound s
 
--- A standing's record can be spelled, its text spells it and nothing else, and its game is the standing.
+-- and it stands under the positional rule
+abbrev pub JudgedByPositions : Type 0
+JudgedByPositions = (c : Trees) (number : Option ℕ) (s : Standing) → IsGameOf c number (Ok s) → s.rule ≡ Positional
+
+-- A standing's record can be spelled, its text spells it and nothing else, and where it stands under the positional rule its game
+-- is the standing.
 pub record Records (s : Standing) : Type 0 where
   pub fit : IsFit (tree_of s)
   pub spelled : Spells (record_of s) (tree_of s)
   pub alone : (c : Trees) → Spells (record_of s) c → c ≡ tree_of s
-  pub game : IsGameOf (tree_of s) None (Ok s)
+  pub game : s.rule ≡ Positional → IsGameOf (tree_of s) None (Ok s)
 
 -- so for every standing that play can come to
 abbrev pub RecordLaw : Type 0

@@ -12,6 +12,7 @@ use Rattle.go_board.specs.Points.{number_of}
 use Rattle.go_board.specs.Reaching.{has_colour, is_dead, points}
 use Rattle.go_game.specs.declared.errors.PlayError.{PlayError}
 use Rattle.go_game.specs.declared.errors.PlayError.TheVariants.{Occupied, OffBoard, Repeats, Memory}
+use Rattle.go_game.specs.declared.superko.Superko.TheVariants.{Positional}
 use Rattle.go_game.specs.Standings.{IsLegal, IsOccupied, IsOffBoard, Standing, with_move}
 use Rattle.go_game.specs.Standings.{Repeats as IsRepeat}
 use Rattle.go_sgf.specs.BoardValues.{point_of, points_of}
@@ -78,8 +79,9 @@ abbrev pub first_mover : ℕ → Colouring → Option Colour → Colour
 first_mover n g (Some c) = c
 first_mover n g None = if has_stones n g Black && not (has_stones n g White) then White else Black
 
+-- records are judged by the positional rule
 abbrev pub start_of : ℕ → ℤ → Colouring → Option Colour → Standing
-start_of n komi g given = record { lines = n; komi = komi; start = g; first = first_mover n g given; moves = [] }
+start_of n komi g given = record { lines = n; komi = komi; rule = Positional; start = g; first = first_mover n g given; moves = [] }
 
 -- every stone reaches empty
 abbrev pub IsAlive : ℕ → Colouring → Type 0

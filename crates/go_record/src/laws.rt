@@ -1,7 +1,7 @@
 //! What the words of this crate's contracts mean: laws about definitions, each the contract of a
 //! function that does nothing.
 ghost use Rattle.std.specs.Prelude.{◌≡◌};
-ghost use Rattle.go_record.specs.Laws.{OneOutcome, RecordLaw, SoundGames};
+ghost use Rattle.go_record.specs.Laws.{JudgedByPositions, OneOutcome, RecordLaw, SoundGames};
 ghost use Rattle.go_record.specs.declared.root.TheConstants.{USUAL_LINES};
 
 use go_sgf::laws::{canonical_spells_plain, one_record};
@@ -16,8 +16,13 @@ pub fn sound_games()
     ensures { SoundGames }
 {}
 
+/// And it stands under the positional rule, by which every record is judged.
+pub fn judged_by_positions()
+    ensures { JudgedByPositions }
+{}
+
 /// The record of a standing that play can come to is spelled by its text, which spells nothing else,
-/// and replays to that standing.
+/// and under the positional rule replays to that standing.
 pub fn record_law()
     ensures { RecordLaw }
 {
