@@ -1,5 +1,5 @@
 -- What is decided on a move, by what the game says of it.
-use Rattle.std.proofs.Common.{◌≡◌, ◌∙◌, ℕ, Bool, true, false, [], Some, refl, sym, ap, inl, inr, if◌then◌else◌, ◌↔◌}
+use Rattle.std.proofs.Common.{◌≡◌, ◌∙◌, ℕ, Bool, true, false, [], None, Some, refl, sym, ap, inl, inr, if◌then◌else◌, ◌↔◌}
 use Rattle.std.specs.Prelude.{IsTrue}
 use Rattle.std.proofs.lemmas.List.{get_or_default}
 use Rattle.go_board.specs.declared.colour.Colour.{Colour}
@@ -7,12 +7,11 @@ use Rattle.go_board.specs.declared.vertex.Move.{Move}
 use Rattle.go_board.specs.declared.vertex.Vertex.{Vertex}
 use Rattle.go_board.specs.declared.vertex.Vertex.TheVariants.{Pass, At}
 use Rattle.go_board.specs.Points.{number_of}
-use Rattle.go_board.specs.Reaching.{moved}
 use Rattle.go_game.specs.declared.errors.PlayError.{PlayError}
 use Rattle.go_game.specs.declared.errors.PlayError.TheVariants.{OffBoard, Occupied, Repeats, Memory}
 use Rattle.go_game.specs.Legal.{is_legal}
 use Rattle.go_game.specs.Standings as standings
-use Rattle.go_game.specs.Standings.{IsLegal, IsOccupied, IsOffBoard, Standing, board_of, positions_of, with_move}
+use Rattle.go_game.specs.Standings.{IsLegal, IsOccupied, IsOffBoard, Standing, seen_after, stood_of, with_move}
 use Rattle.goref.specs.declared.decision.Decision.TheVariants.{Done, Refused}
 use Rattle.goref.specs.declared.decision.Refusal.TheVariants.{IllegalMove, OutOfMemory}
 use Rattle.goref.specs.Decisions.{keeps, comes_to, DecidesPlay, move_refusal}
@@ -32,7 +31,7 @@ held_is_illegal s c (At p) held = λ legal. held.1 legal.1
 repeat_is_illegal : (s : Standing) (c : Colour) (v : Vertex) (k : ℕ) → standings.Repeats s c v k → (IsLegal s c v → ⊥)
 repeat_is_illegal s c Pass k repeats = absurd repeats
 repeat_is_illegal s c (At p) k repeats =
-    λ legal. legal.2 (k, repeats.0, sym (get_or_default (positions_of s) k [] (moved s.lines (board_of s) c (number_of s.lines p)) repeats.0) ∙ repeats.1)
+    λ legal. legal.2 (k, repeats.0, sym (get_or_default (stood_of s) k ([], None) (seen_after s c (number_of s.lines p)) repeats.0) ∙ repeats.1)
 
 -- what the rules forbid fails the test
 fails : (b : Bool) → (IsTrue b → ⊥) → b ≡ false

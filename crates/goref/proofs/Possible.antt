@@ -51,6 +51,7 @@ on_command s command.TimeLeft arguments content = (_, refl)
 on_command s command.Chains arguments content = (_, refl)
 on_command s command.Legal arguments content = (_, inl refl)
 on_command s command.Printsgf arguments content = (_, refl)
+on_command s command.Superko arguments content = (_, refl)
 
 on_name : (s : Standing) (c : Option Command) (arguments : List (List ℕ)) (content : Content) → (d : Decided) × DecidesIf s c arguments content d
 on_name s None arguments content = (_, refl)

@@ -6,7 +6,7 @@ use Rattle.goref.specs.declared.decision.Decision.TheVariants.{Done, Ends, Tells
 use Rattle.goref.specs.declared.decision.Fact.{Fact}
 use Rattle.goref.specs.declared.decision.Fact.TheVariants.{Protocol, Program, Release, Commands, Known, Score, Board, Chains, Places, Vertex as Chosen, Plays, Record}
 use Rattle.goref.specs.declared.decision.Refusal.{Refusal}
-use Rattle.goref.specs.declared.decision.Refusal.TheVariants.{LineTooLong, UnknownCommand, SyntaxError, UnacceptableSize, IllegalMove, CannotUndo, BoardNotEmpty, InvalidNumber, BadVertexList, CannotLoad, OutOfMemory}
+use Rattle.goref.specs.declared.decision.Refusal.TheVariants.{LineTooLong, UnknownCommand, SyntaxError, UnacceptableSize, IllegalMove, CannotUndo, BoardNotEmpty, InvalidNumber, BadVertexList, CannotLoad, GameInProgress, OutOfMemory}
 use Rattle.go_game.specs.Standings.{Standing, board_of}
 use Rattle.go_game.specs.Handicaps.{fixed}
 use Rattle.go_game.specs.Scores.{margin_of, score_word}
@@ -35,6 +35,7 @@ refusal_text BoardNotEmpty = codes "board not empty"
 refusal_text InvalidNumber = codes "invalid number of stones"
 refusal_text BadVertexList = codes "bad vertex list"
 refusal_text CannotLoad = codes "cannot load file"
+refusal_text GameInProgress = codes "game in progress"
 refusal_text OutOfMemory = codes "out of memory"
 
 abbrev pub truth_text : Bool → List ℕ

@@ -2,7 +2,7 @@
 use Rattle.std.specs.Prelude.{ℕ, List, [], ◌∷◌, Option, codes, find, map}
 use Rattle.std.specs.Str.{bytes_eq}
 use Rattle.goref.specs.declared.command.Command.{Command}
-use Rattle.goref.specs.declared.command.Command.TheVariants.{ProtocolVersion, Name, Version, KnownCommand, ListCommands, Quit, Boardsize, ClearBoard, Komi, Play, Genmove, Undo, RegGenmove, Loadsgf, FixedHandicap, PlaceFreeHandicap, SetFreeHandicap, FinalScore, Showboard, TimeSettings, TimeLeft, Chains, Legal, Printsgf}
+use Rattle.goref.specs.declared.command.Command.TheVariants.{ProtocolVersion, Name, Version, KnownCommand, ListCommands, Quit, Boardsize, ClearBoard, Komi, Play, Genmove, Undo, RegGenmove, Loadsgf, FixedHandicap, PlaceFreeHandicap, SetFreeHandicap, FinalScore, Showboard, TimeSettings, TimeLeft, Chains, Legal, Printsgf, Superko}
 
 -- the name by which a line asks for a command
 abbrev pub name_of : Command → List ℕ
@@ -30,11 +30,12 @@ name_of TimeLeft = codes "time_left"
 name_of Chains = codes "goref-chains"
 name_of Legal = codes "goref-legal"
 name_of Printsgf = codes "goref-printsgf"
+name_of Superko = codes "goref-superko"
 
 -- all commands, in the order in which they are listed
 abbrev pub commands : List Command
 commands = ProtocolVersion ∷ Name ∷ Version ∷ KnownCommand ∷ ListCommands ∷ Quit ∷ Boardsize ∷ ClearBoard ∷ Komi ∷ Play ∷ Genmove ∷ Undo ∷ RegGenmove ∷ Loadsgf ∷ FixedHandicap ∷ PlaceFreeHandicap
-    ∷ SetFreeHandicap ∷ FinalScore ∷ Showboard ∷ TimeSettings ∷ TimeLeft ∷ Chains ∷ Legal ∷ Printsgf ∷ []
+    ∷ SetFreeHandicap ∷ FinalScore ∷ Showboard ∷ TimeSettings ∷ TimeLeft ∷ Chains ∷ Legal ∷ Printsgf ∷ Superko ∷ []
 
 abbrev pub command_names : List (List ℕ)
 command_names = map name_of commands

@@ -7,10 +7,11 @@ use Rattle.goref.specs.declared.command.Command.TheVariants as command
 use Rattle.goref.specs.declared.decision.Decision.{Decision}
 use Rattle.goref.specs.declared.decision.Decision.TheVariants.{Done, Ends, Tells, Refused}
 use Rattle.goref.specs.declared.decision.Fact.TheVariants.{Protocol, Program, Release, Commands, Known, Score, Board, Chains, Places, Vertex as Chosen, Plays, Record}
+use Rattle.go_game.specs.declared.superko.Superko.{Superko}
 use Rattle.go_game.specs.declared.errors.PlayError.{PlayError}
 use Rattle.go_game.specs.declared.errors.PlayError.TheVariants.{OffBoard, Occupied, Repeats, Memory}
 use Rattle.goref.specs.declared.decision.Refusal.{Refusal}
-use Rattle.goref.specs.declared.decision.Refusal.TheVariants.{UnknownCommand, SyntaxError, UnacceptableSize, IllegalMove, CannotUndo, BoardNotEmpty, InvalidNumber, BadVertexList, CannotLoad, OutOfMemory}
+use Rattle.goref.specs.declared.decision.Refusal.TheVariants.{UnknownCommand, SyntaxError, UnacceptableSize, IllegalMove, CannotUndo, BoardNotEmpty, InvalidNumber, BadVertexList, CannotLoad, GameInProgress, OutOfMemory}
 use Rattle.go_board.specs.declared.colour.Colour.{Colour}
 use Rattle.go_board.specs.declared.vertex.Move.{Move}
 use Rattle.go_board.specs.declared.vertex.Vertex.{Vertex}
@@ -18,7 +19,8 @@ use Rattle.go_board.specs.Vertices.{vertex_of}
 use Rattle.go_board.specs.declared.point.Point.{Point}
 use Rattle.go_game.specs.Handicaps.{fixed, greatest}
 use Rattle.go_game.specs.Standings.{IsOccupied, IsOffBoard, Standing, is_vacant, with_move, without_last}
-use Rattle.goref.specs.Starts.{begun}
+use Rattle.goref.specs.Rules.{rule_of}
+use Rattle.goref.specs.Starts.{emptied}
 use Rattle.goref.specs.Handicaps.{with_stones}
 use Rattle.goref_lines.specs.Stones.{stones_listed}
 use Rattle.goref_lines.specs.declared.stones.ListError.{ListError}
@@ -51,10 +53,10 @@ abbrev pub decided_known : Standing → Option (List ℕ) → Decided
 decided_known s None = keeps s (Refused SyntaxError)
 decided_known s (Some word) = keeps s (Tells (Known (is_some (command_of word))))
 
--- `boardsize`: an empty board of this size; the komi stays
+-- `boardsize`: an empty board of this size; the komi and the rule stay
 abbrev pub decided_size : Standing → Option ℕ → Decided
 decided_size s None = keeps s (Refused SyntaxError)
-decided_size s (Some n) = if nat_le 1 n && nat_le n MAX_LINES then comes_to (begun n s.komi) else keeps s (Refused UnacceptableSize)
+decided_size s (Some n) = if nat_le 1 n && nat_le n MAX_LINES then comes_to (emptied s n) else keeps s (Refused UnacceptableSize)
 
 -- `komi`: the komi alone is set, which is no move
 abbrev pub decided_komi : Standing → Option ℤ → Decided
@@ -123,6 +125,12 @@ decided_stones s (Err Malformed) = keeps s (Refused SyntaxError)
 decided_stones s (Err Bad) = keeps s (Refused (if is_vacant s then BadVertexList else BoardNotEmpty))
 decided_stones s (Ok points) = if is_vacant s then comes_to (with_stones s points) else keeps s (Refused BoardNotEmpty)
 
+-- `goref-superko`: the rule is set where none of these moves stands
+abbrev pub decided_superko : Standing → List Move → Option Superko → Decided
+decided_superko s moves None = keeps s (Refused SyntaxError)
+decided_superko s [] (Some rule) = comes_to (record s { rule = rule })
+decided_superko s (m ∷ moves) (Some rule) = keeps s (Refused GameInProgress)
+
 -- `time_settings` and `time_left`: nothing is done with the times
 abbrev pub decided_settings : Standing → Option ℕ → Option ℕ → Option ℕ → Decided
 decided_settings s (Some main) (Some byo_yomi) (Some stones) = comes_to s
@@ -182,7 +190,7 @@ DecidesOn s command.KnownCommand arguments content d = d ≡ decided_known s (sl
 DecidesOn s command.ListCommands arguments content d = d ≡ keeps s (Tells Commands)
 DecidesOn s command.Quit arguments content d = d ≡ keeps s Ends
 DecidesOn s command.Boardsize arguments content d = d ≡ decided_size s (option_and_then int_of (slice_get arguments 0))
-DecidesOn s command.ClearBoard arguments content d = d ≡ comes_to (begun s.lines s.komi)
+DecidesOn s command.ClearBoard arguments content d = d ≡ comes_to (emptied s s.lines)
 DecidesOn s command.Komi arguments content d = d ≡ decided_komi s (option_and_then hundredths_of (slice_get arguments 0))
 DecidesOn s command.Play arguments content d =
     DecidesPlay s (option_and_then colour_of (slice_get arguments 0)) (option_and_then vertex_of (slice_get arguments 1)) d
@@ -202,6 +210,7 @@ DecidesOn s command.TimeLeft arguments content d =
 DecidesOn s command.Chains arguments content d = d ≡ keeps s (Tells Chains)
 DecidesOn s command.Legal arguments content d = MayDecide s (decided_legal s (option_and_then colour_of (slice_get arguments 0))) d
 DecidesOn s command.Printsgf arguments content d = d ≡ keeps s (Tells Record)
+DecidesOn s command.Superko arguments content d = d ≡ decided_superko s s.moves (option_and_then rule_of (slice_get arguments 0))
 
 -- what may be decided on a name, which may be that of no command
 abbrev pub DecidesIf : Standing → Option Command → List (List ℕ) → Content → Decided → Type 0

@@ -1,4 +1,5 @@
 pub mod Starts
+pub mod Rules
 pub mod Contents
 pub mod Handicaps
 pub mod Commands

@@ -177,6 +177,7 @@ fn refusal_word(why: Refusal) -> &'static [u8]
         Refusal::InvalidNumber => b"invalid number of stones",
         Refusal::BadVertexList => b"bad vertex list",
         Refusal::CannotLoad => b"cannot load file",
+        Refusal::GameInProgress => b"game in progress",
         Refusal::OutOfMemory => b"out of memory",
     }
 }

@@ -29,11 +29,12 @@ pub enum Command {
     Chains,
     Legal,
     Printsgf,
+    Superko,
 }
 
 /// The names of all commands, each on a line of its own.
 const LISTING: &[u8] =
-    b"protocol_version\nname\nversion\nknown_command\nlist_commands\nquit\nboardsize\nclear_board\nkomi\nplay\ngenmove\nundo\nreg_genmove\nloadsgf\nfixed_handicap\nplace_free_handicap\nset_free_handicap\nfinal_score\nshowboard\ntime_settings\ntime_left\ngoref-chains\ngoref-legal\ngoref-printsgf";
+    b"protocol_version\nname\nversion\nknown_command\nlist_commands\nquit\nboardsize\nclear_board\nkomi\nplay\ngenmove\nundo\nreg_genmove\nloadsgf\nfixed_handicap\nplace_free_handicap\nset_free_handicap\nfinal_score\nshowboard\ntime_settings\ntime_left\ngoref-chains\ngoref-legal\ngoref-printsgf\ngoref-superko";
 
 /// The command of this name.
 pub fn command_named(name: &[u8]) -> Option<Command>
@@ -110,6 +111,9 @@ pub fn command_named(name: &[u8]) -> Option<Command>
     }
     if name == b"goref-printsgf".as_slice() {
         return Some(Command::Printsgf);
+    }
+    if name == b"goref-superko".as_slice() {
+        return Some(Command::Superko);
     }
     None
 }

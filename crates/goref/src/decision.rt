@@ -56,5 +56,6 @@ pub enum Refusal {
     InvalidNumber,
     BadVertexList,
     CannotLoad,
+    GameInProgress,
     OutOfMemory,
 }

@@ -5,7 +5,8 @@ ghost use Rattle.go_board.specs.Sizes.{lines_of};
 ghost use Rattle.go_board.specs.declared.size.TheConstants.{MAX_LINES};
 ghost use Rattle.go_game.specs.Standings.{IsKomi, Standing, is_vacant};
 ghost use Rattle.go_sgf.specs.Numbers.{hundredths_of as komi_of};
-ghost use Rattle.goref.specs.Starts.{begun};
+ghost use Rattle.goref.specs.Rules.{rule_of};
+ghost use Rattle.goref.specs.Starts.{begun, emptied};
 ghost use Rattle.goref_lines.specs.Words.{int_of, colour_of};
 ghost use Rattle.goref.specs.Contents.{content_of};
 ghost use Rattle.goref.specs.Commands.{command_of};
@@ -13,7 +14,7 @@ ghost use Rattle.go_board.specs.Device.{failures_after};
 ghost use Rattle.goref.specs.Answers.{DecidesLine, is_end, line_id};
 ghost use Rattle.goref.specs.Replies.{Answered, flow_of};
 ghost use Rattle.goref.specs.Loads.{load_of};
-ghost use Rattle.goref.specs.Decisions.{Decides, DecidesBytes, DecidesContent, DecidesLoad, DecidesPlay, MayDecide, decided_choice, decided_fixed, decided_free, decided_genmove, decided_handicap, decided_komi, decided_known, decided_left, decided_legal, decided_settings, decided_size, decided_stones, decided_undo, move_refusal};
+ghost use Rattle.goref.specs.Decisions.{Decides, DecidesBytes, DecidesContent, DecidesLoad, DecidesPlay, MayDecide, decided_choice, decided_fixed, decided_free, decided_genmove, decided_handicap, decided_komi, decided_known, decided_left, decided_legal, decided_settings, decided_size, decided_stones, decided_superko, decided_undo, move_refusal};
 ghost use Rattle.goref.specs.Handicaps.{with_stones};
 ghost use Rattle.goref_lines.specs.Stones.{stones_listed};
 ghost use Rattle.go_board.specs.Points.{IsOn};
@@ -26,7 +27,7 @@ use crate::flow::Flow;
 use crate::load::{LoadError, command_asked, load_asked, loaded};
 use go_board::{Colour, Move, Point, Sink, Size, Vertex, VertexError, WriteFault, read_vertex};
 use go_game::laws::legal_by_the_rules;
-use go_game::{Game, PlayError, SetupError, fixed_points, greatest_handicap, stones_on};
+use go_game::{Game, PlayError, SetupError, Superko, fixed_points, greatest_handicap, stones_on};
 use go_sgf::hundredths_of;
 use goref_lines::{Line, ListError, Request, id_of_cut, read_colour, read_int, read_stones};
 use goref_results::legal_plays;
@@ -47,7 +48,7 @@ impl<A: Allocator + Copy> Model for Session<A> {
 }
 
 impl<A: Allocator + Copy> Session<A> {
-    /// A session over an empty board of this size.
+    /// A session over an empty board of this size, under the positional rule.
     pub fn new(alloc: A, size: Size) -> Session<A>
         ensures { result ≡ begun (lines_of size) (pos 0) }
     {
@@ -129,6 +130,7 @@ impl<A: Allocator + Copy> Session<A> {
             Some(Command::Chains) => Decision::Tells(Fact::Chains),
             Some(Command::Legal) => self.decide_legal(request),
             Some(Command::Printsgf) => Decision::Tells(Fact::Record),
+            Some(Command::Superko) => self.decide_superko(request),
         }
     }
 
@@ -150,7 +152,7 @@ impl<A: Allocator + Copy> Session<A> {
 
     fn decide_clear(&mut self) -> Decision
         ensures decision { result ≡ Decision.Done }
-        ensures standing { self.new ≡ begun self.old.lines self.old.komi }
+        ensures standing { self.new ≡ emptied self.old self.old.lines }
     {
         self.game.clear();
         Decision::Done
@@ -297,6 +299,21 @@ impl<A: Allocator + Copy> Session<A> {
         }
     }
 
+    fn decide_superko(&mut self, request: &Request) -> Decision
+        ensures { record { decision = result; standing = self.new }
+            ≡ decided_superko self.old self.old.moves
+            (option_and_then rule_of (slice_get request.now.arguments 0)) }
+    {
+        match rule_argument(request, 0) {
+            None => Decision::Refused(Refusal::SyntaxError),
+            Some(_) if self.game.move_count() > 0 => Decision::Refused(Refusal::GameInProgress),
+            Some(superko) => {
+                self.game.set_superko(superko);
+                Decision::Done
+            }
+        }
+    }
+
     fn decide_fixed(&mut self, request: &Request) -> Decision
         ensures { MayDecide self.old
             (decided_fixed self.old (option_and_then int_of (slice_get request.now.arguments 0)))
@@ -377,8 +394,8 @@ impl<A: Allocator + Copy> Session<A> {
         }
     }
 
-    /// Begins anew with these black stones: White is to move, and the komi stays. It is refused for
-    /// want of memory alone, since each of the stones reaches the point that is left.
+    /// Begins anew with these black stones: White is to move, and the komi and the superko rule stay.
+    /// It is refused for want of memory alone, since each of the stones reaches the point that is left.
     fn begin_with(&mut self, points: &[Point]) -> Result<(), SetupError>
         requires on { All (IsOn self.old.lines) points.now }
         requires few { length points.now < self.old.lines * self.old.lines }
@@ -387,10 +404,12 @@ impl<A: Allocator + Copy> Session<A> {
         ensures memory { IfErr result (λ e. e ≡ SetupError.Memory) }
     {
         let komi = self.game.komi();
+        let superko = self.game.superko();
         let stones = stones_on(self.game.size(), points);
         match Game::start_from(self.alloc, &stones, Colour::White) {
             Ok(mut game) => {
                 game.set_komi(komi);
+                game.set_superko(superko);
                 self.game = game;
                 Ok(())
             }
@@ -468,6 +487,28 @@ fn komi_argument(request: &Request, place: u16) -> Option<i64>
         Some(word) => hundredths_of(word),
         None => None,
     }
+}
+
+fn rule_argument(request: &Request, place: u16) -> Option<Superko>
+    ensures { result ≡ option_and_then rule_of (slice_get request.now.arguments place) }
+{
+    match request.argument(place) {
+        Some(word) => rule_named(word),
+        None => None,
+    }
+}
+
+/// The superko rule of this name.
+fn rule_named(word: &[u8]) -> Option<Superko>
+    ensures { result ≡ rule_of word.now }
+{
+    if word == b"positional".as_slice() {
+        return Some(Superko::Positional);
+    }
+    if word == b"situational".as_slice() {
+        return Some(Superko::Situational);
+    }
+    None
 }
 
 fn int_argument(request: &Request, place: u16) -> Option<u32>
