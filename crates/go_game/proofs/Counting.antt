@@ -1,6 +1,6 @@
 -- What a move's changes are among those of a game, and what taking it back gives.
 use Rattle.go_game.specs.declared.superko.Superko.{Superko}
-use Rattle.std.proofs.Common.{arith, ◌≡◌, ◌≤◌, ◌+◌, ◌∙◌, ℕ, ℤ, List, [], ◌∷◌, ◌++◌, length, map, refl, sym, ap, ap₂, subst}
+use Rattle.std.proofs.Common.{arith, ◌≡◌, ◌≤◌, ◌+◌, ◌∙◌, ℕ, zero, suc, ℤ, List, [], ◌∷◌, ◌++◌, length, map, refl, sym, ap, ap₂, subst}
 use Rattle.std.proofs.lemmas.List.{append-nil, same_from_push}
 use Rattle.go_board.specs.declared.colour.Colour.{Colour}
 use Rattle.go_board.specs.declared.point.Point.{Point}
@@ -14,7 +14,7 @@ use Rattle.go_chains.specs.Sound.{BoardValue}
 use Rattle.go_history.specs.Histories.{HistoryValue}
 use Rattle.go_game.specs.declared.step.Step.{Step}
 use Rattle.go_game.specs.Changes.{changes_of, own_changes, plays_behind}
-use Rattle.go_game.specs.Counts.{IsAsBefore, IsLogged, IsTakenBack}
+use Rattle.go_game.specs.Counts.{AreLogged, AreTakenBack, IsAsBefore, IsLogged, IsTakenBack}
 use Rattle.go_game.specs.Held.{IsKeeping, made_of, standing_of}
 use Rattle.go_game.specs.Standings.{GameValue}
 use Rattle.go_game.specs.Trails.{IsTurn, WentThrough}
@@ -111,3 +111,14 @@ again_as_before old mid new first second = record {
   changes = second.changes ∙ first.changes;
   onward = omega (arith, first.onward, second.onward);
 }
+
+-- any moves and as many taken back
+pub restored : (n : ℕ) (before then then' after : GameValue) → then'.cells ≡ then.cells → then'.changes ≡ then.changes → AreLogged n before then → AreTakenBack n then' after
+    → (after.cells ≡ before.cells) × (after.changes ≡ before.changes)
+restored zero before then then' after cells changes same back =
+    (ap (λ (v : GameValue). v.cells) (sym back) ∙ cells ∙ ap (λ (v : GameValue). v.cells) (sym same), ap (λ (v : GameValue). v.changes) (sym back) ∙ changes ∙ ap (λ (v : GameValue). v.changes) (sym same))
+restored (suc n) before then then' after cells changes logged back =
+    let last = logged.3 in
+    let taken = back.1 in
+    let same = same_from_push _ _ _ _ (sym taken.lost ∙ changes ∙ last.gained) in
+    restored n before logged.0 back.0 after (taken.cells ∙ ap₂ rewound cells same.1 ∙ last.back) same.0 logged.1 back.2

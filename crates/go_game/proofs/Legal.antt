@@ -18,7 +18,7 @@ use Rattle.go_board.specs.Reaching.{has_colour, is_same, moved}
 use Rattle.go_game.specs.Standings.{Seen, Standing, IsLegal, IsOccupied, IsOffBoard, Repeats, board_of, seen_after, stood_of}
 use Rattle.go_game.specs.Legal.{same_colours, same_seen, has_stood, is_open, is_repeat, is_legal}
 
-same_is : (a b : Option Colour) → is_same a b ≡ true → a ≡ b
+pub same_is : (a b : Option Colour) → is_same a b ≡ true → a ≡ b
 same_is None None e = refl
 same_is (Some Black) (Some Black) e = refl
 same_is (Some White) (Some White) e = refl

@@ -1,6 +1,7 @@
 -- What a history has after one situation more or fewer.
 use Rattle.std.proofs.Common.{arith, ◌≡◌, ◌≢◌, ◌<◌, ◌≤◌, ◌+◌, ◌*◌, ◌==◌, ◌&&◌, ◌↔◌, ◌∙◌, ℕ, zero, suc, Bool, true, false, true≢false, cond, if◌then◌else◌, List, [], ◌∷◌, ◌++◌, Option, Some, None, Contains, length, slice_index_or, ap, ap₂, refl, sym, subst}
 use Rattle.std.proofs.lemmas.Bool.Decides.{nat_tests}
+use Rattle.std.proofs.lemmas.Bool.{and_parts}
 use Rattle.std.specs.Bool.{one_answer}
 use Rattle.std.specs.Option.{unwrap_or}
 use Rattle.std.proofs.lemmas.List.{get_or_default}
@@ -18,7 +19,7 @@ use Rattle.go_game.specs.Histories.{IsKeyOf, IsNoted, StandsFor}
 use Rattle.go_game.specs.Legal.{same_colours, same_seen}
 use Rattle.go_game.specs.Standings.{IsFirstAt, Seen}
 use Rattle.go_game.specs.Whole.{first_at}
-use Rattle.go_game.proofs.Legal.{colours_same, same_colours_self, same_seen_self, seen_same}
+use Rattle.go_game.proofs.Legal.{colours_same, same_colours_self, same_is, same_seen_self, seen_same}
 
 -- ---- the first place of what was seen
 
@@ -200,6 +201,27 @@ history_less law n few old new gs p g k stands forgotten count some packs whole 
     less true b o is same = at_start (first_at 0 gs x) b is refl same
     less false true o is same = here (first_at 0 gs x) refl o is same
     less false false o is same = is ∙ first_before gs g x same
+
+-- the last one's key taken out where it stood nowhere before
+pub history_only : TellApart → (n : ℕ) → n ≤ MAX_POINTS → (old new : HistoryValue) (gs : List Seen) (p : Key) (g : Seen) (k : ℕ)
+    → StandsFor n old (gs ++ g ∷ []) → IsChangedAt old new p None → k ≡ length gs → 0 < k → IsKeyOf p g → length g.0 ≡ n → (Contains gs g → ⊥)
+    → IsForgotten old new p k
+history_only law n few old new gs p g k stands changed count some packs whole novel = (changed.0, λ q. changed.1 q ∙ only q (key_eq p q) refl)
+  where
+    last : first_at 0 (gs ++ g ∷ []) g ≡ Some k
+    last = first_last 0 gs g g (first_absent gs g novel) ∙ ap (λ b. if b then Some (0 + length gs) else None) (same_seen_self g) ∙ ap (λ (j : ℕ). Some j) (let z : 0 + length gs ≡ k = omega (arith, count) in z)
+
+    later : (start : Bool) (o : Option ℕ) → cond start (Some 0) o ≡ Some k → o ≡ Some k
+    later true o e = absurd (omega (arith, some, ap (λ (x : Option ℕ). unwrap_or x 0) e))
+    later false o e = e
+
+    only : (q : Key) (b : Bool) → key_eq p q ≡ b → cond b None (later_at old q) ≡ cond b (without k (later_at old q)) (later_at old q)
+    only q false e = refl
+    only q true e =
+        let same = and_parts (packed_eq p.pack q.pack) (is_same p.mover q.mover) e in
+        let q_packs : IsKeyOf q g = (sym ((bytes_eq-Decides (bytes_of p.pack) (bytes_of q.pack)).0 same.0) ∙ packs.0, sym (same_is p.mover q.mover same.1) ∙ packs.1) in
+        let noted = later (key_eq old.start q) (later_at old q) (stands q g q_packs whole ∙ last) in
+        sym (ap (without k) noted ∙ ap (λ b. cond b None (Some k)) (let z : (k == k) ≡ true = grind (arith, nat_tests) in z))
 
 -- one that stood already, once more
 pub history_again : (n : ℕ) (h : HistoryValue) (gs : List Seen) (g : Seen) → StandsFor n h gs → Contains gs g → StandsFor n h (gs ++ g ∷ [])

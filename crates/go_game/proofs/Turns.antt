@@ -1,5 +1,5 @@
 -- What a game keeps after one move more or fewer.
-use Rattle.std.proofs.Common.{arith, ◌≡◌, ◌+◌, ◌*◌, ◌∙◌, ℕ, ℤ, List, [], ◌∷◌, ◌++◌, length, map, refl, sym, ap, subst}
+use Rattle.std.proofs.Common.{arith, ◌≡◌, ◌+◌, ◌*◌, ◌∙◌, ℕ, ℤ, List, [], ◌∷◌, ◌++◌, length, map, refl, sym, ap, subst, Contains, None}
 use Rattle.std.proofs.lemmas.List.{append-nil, map-append}
 use Rattle.go_board.specs.declared.vertex.Vertex.{Vertex}
 use Rattle.std.proofs.Math.ListN.{length-map}
@@ -24,14 +24,14 @@ use Rattle.go_game.specs.declared.step.Step.{Step}
 use Rattle.go_game.specs.declared.superko.Superko.{Superko}
 use Rattle.go_game.specs.Held.{IsHeld, IsKeeping, IsPlayed, IsTracked, made_of, standing_of}
 use Rattle.go_history.specs.declared.key.Key.{Key}
-use Rattle.go_history.specs.Histories.{HistoryValue, IsForgotten, IsUnchanged}
+use Rattle.go_history.specs.Histories.{HistoryValue, IsChangedAt, IsForgotten, IsUnchanged}
 use Rattle.go_game.specs.Histories.{IsNoted, StandsFor}
 use Rattle.go_game.specs.Prisoners.{share_of}
 use Rattle.go_game.specs.Standings.{IsLegal, Seen, Situation, after_move, after_vertex, board, mover_by, seen_by, situations, stood, stood_of}
 use Rattle.go_game.specs.Trails.{IsTurn, WentThrough}
 use Rattle.go_game.proofs.Keeping.{grid_is}
 use Rattle.go_game.proofs.Played.{held_push, length-moved, made_push, square-le}
-use Rattle.go_game.proofs.Remembered.{TellApart, history_kept, history_less, history_next}
+use Rattle.go_game.proofs.Remembered.{TellApart, history_kept, history_less, history_next, history_only}
 use Rattle.go_game.proofs.Trails.{went_kept, went_more}
 
 situations_push : (n : ℕ) (g : Colouring) (c : Colour) (moves : List Move) (m : Move) → situations n g c (moves ++ m ∷ []) ≡ situations n g c moves ++ (after_move n (board n g moves) m, other m.colour) ∷ []
@@ -93,6 +93,13 @@ module _ (law : TellApart) (rule : Superko) (start : GridValue) (komi : ℤ) (fi
   told_less told forgotten =
       history_less law (start.lines * start.lines) (square-le start.lines held.sound.size.1) old new stood_before key last (length steps + 1)
       (subst (λ (xs : List Seen). StandsFor (start.lines * start.lines) old xs) all_stood told) forgotten many (omega arith) (packs, mover) whole
+
+  -- a move that repeats nothing has a key of its own
+  pub told_only : StandsFor (start.lines * start.lines) old (stood_of (standing_of rule start komi first more)) → (Contains (stood_of (standing_of rule start komi first steps)) last → ⊥) → IsChangedAt old new key None
+      → IsForgotten old new key (length steps + 1)
+  told_only told novel changed =
+      history_only law (start.lines * start.lines) (square-le start.lines held.sound.size.1) old new stood_before key last (length steps + 1)
+      (subst (λ (xs : List Seen). StandsFor (start.lines * start.lines) old xs) all_stood told) changed many (omega arith) (packs, mover) whole novel
 
 abbrev pub passed : Colour → Step
 passed c = record { made = record { colour = c; vertex = Pass }; taken = record { theirs = 0; own = 0 } }

@@ -1,6 +1,8 @@
 -- What a game keeps after its last move is taken back.
 use Rattle.std.proofs.Common.{arith, ◌≡◌, ◌≢◌, ◌<◌, ◌+◌, ◌*◌, ◌∙◌, ℕ, ℤ, List, [], ◌∷◌, ◌++◌, length, length-append, map, refl, sym, ap, subst}
+use Rattle.std.specs.Prelude.{Contains, Option, None}
 use Rattle.std.proofs.lemmas.List.{append-nil, same_from_push}
+use Rattle.std.proofs.Math.Seq.{get_or-append_seam, take-append_seam}
 use Rattle.go_board.specs.declared.colour.Colour.{Colour}
 use Rattle.go_board.specs.declared.colour.Colour.TheVariants.{Black, White}
 use Rattle.go_board.specs.declared.point.Point.{Point}
@@ -16,20 +18,31 @@ use Rattle.go_chains.specs.declared.log.Change.{Change}
 use Rattle.go_chains.specs.Rewound.{IsRewound, NamesCells, rewound}
 use Rattle.go_chains.specs.Sound.{BoardValue, IsKept, grid_of}
 use Rattle.go_history.specs.declared.key.Key.{Key}
-use Rattle.go_history.specs.Histories.{HistoryValue, IsForgotten}
+use Rattle.go_history.specs.Histories.{HistoryValue, IsChangedAt, IsForgotten}
 use Rattle.go_game.specs.declared.step.Step.{Step}
 use Rattle.go_game.specs.declared.superko.Superko.{Superko}
 use Rattle.go_game.specs.Held.{ArePlayed, IsHeld, IsKeeping, IsPlayed, made_of, standing_of}
 use Rattle.go_game.specs.Histories.{StandsFor}
 use Rattle.go_game.specs.Playing.{taken_by}
 use Rattle.go_game.specs.Prisoners.{share_of}
-use Rattle.go_game.specs.Standings.{after_move, board, mover_by, stood_of}
+use Rattle.go_game.specs.Standings.{IsLegal, IsSound, Standing, after_move, after_vertex, board, board_of, mover_by, seen_by, stood_of}
 use Rattle.go_game.specs.Trails.{IsTurn, WentThrough}
 use Rattle.go_game.proofs.Keeping.{grid_is}
 use Rattle.go_game.proofs.Played.{board_push, held_front, made_push, played_front}
 use Rattle.go_game.proofs.Remembered.{TellApart}
 use Rattle.go_game.proofs.Trails.{LastTurn, last_turn, went_kept}
-use Rattle.go_game.proofs.Turns.{told_less}
+use Rattle.go_game.proofs.Turns.{told_less, told_only}
+
+-- the last move of a sound standing was legal
+last_legal : (s : Standing) (moves : List Move) (m : Move) → IsSound (record s { moves = moves ++ m ∷ [] }) → IsLegal (record s { moves = moves }) m.colour m.vertex
+last_legal s moves m sound =
+    subst (λ (ms : List Move). IsLegal (record s { moves = ms }) m.colour m.vertex) (take-append_seam moves (m ∷ []))
+    (sound.legal (length moves) m (omega (arith, length-append moves (m ∷ []))) (get_or-append_seam moves m [] m))
+
+-- and where it is a play, nothing of what stood before is what it left
+last_novel : (s : Standing) (c : Colour) (v : Vertex) (p : Point) → v ≡ At p → IsLegal s c v → Contains (stood_of s) (seen_by s.rule (after_vertex s.lines (board_of s) c v, other c)) → ⊥
+last_novel s c v p at legal =
+    subst (λ (w : Vertex). IsLegal s c w → Contains (stood_of s) (seen_by s.rule (after_vertex s.lines (board_of s) c w, other c)) → ⊥) (sym at) (λ there. there.2) legal
 
 module _ (rule : Superko) (start : GridValue) (komi : ℤ) (first : Colour) (steps front : List Step) (s : Step) (b : BoardValue) (log : List (List Change)) (history : HistoryValue) (black white : ℕ)
     (k : IsKeeping rule start komi first steps b log history black white) (is : steps ≡ front ++ s ∷ []) where
@@ -81,11 +94,19 @@ module _ (rule : Superko) (start : GridValue) (komi : ℤ) (first : Colour) (ste
       let R : List Change → Type 0 = λ xs. NamesCells COUNT xs × IsKept b.lines (rewound b.cells xs) in
       subst R same.1 (play.names, subst (λ (m : ℕ). IsKept m (rewound b.cells play.changes)) (sym k.tracked.lines) (subst (IsKept n) (sym play.back) play.kept))
 
+  grid : grid_of b ≡ after_move n before (made_of s)
+  grid = grid_is start (map made_of steps) b log k.tracked ∙ ap (λ (ms : List Move). board n start.colours ms) all ∙ board_push n start.colours moves (made_of s)
+
+  -- a play's key taken out is its number taken out
+  pub forgotten_put : TellApart → (history' : HistoryValue) (key : Key) → bytes_of key.pack ≡ packed_of (grid_of b) → key.mover ≡ mover_by rule (other s.made.colour) → (p : Point) → s.made.vertex ≡ At p
+      → (black' white' : ℕ) → IsHeld rule start komi first front black' white' → IsChangedAt history history' key None → IsForgotten history history' key (length front + 1)
+  forgotten_put law history' key packs mover p at black' white' held changed =
+      let S : Standing = standing_of rule start komi first front in
+      let legal = last_legal S moves (made_of s) (subst (λ (ms : List Move). IsSound (record S { moves = ms })) all k.held.sound) in
+      told_only law rule start komi first front steps s black' white' held is history history' key (packs ∙ ap packed_of grid) mover k.told (last_novel S s.made.colour s.made.vertex p at legal) changed
+
   -- what the last move left was taken out of the history
   module _ (law : TellApart) (history' : HistoryValue) (key : Key) (packs : bytes_of key.pack ≡ packed_of (grid_of b)) (mover : key.mover ≡ mover_by rule (other s.made.colour)) (forgotten : IsForgotten history history' key (length front + 1)) where
-    grid : grid_of b ≡ after_move n before (made_of s)
-    grid = grid_is start (map made_of steps) b log k.tracked ∙ ap (λ (ms : List Move). board n start.colours ms) all ∙ board_push n start.colours moves (made_of s)
-
     told_front : (black' white' : ℕ) → IsHeld rule start komi first front black' white' → StandsFor (n * n) history' (stood_of (standing_of rule start komi first front))
     told_front black' white' held = told_less law rule start komi first front steps s black' white' held is history history' key (packs ∙ ap packed_of grid) mover k.told forgotten
 

@@ -1,5 +1,5 @@
 -- The cells of a game's board, the changes of each move, and how many reads and writes they took.
-use Rattle.std.specs.Prelude.{◌≡◌, ◌≤◌, ◌+◌, ◌++◌, ◌∷◌, [], ℕ, List, length}
+use Rattle.std.specs.Prelude.{◌≡◌, ◌≤◌, ◌+◌, ◌++◌, ◌∷◌, [], ℕ, zero, suc, List, length}
 use Rattle.go_board.specs.declared.colour.Colour.{Colour}
 use Rattle.go_board.specs.declared.vertex.Vertex.{Vertex}
 use Rattle.go_board.specs.declared.vertex.Vertex.TheVariants.{Pass, At}
@@ -36,3 +36,13 @@ pub record IsTakenBack (old new : GameValue) : Type 0 where
   pub lost : old.changes ≡ new.changes ++ own ∷ []
   pub cells : new.cells ≡ rewound old.cells own
   pub count : new.count ≡ old.count + length own
+
+-- so many moves were played, one after the other
+abbrev pub AreLogged : ℕ → GameValue → GameValue → Type 0
+AreLogged zero old new = old ≡ new
+AreLogged (suc n) old new = (mid : GameValue) × AreLogged n old mid × (most : ℕ) × IsLogged mid new most
+
+-- so many were taken back
+abbrev pub AreTakenBack : ℕ → GameValue → GameValue → Type 0
+AreTakenBack zero old new = old ≡ new
+AreTakenBack (suc n) old new = (mid : GameValue) × IsTakenBack old mid × AreTakenBack n mid new

@@ -50,16 +50,19 @@ impl<A: Allocator + Copy> Game<A> {
     ghost use Rattle.go_game.specs.Choices.{chosen, lead_of};
     ghost use Rattle.go_game.specs.Counts.{IsAsBefore, IsLogged, most_for};
     ghost use Rattle.go_game.specs.Legal.{is_legal};
-    ghost use Rattle.go_game.specs.Standings.{IsLegal, with_move};
+    ghost use Rattle.go_game.specs.Standings.{IsLegal, IsOccupied, IsOffBoard, with_move};
     ghost use Rattle.go_game.specs.Trials.{IsBestTrial, tried};
 
     /// Whether the rules allow a move; one off the board isn't legal. The game is used for a trial,
-    /// which is taken back also where there was no memory for it.
+    /// which is taken back also where there was no memory for it. That can't be so off the board or
+    /// on a stone, where nothing is tried.
     pub fn legal(&mut self, made: Move) -> Result<bool, AllocError>
         ensures rules { IfOk result
             (λ legal. IsTrue legal ↔ IsLegal self.old.standing made.colour made.vertex) }
         ensures test { IfOk result
             (λ legal. legal ≡ is_legal self.old.standing made.colour made.vertex) }
+        ensures tried { OnErr result ((IsOffBoard self.old.standing made.vertex → ⊥)
+            × (IsOccupied self.old.standing made.vertex → ⊥)) }
         ensures same { IsAsBefore self.old self.new }
     {
         let legal = self.try_play(made)?;
@@ -79,6 +82,8 @@ impl<A: Allocator + Copy> Game<A> {
         ensures logged { IfOk result (λ legal. legal ≡ true → IsLogged self.old self.new
             (most_for self.old.standing made.colour made.vertex)) }
         ensures err { OnErr result (IsAsBefore self.old self.new) }
+        ensures tried { OnErr result ((IsOffBoard self.old.standing made.vertex → ⊥)
+            × (IsOccupied self.old.standing made.vertex → ⊥)) }
     {
         match self.play(made) {
             Ok(_) => Ok(true),

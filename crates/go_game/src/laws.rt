@@ -1,5 +1,5 @@
 //! Laws about what a game stands for, each the contract of a function that does nothing.
-ghost use Rattle.std.specs.Prelude.{◌≡◌, ◌↔◌, Contains, IsTrue, List, length};
+ghost use Rattle.std.specs.Prelude.{◌≡◌, ◌↔◌, Contains, IsTrue, List, ℕ, length, pos};
 ghost use Rattle.go_board.specs.declared.colour.Colour.{Colour};
 ghost use Rattle.go_board.specs.declared.point.Point.{Point};
 ghost use Rattle.go_board.specs.declared.vertex.Move.{Move};
@@ -7,13 +7,20 @@ ghost use Rattle.go_board.specs.declared.vertex.Vertex.{Vertex};
 ghost use Rattle.go_board.specs.Colours.{other};
 ghost use Rattle.go_board.specs.Points.{number_of};
 ghost use Rattle.go_board.specs.Reaching.{moved};
+ghost use Rattle.go_game.specs.declared.game.TheConstants.{MAX_KOMI};
 ghost use Rattle.go_game.specs.Choices.{IsChoice, chosen};
+ghost use Rattle.go_game.specs.Counts.{AreLogged, AreTakenBack};
 ghost use Rattle.go_game.specs.Legal.{is_legal};
-ghost use Rattle.go_game.specs.Standings.{IsLegal, Standing, board_of, positions_of, seen_after, situations_of, stood_of, with_moves, without_last};
+ghost use Rattle.go_game.specs.Standings.{GameValue, IsLegal, Standing, board_of, positions_of, seen_after, situations_of, stood_of, with_moves, without_last};
 ghost use Rattle.go_game.specs.Whole.{whole_of};
 
 use crate::Superko;
 use go_board::laws::points_by_number;
+
+/// The greatest size of a komi is 999,999,999.99 points.
+pub fn limits()
+    ensures komi { MAX_KOMI ≡ pos 99999999999 }
+{}
 
 /// Any moves, then as many taken back, leave the standing as it was.
 pub fn moves_taken_back()
@@ -25,6 +32,13 @@ pub fn moves_taken_back()
 pub fn whole_state_restored()
     ensures { (s : Standing) (moves : List Move)
         → whole_of (without_last (length moves) (with_moves s moves)) ≡ whole_of s }
+{}
+
+/// And each cell has its old value, by what `play` and `undo` promise of the cells of a game's board.
+pub fn cells_restored()
+    ensures { (n : ℕ) (before then after : GameValue) → AreLogged n before then
+        → AreTakenBack n then after
+        → (after.cells ≡ before.cells) × (after.changes ≡ before.changes) }
 {}
 
 /// Under the positional rule what may not come again is a colouring.

@@ -143,10 +143,14 @@ impl<A: Allocator + Copy> Game<A> {
         packs_tell_colourings_apart();
         let step = self.steps.pop()?;
         let key = self.superko.key(self.board.pack(), step.made.colour.other());
-        self.history.forget(&key, self.steps.len() + 1);
         match step.made.vertex {
-            Vertex::Pass => Some(step.made),
+            Vertex::Pass => {
+                self.history.forget_at(&key, self.steps.len() + 1);
+                Some(step.made)
+            }
+            // A legal play repeated nothing, so it noted its key itself.
             Vertex::At(_) => {
+                self.history.forget(&key);
                 self.board.rewind(&mut self.log, &mut self.meter);
                 self.prisoners.give_back(step.made.colour, step.taken);
                 Some(step.made)

@@ -56,13 +56,20 @@ impl<A: Allocator + Copy> History<A> {
         }
     }
 
-    /// Takes back that a key was noted with this number. What was noted of it with another stays,
-    /// and so does the start's. It takes no memory.
-    pub fn forget(&mut self, key: &Key, number: usize)
+    /// Takes out what was noted of a key. It takes no memory.
+    pub fn forget(&mut self, key: &Key)
+        ensures { IsChangedAt self.old self.new key.now None }
+    {
+        self.later.remove(key);
+    }
+
+    /// Takes out a key that was noted with this number; one that was noted with another stays. It
+    /// takes no memory.
+    pub fn forget_at(&mut self, key: &Key, number: usize)
         ensures { IsForgotten self.old self.new key.now number }
     {
         if self.later.get(key).copied() == Some(number) {
-            self.later.remove(key);
+            self.forget(key);
         }
     }
 

@@ -60,9 +60,10 @@ fn what_is_noted_is_found(rt: HostRuntime) -> Result<(), Fail> {
 fn what_is_taken_back_is_not_found(rt: HostRuntime) -> Result<(), Fail> {
     let mut history = history_of(&rt, rt.alloc(), 300)?;
     for number in 150..300u16 {
-        history.forget(&key_with(&rt, 449 - number), 450 - usize::from(number));
+        history.forget(&key_with(&rt, 449 - number));
     }
-    history.forget(&key_with(&rt, 320), 321);
+    history.forget(&key_with(&rt, 320));
+    history.forget(&key_with(&rt, NO_STONE));
     assert!(rt; history.note(key_with(&rt, NO_STONE), 1)? == Some(0));
     for number in 0..300u16 {
         let found = history.note(key_with(&rt, number), 1)?.is_some();
@@ -88,12 +89,12 @@ fn begun_anew_the_start_alone_is_found(rt: HostRuntime) -> Result<(), Fail> {
 fn another_number_is_not_taken_back(rt: HostRuntime) -> Result<(), Fail> {
     let mut history = history_of(&rt, rt.alloc(), 9)?;
     for number in [0, 3, 5, 9] {
-        history.forget(&key_with(&rt, 3), number);
+        history.forget_at(&key_with(&rt, 3), number);
     }
-    history.forget(&key_with(&rt, NO_STONE), 0);
+    history.forget_at(&key_with(&rt, NO_STONE), 0);
     assert!(rt; history.note(key_with(&rt, 3), 10)? == Some(4));
     assert!(rt; history.note(key_with(&rt, NO_STONE), 10)? == Some(0));
-    history.forget(&key_with(&rt, 3), 4);
+    history.forget_at(&key_with(&rt, 3), 4);
     assert!(rt; history.note(key_with(&rt, 3), 10)?.is_none());
     Ok(())
 }
@@ -108,7 +109,7 @@ fn movers_are_told_apart(rt: HostRuntime) -> Result<(), Fail> {
     assert!(rt; history.note(start, 3)? == Some(0));
     assert!(rt; history.note(white, 3)? == Some(1));
     assert!(rt; history.note(key_with(&rt, 5), 3)? == Some(2));
-    history.forget(&white, 1);
+    history.forget(&white);
     assert!(rt; history.note(start, 3)? == Some(0));
     assert!(rt; history.note(key_with(&rt, 5), 3)? == Some(2));
     assert!(rt; history.note(white, 3)?.is_none());
