@@ -62,7 +62,7 @@ impl<A: Allocator + Copy> Game<A> {
             return Err(PlayError::Memory);
         }
         let key = self.superko.key(self.board.pack(), colour.other());
-        match self.history.note(key, self.steps.len() + 1) {
+        match self.history.note(&key, self.steps.len() + 1) {
             Ok(_known) => {}
             Err(_) => return Err(PlayError::Memory),
         }
@@ -120,7 +120,7 @@ impl<A: Allocator + Copy> Game<A> {
         };
         let step = Step { made, taken };
         let key = self.superko.key(self.board.pack(), colour.other());
-        match note(key, &mut self.history, &mut self.steps, step) {
+        match note(&key, &mut self.history, &mut self.steps, step) {
             Ok(()) => {
                 self.prisoners.add(colour, taken);
                 Ok(taken)
@@ -161,17 +161,17 @@ impl<A: Allocator + Copy> Game<A> {
 
 /// Notes a step in the history by this key and among the steps, unless what has the key stood before.
 fn note<A: Allocator + Copy>(
-    key: Key,
+    key: &Key,
     history: &mut History<A>,
     steps: &mut Vec<Step, A>,
     step: Step,
 ) -> Result<(), PlayError>
-    ensures noted { OnOk result (IsChangedAt history.old history.new key
+    ensures noted { OnOk result (IsChangedAt history.old history.new key.now
         (Some (length steps.old.items + 1))) }
-    ensures lacked { OnOk result (number_at history.old key ≡ None) }
+    ensures lacked { OnOk result (number_at history.old key.now ≡ None) }
     ensures pushed { OnOk result (steps.new.items ≡ steps.old.items ++ step ∷ []) }
     ensures repeats { (k : ℕ) → result ≡ Err (PlayError.Repeats k)
-        → number_at history.old key ≡ Some k }
+        → number_at history.old key.now ≡ Some k }
     ensures history { OnErr result (IsUnchanged history.old history.new) }
     ensures steps { OnErr result (steps.new.items ≡ steps.old.items) }
     ensures others { IfErr result (λ e. (e ≡ PlayError.Memory)

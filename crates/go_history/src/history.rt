@@ -37,20 +37,20 @@ impl<A: Allocator + Copy> History<A> {
 
     /// After how many moves what has this key stood first; or none where it didn't stand, and then
     /// it is noted with this number.
-    pub fn note(&mut self, key: Key, number: usize) -> Result<Option<usize>, AllocError>
-        ensures known { IfOk result (λ known. known ≡ number_at self.old key) }
-        ensures noted { result ≡ Ok None → IsChangedAt self.old self.new key (Some number) }
+    pub fn note(&mut self, key: &Key, number: usize) -> Result<Option<usize>, AllocError>
+        ensures known { IfOk result (λ known. known ≡ number_at self.old key.now) }
+        ensures noted { result ≡ Ok None → IsChangedAt self.old self.new key.now (Some number) }
         ensures stood { (k : ℕ) → result ≡ Ok (Some k) → IsUnchanged self.old self.new }
         ensures err { OnErr result (IsUnchanged self.old self.new) }
     {
-        if self.start == key {
+        if self.start == *key {
             return Ok(Some(0));
         }
-        let known = self.later.insert(key, number)?;
+        let known = self.later.insert(*key, number)?;
         match known {
             None => Ok(None),
             Some(earlier) => {
-                self.later.insert(key, earlier)?;
+                self.later.insert(*key, earlier)?;
                 Ok(Some(earlier))
             }
         }

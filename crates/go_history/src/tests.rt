@@ -33,7 +33,7 @@ const NO_STONE: u16 = 361;
 fn history_of(rt: &impl Abort, alloc: Global, moves: u16) -> Result<History<Global>, AllocError> {
     let mut history = History::new(alloc, key_with(rt, NO_STONE));
     for number in 0..moves {
-        history.note(key_with(rt, number), usize::from(number) + 1)?;
+        history.note(&key_with(rt, number), usize::from(number) + 1)?;
     }
     Ok(history)
 }
@@ -41,15 +41,15 @@ fn history_of(rt: &impl Abort, alloc: Global, moves: u16) -> Result<History<Glob
 #[test]
 fn what_is_noted_is_found(rt: HostRuntime) -> Result<(), Fail> {
     let mut history = history_of(&rt, rt.alloc(), 300)?;
-    assert!(rt; history.note(key_with(&rt, NO_STONE), 1)? == Some(0));
+    assert!(rt; history.note(&key_with(&rt, NO_STONE), 1)? == Some(0));
     // Asked once more, since to ask is to note.
     for number in (0..300u16).chain(0..300u16) {
-        let found = history.note(key_with(&rt, number), 1)?;
+        let found = history.note(&key_with(&rt, number), 1)?;
         assert!(rt; found == Some(usize::from(number) + 1), "stone {number}");
     }
     for number in 300..NO_STONE {
         assert!(rt;
-            history.note(key_with(&rt, number), 1)?.is_none(),
+            history.note(&key_with(&rt, number), 1)?.is_none(),
             "stone {number}"
         );
     }
@@ -64,9 +64,9 @@ fn what_is_taken_back_is_not_found(rt: HostRuntime) -> Result<(), Fail> {
     }
     history.forget(&key_with(&rt, 320));
     history.forget(&key_with(&rt, NO_STONE));
-    assert!(rt; history.note(key_with(&rt, NO_STONE), 1)? == Some(0));
+    assert!(rt; history.note(&key_with(&rt, NO_STONE), 1)? == Some(0));
     for number in 0..300u16 {
-        let found = history.note(key_with(&rt, number), 1)?.is_some();
+        let found = history.note(&key_with(&rt, number), 1)?.is_some();
         assert!(rt; found == (number < 150), "stone {number}");
     }
     Ok(())
@@ -77,11 +77,11 @@ fn begun_anew_the_start_alone_is_found(rt: HostRuntime) -> Result<(), Fail> {
     let mut history = history_of(&rt, rt.alloc(), 40)?;
     history.restart(key_with(&rt, 7));
     for number in 0..NO_STONE {
-        let found = history.note(key_with(&rt, number), 1)?.is_some();
+        let found = history.note(&key_with(&rt, number), 1)?.is_some();
         assert!(rt; found == (number == 7), "stone {number}");
     }
-    assert!(rt; history.note(key_with(&rt, NO_STONE), 1)?.is_none());
-    assert!(rt; history.note(key_with(&rt, NO_STONE), 2)? == Some(1));
+    assert!(rt; history.note(&key_with(&rt, NO_STONE), 1)?.is_none());
+    assert!(rt; history.note(&key_with(&rt, NO_STONE), 2)? == Some(1));
     Ok(())
 }
 
@@ -92,10 +92,10 @@ fn another_number_is_not_taken_back(rt: HostRuntime) -> Result<(), Fail> {
         history.forget_at(&key_with(&rt, 3), number);
     }
     history.forget_at(&key_with(&rt, NO_STONE), 0);
-    assert!(rt; history.note(key_with(&rt, 3), 10)? == Some(4));
-    assert!(rt; history.note(key_with(&rt, NO_STONE), 10)? == Some(0));
+    assert!(rt; history.note(&key_with(&rt, 3), 10)? == Some(4));
+    assert!(rt; history.note(&key_with(&rt, NO_STONE), 10)? == Some(0));
     history.forget_at(&key_with(&rt, 3), 4);
-    assert!(rt; history.note(key_with(&rt, 3), 10)?.is_none());
+    assert!(rt; history.note(&key_with(&rt, 3), 10)?.is_none());
     Ok(())
 }
 
@@ -104,14 +104,14 @@ fn movers_are_told_apart(rt: HostRuntime) -> Result<(), Fail> {
     let start = key_before(&rt, 5, Some(Colour::Black));
     let mut history = History::new(rt.alloc(), start);
     let white = key_before(&rt, 5, Some(Colour::White));
-    assert!(rt; history.note(white, 1)?.is_none());
-    assert!(rt; history.note(key_with(&rt, 5), 2)?.is_none());
-    assert!(rt; history.note(start, 3)? == Some(0));
-    assert!(rt; history.note(white, 3)? == Some(1));
-    assert!(rt; history.note(key_with(&rt, 5), 3)? == Some(2));
+    assert!(rt; history.note(&white, 1)?.is_none());
+    assert!(rt; history.note(&key_with(&rt, 5), 2)?.is_none());
+    assert!(rt; history.note(&start, 3)? == Some(0));
+    assert!(rt; history.note(&white, 3)? == Some(1));
+    assert!(rt; history.note(&key_with(&rt, 5), 3)? == Some(2));
     history.forget(&white);
-    assert!(rt; history.note(start, 3)? == Some(0));
-    assert!(rt; history.note(key_with(&rt, 5), 3)? == Some(2));
-    assert!(rt; history.note(white, 3)?.is_none());
+    assert!(rt; history.note(&start, 3)? == Some(0));
+    assert!(rt; history.note(&key_with(&rt, 5), 3)? == Some(2));
+    assert!(rt; history.note(&white, 3)?.is_none());
     Ok(())
 }
