@@ -2,8 +2,10 @@
 //! function that does nothing.
 ghost use Rattle.std.specs.Prelude.{◌≡◌};
 ghost use Rattle.goref_lines.specs.declared.line.TheConstants.{LINE_LIMIT};
+ghost use Rattle.goref_lines.specs.declared.words.TheConstants.{MAX_INT};
 
-/// A line keeps 8,192 bytes of its words at most.
+/// The most bytes that a line keeps of its words, and the greatest number that a word spells.
 pub fn limits()
-    ensures { LINE_LIMIT ≡ 8192 }
+    ensures bytes { LINE_LIMIT ≡ 8192 }
+    ensures number { MAX_INT ≡ 2147483647 }
 {}
