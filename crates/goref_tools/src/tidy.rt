@@ -1,10 +1,11 @@
 ghost use Rattle.std.specs.Prelude.{◌≡◌, ◌≢◌, ◌≤◌, ◌+◌, IfErr, IfSome, IsErrOf, OnOk};
+ghost use Rattle.go_record.specs.declared.error.RecordError.{RecordError};
 ghost use Rattle.go_sgf.specs.declared.error.SgfError.{SgfError};
 ghost use Rattle.go_sgf.specs.declared.limits.TheConstants.{MAX_RECORD};
 ghost use Rattle.goref_tools.specs.Tidying.{BeginsToTidy, Tidies};
 ghost use Rattle.goref_tools.specs.Tools.{Reads, Refuses, read_failures_after};
 ghost use Rattle.goref_tools.specs.Tools.{write_failures_after};
-ghost use Rattle.goref_tools.specs.declared.error.ToolError.TheVariants.{Sgf, Write};
+ghost use Rattle.goref_tools.specs.declared.error.ToolError.TheVariants.{Record, Sgf, Write};
 
 use crate::error::ToolError;
 use crate::flushing::passed_on;
@@ -20,7 +21,8 @@ use std::alloc::Allocator;
 /// # Errors
 ///
 /// `Read` and `Write` where a device failed; `Sgf` where the input is no record; `Memory` where
-/// there was none for the record. Only with `Write` was anything written.
+/// there was none for the record. Never `Record`: the game isn't looked at. Only with `Write` was
+/// anything written.
 pub fn tidy_run<A: Allocator + Copy, R: Source, W: Sink>(
     alloc: A,
     reader: &mut R,
@@ -30,6 +32,7 @@ pub fn tidy_run<A: Allocator + Copy, R: Source, W: Sink>(
         (λ input. Tidies input (W.taken writer.old) (W.taken writer.new))) }
     ensures refused { (why : SgfError) → IsErrOf result (Sgf why)
         → Refuses (R.left reader.old) why }
+    ensures no_game_refused { (why : RecordError) → ¬ IsErrOf result (Record why) }
     ensures write { IsErrOf result Write → IfSome (R.left reader.old)
         (λ input. BeginsToTidy input (W.taken writer.old) (W.taken writer.new)) }
     ensures nothing_written { IfErr result
