@@ -1,5 +1,5 @@
 -- What a run did when it came to its end.
-use Rattle.std.specs.Prelude.{◌≡◌, ℕ, ◌+◌, List, Option, Result, Err}
+use Rattle.std.specs.Prelude.{◌≡◌, ◌≤◌, ℕ, ◌+◌, List, Option, Result, Err, length}
 use Rattle.go_board.specs.Device.{after_bytes}
 use Rattle.goref_runs.specs.declared.fault.RunError.{RunError}
 use Rattle.goref_runs.specs.declared.fault.RunError.TheVariants.{Read, Write}
@@ -19,6 +19,12 @@ pub record AnswersFront (s : Standing) (left left' : Option (List ℕ)) (given g
   pub read : List ℕ
   pub has_read : left ≡ after_bytes read left'
   pub breaks_off : BreaksOff s (lines read) given given' taken taken'
+
+-- at least so many bytes were read, as they are where each of so many reads gave one
+pub record ReadsAtLeast (count : ℕ) (left left' : Option (List ℕ)) : Type 0 where
+  pub read : List ℕ
+  pub has_read : left ≡ after_bytes read left'
+  pub many : count ≤ length read
 
 -- the count of failed reads after a run: one more where it ended by one
 abbrev pub read_failures_after : {T : Type 0} → Result T RunError → ℕ → ℕ

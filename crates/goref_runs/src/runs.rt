@@ -8,7 +8,7 @@ ghost use Rattle.goref.specs.Contents.{content_of};
 ghost use Rattle.goref_runs.specs.Shelves.{Pair};
 ghost use Rattle.goref_runs.specs.Conversation.{Converses, BreaksOff};
 ghost use Rattle.goref_runs.specs.Progress.{Fetches, Responds, Progress, Proceeds, Finishes};
-ghost use Rattle.goref_runs.specs.Runs.{AnswersComplete, AnswersFront, read_failures_after, write_failures_after};
+ghost use Rattle.goref_runs.specs.Runs.{AnswersComplete, AnswersFront, ReadsAtLeast, read_failures_after, write_failures_after};
 
 use crate::fault::RunError;
 use crate::shelf::Shelf;
@@ -23,7 +23,8 @@ use std::alloc::Allocator;
 pub const READS: u64 = 1 << 40;
 
 /// Reads lines and answers each before the next read, up to `quit` or to the end of the input. A
-/// last line without a line end is answered too. It makes at most [`READS`] reads.
+/// last line without a line end is answered too. It makes at most [`READS`] reads, and finds an
+/// input endless only after that many reads and as many bytes.
 pub fn run<A: Allocator + Copy, R: Source, W: Sink, S: Shelf<A>>(
     alloc: A,
     size: Size,
@@ -46,6 +47,8 @@ pub fn run<A: Allocator + Copy, R: Source, W: Sink, S: Shelf<A>>(
     ensures pulls { R.pulls reader.new ≤ R.pulls reader.old + READS }
     ensures all_pulls { IsErrOf result RunError.Endless
         → R.pulls reader.new ≡ R.pulls reader.old + READS }
+    ensures many_bytes { IsErrOf result RunError.Endless
+        → ReadsAtLeast READS (R.left reader.old) (R.left reader.new) }
 {
     run_within(READS, alloc, size, reader, writer, shelf)
 }
@@ -74,6 +77,8 @@ pub fn run_within<A: Allocator + Copy, R: Source, W: Sink, S: Shelf<A>>(
     ensures pulls { R.pulls reader.new ≤ R.pulls reader.old + limit }
     ensures all_pulls { IsErrOf result RunError.Endless
         → R.pulls reader.new ≡ R.pulls reader.old + limit }
+    ensures many_bytes { IsErrOf result RunError.Endless
+        → ReadsAtLeast limit (R.left reader.old) (R.left reader.new) }
 {
     let mut session = Session::new(alloc, size);
     let mut line = Line::new();

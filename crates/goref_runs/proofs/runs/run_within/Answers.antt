@@ -1,5 +1,5 @@
 use Rattle.std.proofs.Common.{◌∙◌, [], ◌++◌, refl, sym, ap, pos, arith}
-use Rattle.std.proofs.lemmas.List.{append-nil}
+use Rattle.std.proofs.lemmas.List.{append-nil, length-append}
 use Rattle.go_board.specs.Device.{after_bytes}
 use Rattle.go_board.specs.Sizes.{lines_of}
 use Rattle.goref.specs.Starts.{begun}
@@ -15,6 +15,7 @@ loop-init g c = record {
   read = [];
   left = sym (after_bytes-nil (g.R.Source.left c.args.reader.now));
   progress = rw (c.new-line.ensures, c.new-session.ensures) (begins (begun (lines_of c.args.size) (pos 0)) (g.S.Shelf.given c.args.shelf.now) (g.W.Sink.taken c.args.writer.now));
+  many = omega arith;
   pulls = omega arith;
   read_failures = refl;
   write_failures = refl;
@@ -26,6 +27,9 @@ returns-in-Err-clause-read g c = λ _.
 
 pub returns-clause-endless : goal.returns-clause-endless
 returns-clause-endless g c = λ _. answers_complete c.loop.invariant.left c.loop.invariant.progress
+
+pub returns-clause-many_bytes : goal.returns-clause-many_bytes
+returns-clause-many_bytes g c = λ _. record { read = c.loop.invariant.read; has_read = c.loop.invariant.left; many = omega (arith, c.loop.invariant.many) }
 
 pub returns-in-Err-end_input-clause-write : goal.returns-in-Err-end_input-clause-write
 returns-in-Err-end_input-clause-write g c = λ _.
@@ -57,6 +61,7 @@ loop-preserved g c =
       read = now.read ++ chunk;
       left = has_read_more (g.R.Source.left c.pull.new.self) now.read chunk now.left (c.in-Ok.ensures.bytes ∙ ap (λ xs. after_bytes xs (g.R.Source.left c.pull.new.self)) (sym c.split_at.ensures.front));
       progress = rw (c.in-Ok-More.is, c.in-Ok-More.field-0-is) at (c.feed.ensures.proceeds _ now.read _ _ now.progress);
+      many = omega (arith, length-append now.read chunk, c.split_at.ensures.front_len, now.many);
       pulls = omega (arith, c.pull.ensures.pulls);
       read_failures = c.in-Ok.ensures.failures ∙ now.read_failures;
       write_failures = c.in-Ok-More.ensures.failures ∙ now.write_failures;

@@ -1,4 +1,4 @@
-use Rattle.std.proofs.Common.{◌≡◌, ◌+◌, ℕ, List, pos}
+use Rattle.std.proofs.Common.{◌≡◌, ◌≤◌, ◌+◌, ℕ, List, length, pos}
 use Rattle.go_board.specs.Device.{after_bytes}
 use Rattle.go_board.specs.Sizes.{lines_of}
 use Rattle.goref.specs.Starts.{begun}
@@ -11,6 +11,7 @@ invariant-loop g l = record {
   left : g.R.Source.left l.initial.reader ≡ after_bytes read (g.R.Source.left l.reader);
   progress : Progress (begun (lines_of l.fn.size) (pos 0)) read l.line l.session
       (g.S.Shelf.given l.initial.shelf) (g.S.Shelf.given l.shelf) (g.W.Sink.taken l.initial.writer) (g.W.Sink.taken l.writer);
+  many : l.counter ≤ length read;
   pulls : g.R.Source.pulls l.reader ≡ g.R.Source.pulls l.initial.reader + l.counter;
   read_failures : g.R.Source.failures l.reader ≡ g.R.Source.failures l.initial.reader;
   write_failures : g.W.Sink.failures l.writer ≡ g.W.Sink.failures l.initial.writer;
