@@ -18,7 +18,7 @@ fn chooses<A: Allocator + Copy>(
 }
 
 /// Whether a colour may play where the word says.
-fn is_legal<A: Allocator + Copy>(
+pub fn is_legal<A: Allocator + Copy>(
     rt: &impl Abort,
     game: &mut Game<A>,
     colour: Colour,
@@ -126,12 +126,13 @@ fn same_colours<A: Allocator + Copy, B: Allocator + Copy>(
 }
 
 /// Two games answer each question alike.
-fn assert_same<A: Allocator + Copy, B: Allocator + Copy>(
+pub fn assert_same<A: Allocator + Copy, B: Allocator + Copy>(
     rt: &impl Abort,
     game: &Game<A>,
     twin: &Game<B>,
 ) {
     assert!(rt; game.size() == twin.size() && game.komi() == twin.komi());
+    assert!(rt; game.superko() == twin.superko());
     assert!(rt; game.area() == twin.area());
     for colour in [Colour::Black, Colour::White] {
         assert!(rt; game.prisoners(colour) == twin.prisoners(colour));

@@ -99,13 +99,14 @@ pub fn next_move(random: &mut Pcg32, plain: &PlainGame) -> Move {
     any_move(random, size)
 }
 
-/// How often moves passed, took the opponent's stones, took their own, were refused for a
-/// repetition, and were taken back.
+/// How often moves passed, took the opponent's stones, took their own, took a single stone and that
+/// their own, were refused for a repetition, and were taken back.
 #[derive(Clone, Copy)]
 pub struct Seen {
     passes: u32,
     captures: u32,
     suicides: u32,
+    returns: u32,
     repetitions: u32,
     undos: u32,
 }
@@ -116,6 +117,7 @@ impl Seen {
             passes: 0,
             captures: 0,
             suicides: 0,
+            returns: 0,
             repetitions: 0,
             undos: 0,
         }
@@ -129,6 +131,7 @@ impl Seen {
             Ok((_, taken)) => {
                 self.captures = self.captures.wrapping_add(u32::from(taken.theirs > 0));
                 self.suicides = self.suicides.wrapping_add(u32::from(taken.own > 0));
+                self.returns = self.returns.wrapping_add(u32::from(taken.own == 1));
             }
             Err(why) => {
                 let repeats = matches!(why, PlayError::Repeats(_));
@@ -142,7 +145,12 @@ impl Seen {
         self.undos = self.undos.wrapping_add(1);
     }
 
-    /// Whether each of them came up.
+    /// Whether a move took a single stone and that its own, so that the colouring came back.
+    pub fn has_returns(&self) -> bool {
+        self.returns > 0
+    }
+
+    /// Whether each of those that come up by both rules came up.
     pub fn has_all(&self) -> bool {
         self.passes > 0
             && self.captures > 0

@@ -42,23 +42,29 @@ pub fn plays_at<A: Allocator + Copy>(
 }
 
 /// Asserts how many stones a play takes.
-fn takes(rt: &impl Abort, game: &mut Game<Global>, colour: Colour, word: &[u8], taken: Taken) {
+pub fn takes(rt: &impl Abort, game: &mut Game<Global>, colour: Colour, word: &[u8], taken: Taken) {
     assert!(rt; play(rt, game, colour, word) == Ok(taken));
 }
 
 /// Asserts why a play is refused.
-fn refuses(rt: &impl Abort, game: &mut Game<Global>, colour: Colour, word: &[u8], why: PlayError) {
+pub fn refuses(
+    rt: &impl Abort,
+    game: &mut Game<Global>,
+    colour: Colour,
+    word: &[u8],
+    why: PlayError,
+) {
     assert!(rt; play(rt, game, colour, word) == Err(why));
 }
 
 /// Asserts which play is taken back.
-fn undoes(rt: &impl Abort, game: &mut Game<Global>, colour: Colour, word: &[u8]) {
+pub fn undoes(rt: &impl Abort, game: &mut Game<Global>, colour: Colour, word: &[u8]) {
     let made = turn(rt, game.size(), colour, word);
     assert!(rt; game.undo() == Some(made));
 }
 
 /// The plays up to the capture of a ko on four lines.
-fn play_ko(rt: &impl Abort, game: &mut Game<Global>) {
+pub fn play_ko(rt: &impl Abort, game: &mut Game<Global>) {
     for word in [b"B3".as_slice(), b"A2".as_slice(), b"B1".as_slice()] {
         plays_at(rt, game, Colour::Black, word);
     }
@@ -113,7 +119,7 @@ fn repetition_refused(rt: HostRuntime) {
 }
 
 /// Asserts how many black stones were taken, in how many moves.
-fn has_taken(rt: &impl Abort, game: &Game<Global>, stones: u64, moves: usize) {
+pub fn has_taken(rt: &impl Abort, game: &Game<Global>, stones: u64, moves: usize) {
     assert_eq!(rt; game.prisoners(Colour::Black), stones);
     assert_eq!(rt; game.move_count(), moves);
 }

@@ -17,4 +17,6 @@ mod packs;
 #[cfg(test)]
 mod plain_game;
 #[cfg(test)]
+mod situations;
+#[cfg(test)]
 mod turns;

@@ -1,19 +1,31 @@
 use go_board::{Colour, Grid, Move, Taken, Vertex, plain};
-use go_game::PlayError;
+use go_game::{PlayError, Superko};
 use std::alloc::{AllocError, Global};
 
-/// A game by the plain body: its start, the grid after each move, and what each move took.
+/// Whether a rule sees no difference between two grids, each with the colour to move on it.
+fn repeats(superko: Superko, old: (&Grid, Colour), new: (&Grid, Colour)) -> bool {
+    let is_same_mover = match superko {
+        Superko::Positional => true,
+        Superko::Situational => old.1 == new.1,
+    };
+    is_same_mover && old.0.is_same_as(new.0)
+}
+
+/// A game by the plain body: its start, the grid and the colour to move after each move, and what each
+/// move took.
 #[derive(Drop)]
 pub struct PlainGame {
+    pub superko: Superko,
     pub start: Grid,
     pub first: Colour,
-    pub grids: Vec<Grid, Global>,
+    pub grids: Vec<(Grid, Colour), Global>,
     pub made: Vec<(Move, Taken), Global>,
 }
 
 impl PlainGame {
-    pub fn new(alloc: Global, start: Grid, first: Colour) -> PlainGame {
+    pub fn new(alloc: Global, superko: Superko, start: Grid, first: Colour) -> PlainGame {
         PlainGame {
+            superko,
             start,
             first,
             grids: Vec::new(alloc),
@@ -24,7 +36,7 @@ impl PlainGame {
     /// The grid after the last move.
     pub fn present(&self) -> Grid {
         match self.grids.last() {
-            Some(grid) => grid.copy(),
+            Some((grid, _)) => grid.copy(),
             None => self.start.copy(),
         }
     }
@@ -37,12 +49,14 @@ impl PlainGame {
         }
     }
 
-    /// After how many moves a grid stood first, if it did.
-    fn first_at(&self, grid: &Grid) -> Option<usize> {
-        if self.start.is_same_as(grid) {
+    /// After how many moves a grid stood first, if it did; by the situational rule, with this colour to move.
+    fn first_at(&self, grid: &Grid, mover: Colour) -> Option<usize> {
+        let superko = self.superko;
+        if repeats(superko, (&self.start, self.first), (grid, mover)) {
             return Some(0);
         }
-        let number = self.grids.iter().position(|stood| stood.is_same_as(grid))?;
+        let mut stood = self.grids.iter();
+        let number = stood.position(|(old, next)| repeats(superko, (old, *next), (grid, mover)))?;
         Some(number.wrapping_add(1))
     }
 
@@ -60,7 +74,7 @@ impl PlainGame {
             return Err(PlayError::Occupied);
         }
         let taken = plain::place(&mut after, made.colour, p);
-        match self.first_at(&after) {
+        match self.first_at(&after, made.colour.other()) {
             Some(number) => Err(PlayError::Repeats(number)),
             None => Ok((after, taken)),
         }
@@ -82,7 +96,7 @@ impl PlainGame {
 
     /// Makes a move that leaves this grid and takes so many stones.
     pub fn push(&mut self, made: Move, after: Grid, taken: Taken) -> Result<(), AllocError> {
-        self.grids.push(after)?;
+        self.grids.push((after, made.colour.other()))?;
         self.made.push((made, taken))?;
         Ok(())
     }

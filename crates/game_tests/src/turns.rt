@@ -3,7 +3,7 @@ use crate::drawn::{Seen, any_start, next_move};
 use crate::games::size_of;
 use crate::plain_game::PlainGame;
 use go_board::{Colour, Grid, Move, Point, Size, Taken, Vertex, plain};
-use go_game::{Game, PlayError};
+use go_game::{Game, PlayError, Superko};
 use rand_core::Rng;
 use rand_pcg::Pcg32;
 use std::alloc::Global;
@@ -32,6 +32,7 @@ fn same_turns(rt: &impl Abort, game: &Game<Global>, plain: &PlainGame) {
     assert_eq!(rt; game.move_count(), moves);
     let unset = plain.start.is_same_as(&Grid::new(game.size()));
     assert!(rt; game.is_vacant() == (unset && moves == 0));
+    assert!(rt; game.superko() == plain.superko);
     assert!(rt; game.start_mover() == plain.first);
     assert!(rt; game.mover() == plain.mover());
     for number in 0..moves {
@@ -229,6 +230,7 @@ fn play_along(
 fn from_nothing(
     rt: &impl Abort,
     alloc: Global,
+    superko: Superko,
     size: Size,
     moves: u32,
     seed: u64,
@@ -236,7 +238,8 @@ fn from_nothing(
 ) {
     let mut random = Pcg32::new(seed, u64::from(size.lines()));
     let mut game = Game::new(alloc, size);
-    let mut plain = PlainGame::new(alloc, Grid::new(size), Colour::Black);
+    game.set_superko(superko);
+    let mut plain = PlainGame::new(alloc, superko, Grid::new(size), Colour::Black);
     play_along(rt, &mut game, &mut plain, &mut random, moves, seen);
 }
 
@@ -244,6 +247,7 @@ fn from_nothing(
 fn from_a_start(
     rt: &impl Abort,
     alloc: Global,
+    superko: Superko,
     size: Size,
     moves: u32,
     seed: u64,
@@ -252,43 +256,76 @@ fn from_a_start(
     let mut random = Pcg32::new(seed, u64::from(size.lines()));
     let start = any_start(&mut random, size);
     let mut game = Game::start_from(alloc, &start, Colour::White).expect(rt, "a start");
-    let mut plain = PlainGame::new(alloc, start, Colour::White);
+    game.set_superko(superko);
+    let mut plain = PlainGame::new(alloc, superko, start, Colour::White);
     play_along(rt, &mut game, &mut plain, &mut random, moves, seen);
+}
+
+/// Drawn games on 1 to 5 lines by a rule.
+fn small_games(rt: &impl Abort, alloc: Global, superko: Superko) {
+    let mut seen = Seen::new();
+    for lines in 1..6u8 {
+        let size = size_of(rt, lines);
+        for seed in 0..2u64 {
+            from_nothing(rt, alloc, superko, size, 300, seed, &mut seen);
+            from_a_start(rt, alloc, superko, size, 300, seed, &mut seen);
+        }
+    }
+    assert!(rt; seen.has_all());
+    assert!(rt; seen.has_returns() == (superko == Superko::Situational));
 }
 
 #[test]
 fn small_games_as_the_plain_body(rt: HostRuntime) {
+    small_games(&rt, rt.alloc(), Superko::Positional);
+}
+
+#[test]
+fn small_situational_games_as_the_plain_body(rt: HostRuntime) {
+    small_games(&rt, rt.alloc(), Superko::Situational);
+}
+
+/// Drawn games on 6 to 9 lines by a rule.
+fn middle_games(rt: &impl Abort, alloc: Global, superko: Superko) {
     let mut seen = Seen::new();
-    for lines in 1..6u8 {
-        let size = size_of(&rt, lines);
-        for seed in 0..2u64 {
-            from_nothing(&rt, rt.alloc(), size, 300, seed, &mut seen);
-            from_a_start(&rt, rt.alloc(), size, 300, seed, &mut seen);
-        }
+    for lines in 6..10u8 {
+        from_nothing(rt, alloc, superko, size_of(rt, lines), 150, 1, &mut seen);
     }
     assert!(rt; seen.has_all());
 }
 
 #[test]
 fn middle_games_as_the_plain_body(rt: HostRuntime) {
+    middle_games(&rt, rt.alloc(), Superko::Positional);
+}
+
+#[test]
+fn middle_situational_games_as_the_plain_body(rt: HostRuntime) {
+    middle_games(&rt, rt.alloc(), Superko::Situational);
+}
+
+/// A drawn game on 19 lines by a rule.
+fn a_large_game(rt: &impl Abort, alloc: Global, superko: Superko) {
     let mut seen = Seen::new();
-    for lines in 6..10u8 {
-        from_nothing(&rt, rt.alloc(), size_of(&rt, lines), 150, 1, &mut seen);
-    }
+    from_a_start(rt, alloc, superko, size_of(rt, 19), 60, 0, &mut seen);
     assert!(rt; seen.has_all());
 }
 
 #[test]
 fn a_large_game_as_the_plain_body(rt: HostRuntime) {
-    let mut seen = Seen::new();
-    from_a_start(&rt, rt.alloc(), size_of(&rt, 19), 60, 0, &mut seen);
-    assert!(rt; seen.has_all());
+    a_large_game(&rt, rt.alloc(), Superko::Positional);
+}
+
+#[test]
+fn a_large_situational_game_as_the_plain_body(rt: HostRuntime) {
+    a_large_game(&rt, rt.alloc(), Superko::Situational);
 }
 
 #[test]
 fn the_largest_game_as_the_plain_body(rt: HostRuntime) {
     let mut seen = Seen::new();
-    from_a_start(&rt, rt.alloc(), size_of(&rt, 25), 6, 0, &mut seen);
+    let size = size_of(&rt, 25);
+    from_a_start(&rt, rt.alloc(), Superko::Positional, size, 6, 0, &mut seen);
 }
 
 #[test]
