@@ -20,4 +20,6 @@ mod scripts;
 #[cfg(test)]
 mod sessions;
 #[cfg(test)]
+mod superko;
+#[cfg(test)]
 mod watched;

@@ -194,6 +194,49 @@ fn records_refused(rt: HostRuntime) {
 }
 
 #[test]
+fn a_refused_record_keeps_the_rule(rt: HostRuntime) {
+    let script = b"boardsize 1\ngoref-superko situational\nloadsgf f\ngoref-legal b\n".as_slice();
+    let answers = b"=\n\n=\n\n? cannot load file\n\n= A1\n\n".as_slice();
+    for gift in [
+        Gift::Bytes(b"(;SZ[2];B[aa];W[ba];W[ab];B[aa])"),
+        Gift::Bytes(b"(;SZ[1];B[aa])"),
+        Gift::Missing,
+        Gift::TooLarge,
+    ] {
+        says(&rt, rt.alloc(), gift, script, answers, 1);
+    }
+    says(
+        &rt,
+        rt.alloc(),
+        Gift::Memory,
+        script,
+        b"=\n\n=\n\n? out of memory\n\n= A1\n\n",
+        1,
+    );
+}
+
+#[test]
+fn a_loaded_record_has_the_positional_rule(rt: HostRuntime) {
+    says(
+        &rt,
+        rt.alloc(),
+        Gift::Bytes(b"(;SZ[1])"),
+        b"boardsize 1\ngoref-superko situational\ngoref-legal b\nloadsgf f\ngoref-legal b\n\
+        goref-superko situational\ngoref-legal b\n",
+        b"=\n\n=\n\n= A1\n\n=\n\n=\n\n=\n\n= A1\n\n",
+        1,
+    );
+    says(
+        &rt,
+        rt.alloc(),
+        Gift::Bytes(b"(;SZ[2];B[ab];W[bb];W[aa])"),
+        b"goref-superko situational\nloadsgf f\ngoref-superko situational\nplay b a1\n",
+        b"=\n\n=\n\n? game in progress\n\n? illegal move\n\n",
+        1,
+    );
+}
+
+#[test]
 fn nothing_fetched(rt: HostRuntime) {
     let size = Size::new(19).expect(&rt, "a size");
     let mut session = Session::new(rt.alloc(), size);

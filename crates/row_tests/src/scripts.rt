@@ -96,12 +96,22 @@ fn ids_and_known_commands(rt: HostRuntime) {
 }
 
 #[test]
+fn commands_are_known(rt: HostRuntime) {
+    says(
+        &rt,
+        rt.alloc(),
+        b"known_command komi\nknown_command goref-superko\nknown_command goref-Superko\nknown_command superko\n",
+        b"= true\n\n= true\n\n= false\n\n= false\n\n",
+    );
+}
+
+#[test]
 fn commands_are_listed(rt: HostRuntime) {
     says(
         &rt,
         rt.alloc(),
         b"list_commands\n",
-        b"= protocol_version\nname\nversion\nknown_command\nlist_commands\nquit\nboardsize\nclear_board\nkomi\nplay\ngenmove\nundo\nreg_genmove\nloadsgf\nfixed_handicap\nplace_free_handicap\nset_free_handicap\nfinal_score\nshowboard\ntime_settings\ntime_left\ngoref-chains\ngoref-legal\ngoref-printsgf\n\n",
+        b"= protocol_version\nname\nversion\nknown_command\nlist_commands\nquit\nboardsize\nclear_board\nkomi\nplay\ngenmove\nundo\nreg_genmove\nloadsgf\nfixed_handicap\nplace_free_handicap\nset_free_handicap\nfinal_score\nshowboard\ntime_settings\ntime_left\ngoref-chains\ngoref-legal\ngoref-printsgf\ngoref-superko\n\n",
     );
 }
 
