@@ -1,6 +1,6 @@
 use failing::Failing;
 use go_board::{Colour, Move, Pen, Point, Vertex, WriteFault, read_vertex};
-use go_game::{Game, PlayError, hundredths_text, score_text};
+use go_game::{Game, PlayError, Superko, hundredths_text, score_text};
 use go_record::{RecordError, Stated, Verdict, judge, put_record, replay, write_record};
 use go_sgf::{Collection, read, trim};
 use memory_devices::Writer;
@@ -217,6 +217,15 @@ fn load_a_record(rt: HostRuntime) {
     let mut game = game_of(&rt, alloc, SET_UP, Some(2));
     assert!(rt; game.undo().is_some());
     assert!(rt; game.undo().is_none());
+}
+
+#[test]
+fn the_rule_of_a_record(rt: HostRuntime) {
+    let alloc = rt.alloc();
+    for source in [SET_UP, b"(;SZ[1])".as_slice()] {
+        let game = game_of(&rt, alloc, source, None);
+        assert!(rt; game.superko() == Superko::Positional);
+    }
 }
 
 /// Writes the record of a game.
