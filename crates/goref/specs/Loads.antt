@@ -1,11 +1,12 @@
 -- What a line asks to be loaded, and what comes of a record's bytes.
-use Rattle.std.specs.Prelude.{◌≢◌, ◌⊎◌, ℕ, List, Option, Some, None, Ok, Err, option_map, slice_get}
+use Rattle.std.specs.Prelude.{◌≢◌, ◌≤◌, ◌⊎◌, ℕ, List, Option, Some, None, Ok, Err, length, option_map, slice_get}
 use Rattle.std.specs.Option.{option_and_then}
 use Rattle.go_game.specs.Standings.{Standing}
 use Rattle.go_record.specs.Games.{IsGameOf}
 use Rattle.go_record.specs.declared.error.RecordError.{RecordError}
 use Rattle.go_record.specs.declared.error.RecordError.TheVariants as record_error
 use Rattle.go_sgf.specs.Record.{Trees}
+use Rattle.go_sgf.specs.declared.limits.TheConstants.{MAX_RECORD}
 use Rattle.go_sgf.specs.Refusals.{IsRefusal}
 use Rattle.go_sgf.specs.Spelling.{Spells}
 use Rattle.go_sgf.specs.declared.error.SgfError.{SgfError}
@@ -44,9 +45,9 @@ load_on _ arguments = None
 abbrev pub load_asked : Asked → Option Load
 load_asked asked = load_on (option_and_then command_of asked.name) asked.arguments
 
--- the bytes spell a record whose game is this standing
+-- the bytes, no more than the longest record has, spell a record whose game is this standing
 abbrev pub Loads : List ℕ → Option ℕ → Standing → Type 0
-Loads bytes number s = (c : Trees) × Spells bytes c × IsGameOf c number (Ok s)
+Loads bytes number s = (length bytes ≤ MAX_RECORD) × (c : Trees) × Spells bytes c × IsGameOf c number (Ok s)
 
 -- no game comes of the bytes: they are no record, or the record's game is refused
 abbrev pub LoadsNone : List ℕ → Option ℕ → Type 0
