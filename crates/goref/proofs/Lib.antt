@@ -3,3 +3,4 @@ pub mod Answering
 pub mod Moves
 pub mod Choices
 pub mod Starting
+pub mod Loading
