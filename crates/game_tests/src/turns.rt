@@ -304,21 +304,27 @@ fn middle_situational_games_as_the_plain_body(rt: HostRuntime) {
     middle_games(&rt, rt.alloc(), Superko::Situational);
 }
 
-/// A drawn game on 19 lines by a rule.
-fn a_large_game(rt: &impl Abort, alloc: Global, superko: Superko) {
+#[test]
+fn a_large_game_as_the_plain_body(rt: HostRuntime) {
     let mut seen = Seen::new();
-    from_a_start(rt, alloc, superko, size_of(rt, 19), 60, 0, &mut seen);
+    let size = size_of(&rt, 19);
+    from_a_start(&rt, rt.alloc(), Superko::Positional, size, 60, 0, &mut seen);
     assert!(rt; seen.has_all());
 }
 
 #[test]
-fn a_large_game_as_the_plain_body(rt: HostRuntime) {
-    a_large_game(&rt, rt.alloc(), Superko::Positional);
-}
-
-#[test]
 fn a_large_situational_game_as_the_plain_body(rt: HostRuntime) {
-    a_large_game(&rt, rt.alloc(), Superko::Situational);
+    let mut seen = Seen::new();
+    let size = size_of(&rt, 19);
+    from_a_start(
+        &rt,
+        rt.alloc(),
+        Superko::Situational,
+        size,
+        25,
+        0,
+        &mut seen,
+    );
 }
 
 #[test]

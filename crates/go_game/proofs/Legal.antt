@@ -14,7 +14,7 @@ use Rattle.go_board.specs.declared.vertex.Vertex.{Vertex}
 use Rattle.go_board.specs.declared.vertex.Vertex.TheVariants.{Pass, At}
 use Rattle.go_board.specs.Colours.{Colouring, colour_at}
 use Rattle.go_board.specs.Points.{IsOn, number_of}
-use Rattle.go_board.specs.Reaching.{has_colour, is_same, moved}
+use Rattle.go_board.specs.Reaching.{has_colour, is_same}
 use Rattle.go_game.specs.Standings.{Seen, Standing, IsLegal, IsOccupied, IsOffBoard, Repeats, board_of, seen_after, stood_of}
 use Rattle.go_game.specs.Legal.{same_colours, same_seen, has_stood, is_open, is_repeat, is_legal}
 

@@ -1,7 +1,6 @@
 -- What stood by each of the two rules.
-use Rattle.std.proofs.Common.{arith, ◌≡◌, ◌<◌, ◌↔◌, ◌*◌, ◌∙◌, ℕ, zero, suc, List, [], ◌∷◌, Option, Some, None, Contains, length, slice_index_or, map, ap, refl, sym, subst}
+use Rattle.std.proofs.Common.{arith, ◌≡◌, ◌<◌, ◌↔◌, ℕ, zero, suc, List, [], ◌∷◌, Some, None, Contains, length, slice_index_or, map, ap, refl, sym, subst}
 use Rattle.std.proofs.Math.ListN.{length-map}
-use Rattle.std.proofs.lemmas.List.{get_or_default}
 use Rattle.go_board.specs.declared.colour.Colour.{Colour}
 use Rattle.go_board.specs.declared.point.Point.{Point}
 use Rattle.go_board.specs.declared.vertex.Move.{Move}
@@ -10,7 +9,7 @@ use Rattle.go_board.specs.Points.{number_of}
 use Rattle.go_board.specs.Reaching.{moved}
 use Rattle.go_game.specs.declared.superko.Superko.{Superko}
 use Rattle.go_game.specs.declared.superko.Superko.TheVariants.{Positional, Situational}
-use Rattle.go_game.specs.Standings.{Seen, Situation, Standing, after_move, board_of, positions, positions_of, seen_after, seen_by, situations, situations_of, stood, stood_of}
+use Rattle.go_game.specs.Standings.{Seen, Situation, Standing, after_move, board_of, positions, positions_of, seen_after, seen_by, situations_of, stood, stood_of}
 
 module _ {X Y : Type 0} (f : X → Y) (same : (x y : X) → f x ≡ f y → x ≡ y) where
   found_in : (xs : List X) (k : ℕ) (x : X) (y z : Y) → k < length xs → slice_index_or (map f xs) k z ≡ f x → slice_index_or xs k x ≡ x

@@ -22,7 +22,7 @@ use Rattle.go_chains.specs.Rewound.{IsRewound, NamesCells, PlayLogged, rewound}
 use Rattle.go_chains.specs.Sound.{BoardValue, IsKept, colouring_of, grid_of}
 use Rattle.go_game.specs.declared.step.Step.{Step}
 use Rattle.go_game.specs.declared.superko.Superko.{Superko}
-use Rattle.go_game.specs.Held.{IsHeld, IsKeeping, IsPlayed, IsTracked, made_of, standing_of}
+use Rattle.go_game.specs.Held.{IsHeld, IsKeeping, IsPlayed, made_of, standing_of}
 use Rattle.go_history.specs.declared.key.Key.{Key}
 use Rattle.go_history.specs.Histories.{HistoryValue, IsChangedAt, IsForgotten, IsUnchanged}
 use Rattle.go_game.specs.Histories.{IsNoted, StandsFor}

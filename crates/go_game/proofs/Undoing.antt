@@ -1,6 +1,6 @@
 -- What a game keeps after its last move is taken back.
 use Rattle.std.proofs.Common.{arith, ◌≡◌, ◌≢◌, ◌<◌, ◌+◌, ◌*◌, ◌∙◌, ℕ, ℤ, List, [], ◌∷◌, ◌++◌, length, length-append, map, refl, sym, ap, subst}
-use Rattle.std.specs.Prelude.{Contains, Option, None}
+use Rattle.std.specs.Prelude.{Contains, None}
 use Rattle.std.proofs.lemmas.List.{append-nil, same_from_push}
 use Rattle.std.proofs.Math.Seq.{get_or-append_seam, take-append_seam}
 use Rattle.go_board.specs.declared.colour.Colour.{Colour}

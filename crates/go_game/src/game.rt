@@ -1,8 +1,8 @@
 ghost use Rattle.std.specs.Prelude.{◌≡◌, ◌<◌, ◌++◌, ◌∷◌, ◌*◌, ◌^◌, [], ◌↔◌, ℕ, pos, false, Err, IfOk, IfErr, IfNone, IfSome, OnErr, OnOk, Contains, length, slice_get};
 
+use crate::Superko;
 use crate::prisoners::Prisoners;
 use crate::step::Step;
-use crate::Superko;
 use go_board::laws::packs_tell_colourings_apart;
 use go_board::plain::{areas, is_liberty, same_chain};
 use go_board::{Area, Colour, Grid, Meter, Move, Point, Size};

@@ -142,7 +142,9 @@ impl<A: Allocator + Copy> Game<A> {
     {
         packs_tell_colourings_apart();
         let step = self.steps.pop()?;
-        let key = self.superko.key(self.board.pack(), step.made.colour.other());
+        let key = self
+            .superko
+            .key(self.board.pack(), step.made.colour.other());
         match step.made.vertex {
             Vertex::Pass => {
                 self.history.forget_at(&key, self.steps.len() + 1);

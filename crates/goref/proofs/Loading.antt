@@ -1,6 +1,6 @@
 -- What comes of a file's bytes is one thing.
-use Rattle.std.proofs.Common.{arith, ◌≡◌, ◌≢◌, ◌≤◌, ◌∙◌, ℕ, List, [], length, refl, sym, ap, subst, inl, inr}
-use Rattle.std.specs.Prelude.{Option, Ok, Err}
+use Rattle.std.proofs.Common.{arith, ◌≡◌, ◌≢◌, ◌≤◌, ◌∙◌, ℕ, List, [], length, refl, sym, subst, inl, inr}
+use Rattle.std.specs.Prelude.{Ok, Err}
 use Rattle.go_game.specs.Standings.{Standing}
 use Rattle.go_record.specs.Games.{IsGameOf}
 use Rattle.go_record.specs.Laws.{OneOutcome}
@@ -14,7 +14,6 @@ use Rattle.go_sgf.specs.declared.error.SgfError.{SgfError}
 use Rattle.go_sgf.specs.declared.error.SgfError.TheVariants as sgf_error
 use Rattle.go_sgf.specs.declared.limits.TheConstants.{MAX_RECORD}
 use Rattle.goref.specs.Laws.{OneLoad}
-use Rattle.goref.specs.Loads.{Loads, LoadsNone}
 
 -- no text spells a tree where there is nothing
 no_text : (c : Trees) (rest : List ℕ) → c ≢ none → SpellsParts [] (parts c) rest → ⊥

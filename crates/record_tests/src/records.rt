@@ -4,8 +4,8 @@ ghost use Rattle.go_board.specs.Sizes.{lines_of};
 use failing::Failing;
 use go_board::{Point, Size, Vertex, WriteFault, read_vertex};
 use go_sgf::{
-    Collection, MAX_RECORD, SgfError, cook_simple, cook_text, escape, hundredths_of, number_of,
-    point_of, points_of, read, write,
+    Collection, SgfError, cook_simple, cook_text, escape, hundredths_of, number_of, point_of,
+    points_of, read, write,
 };
 use memory_devices::Writer;
 use std::alloc::{AllocError, Allocator, Global};
@@ -101,12 +101,12 @@ fn deep_records(rt: HostRuntime) -> Result<(), Fail> {
 #[test]
 fn long_records(rt: HostRuntime) -> Result<(), Fail> {
     let alloc = rt.alloc();
-    let blank = vec![in alloc; b' '; MAX_RECORD + 1]?;
+    let blank = vec![in alloc; b' '; 16_777_217]?;
     refused(&rt, alloc, blank.as_slice(), SgfError::TooLong);
     refused(
         &rt,
         alloc,
-        blank.as_slice().split_at(MAX_RECORD).0,
+        blank.as_slice().split_at(16_777_216).0,
         SgfError::NoTree,
     );
     let values = copies(alloc, b"[]", 1_000_000, b")")?;

@@ -1,5 +1,5 @@
 use failing::Failing;
-use go_sgf::{MAX_RECORD, SgfError};
+use go_sgf::SgfError;
 use goref_tools::{ToolError, tidy_run};
 use memory_devices::{Reader, Writer};
 use std::alloc::{AllocError, Allocator, Global};
@@ -105,9 +105,9 @@ fn pulls_of_too_long(rt: &impl Abort, alloc: Global, spaces: usize) -> u64 {
 #[test]
 fn records_at_the_limit(rt: HostRuntime) {
     let alloc = rt.alloc();
-    tree_alone(&rt, alloc, MAX_RECORD - 3);
-    too_long(&rt, alloc, MAX_RECORD - 2);
-    assert!(rt; pulls_of_too_long(&rt, alloc, MAX_RECORD + 8_192) == 4_097);
+    tree_alone(&rt, alloc, 16_777_213);
+    too_long(&rt, alloc, 16_777_214);
+    assert!(rt; pulls_of_too_long(&rt, alloc, 16_785_408) == 4_097);
 }
 
 /// Asserts that a run fails at its writer, which takes so many bytes of the record.

@@ -84,8 +84,8 @@ fn ids_and_known_commands(rt: HostRuntime) {
     says(
         &rt,
         rt.alloc(),
-        b"007 name\n5\n2147483648 name\nknown_command play\nknown_command Play\n0 name\n00 quit\n",
-        b"=7 goref\n\n?5 unknown command\n\n? unknown command\n\n= true\n\n= false\n\n=0 goref\n\n=0\n\n",
+        b"007 name\n5\n2147483647 name\n2147483648 name\nknown_command play\nknown_command Play\n0 name\n00 quit\n",
+        b"=7 goref\n\n?5 unknown command\n\n=2147483647 goref\n\n? unknown command\n\n= true\n\n= false\n\n=0 goref\n\n=0\n\n",
     );
     says(
         &rt,
