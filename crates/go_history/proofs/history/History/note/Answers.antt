@@ -15,7 +15,6 @@ returns-in-None-clause-known g c = sym c.in-None.is ∙ past_start (record { sta
 pub returns-in_ok-insert-in-Some-clause-known : goal.returns-in_ok-insert-in-Some-clause-known
 returns-in_ok-insert-in-Some-clause-known g c = sym c.in-Some.is ∙ past_start (record { start = c.self.inside.start; later = c.self.inside.later.entries }) c.args.key.now c.in_ok-known.known (sym c.eq.ensures ∙ c.if-eq.false) c.in_ok-known.ensures.old ∙ ap (λ (v : HistoryValue). number_at v c.args.key.now) c.self.view_is
 
-
 pub returns-in-None-clause-noted : goal.returns-in-None-clause-noted
 returns-in-None-clause-noted g c is = (
   ap (λ (v : HistoryValue). v.start) c.self.view_is,
