@@ -2,9 +2,9 @@
 use Rattle.std.specs.Prelude.{ℕ, Result, Ok, Err}
 use Rattle.clap.specs.declared.error.kind.ErrorKind.{ErrorKind}
 use Rattle.clap.specs.declared.error.kind.ErrorKind.TheVariants.{DisplayHelp, DisplayVersion}
-use Rattle.goref_runs.specs.declared.fault.RunError.{RunError}
+use Rattle.goref_program.specs.declared.ends.Fault.{Fault}
+use Rattle.goref_program.specs.declared.ends.Fault.TheVariants.{Run, Tool}
 use Rattle.goref_tools.specs.Tools.{status_of}
-use Rattle.goref_tools.specs.declared.error.ToolError.{ToolError}
 
 -- the status of words from which no task came: 0 where they asked for a text that was shown, and else 2
 abbrev pub words_status : ErrorKind → ℕ
@@ -12,12 +12,12 @@ words_status DisplayHelp = 0
 words_status DisplayVersion = 0
 words_status _ = 2
 
--- the status of a run: 0 where it came to its end, and else 3
-abbrev pub run_status : Result (Unit {0}) RunError → ℕ
-run_status (Ok _) = 0
-run_status (Err _) = 3
+-- the status of a fault: 3 where a run met it, and else that of the tool's refusal or fault
+abbrev pub fault_status : Fault → ℕ
+fault_status (Run _) = 3
+fault_status (Tool why) = status_of why
 
--- the status of a tool: 0 where it did its task, and else that of its refusal or fault
-abbrev pub tool_status : Result (Unit {0}) ToolError → ℕ
-tool_status (Ok _) = 0
-tool_status (Err fault) = status_of fault
+-- the status of a task: 0 where it was done, and else that of its fault
+abbrev pub end_status : Result (Unit {0}) Fault → ℕ
+end_status (Ok _) = 0
+end_status (Err fault) = fault_status fault

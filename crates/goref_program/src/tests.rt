@@ -1,21 +1,178 @@
+use crate::ends::{Fault, explained, told};
 use crate::files::NamedFiles;
-use crate::obeyed;
+use crate::tasks::obeyed;
+use go_board::Size;
 use go_sgf::MAX_RECORD;
 use goref::Fetched;
 use goref_runs::Shelf;
+use goref_words::{Task, task_of};
 use std::alloc::Global;
 use std::fs;
+use std::io::{self, Read, Write};
 use std::test::Fail;
 
+/// A stream that keeps the bytes written to it, while it has room for them.
+#[derive(Drop)]
+struct Page {
+    bytes: Vec<u8>,
+    room: usize,
+}
+
+impl Page {
+    fn new(alloc: Global, room: usize) -> Page {
+        Page {
+            bytes: Vec::new(alloc),
+            room,
+        }
+    }
+}
+
+impl Write for Page {
+    fn write(&mut self, bytes: &[u8]) -> io::Result<usize> {
+        if bytes.len() > self.room {
+            return Err(io::Error::from(io::ErrorKind::StorageFull));
+        }
+        self.room -= bytes.len();
+        self.bytes.extend_from_slice(bytes)?;
+        Ok(bytes.len())
+    }
+
+    fn flush(&mut self) -> io::Result<()> {
+        Ok(())
+    }
+}
+
+/// A stream that can't be read.
+#[derive(Drop)]
+struct Broken;
+
+impl Read for Broken {
+    fn read(&mut self, _: &mut [u8]) -> io::Result<usize> {
+        Err(io::Error::from(io::ErrorKind::Other))
+    }
+}
+
+/// Whether a task writes this, tells of its fault by this line, and ends with this status.
+fn comes_to(
+    rt: &HostRuntime,
+    task: Task,
+    input: impl Read + Drop,
+    room: usize,
+    written: &[u8],
+    line: &[u8],
+    status: u8,
+) -> bool {
+    let mut output = Page::new(rt.alloc(), room);
+    let mut errors = Page::new(rt.alloc(), 1_000);
+    let mut files = NamedFiles::new(rt.alloc(), rt);
+    let end = obeyed(rt.alloc(), task, input, &mut output, &mut files);
+    told(end, &mut errors) == status
+        && output.bytes.as_slice() == written
+        && errors.bytes.as_slice() == line
+}
+
 #[test]
-fn words_that_get_a_status(rt: HostRuntime) -> Result<(), Fail> {
-    let alloc = rt.alloc();
-    assert!(rt; obeyed(&rt, &vec![in alloc; "goref", "--help"]?) == 0);
-    assert!(rt; obeyed(&rt, &vec![in alloc; "goref", "gtp", "--help"]?) == 0);
-    assert!(rt; obeyed(&rt, &vec![in alloc; "goref", "judge", "--help"]?) == 0);
-    assert!(rt; obeyed(&rt, &vec![in alloc; "goref"]?) == 2);
-    assert!(rt; obeyed(&rt, &vec![in alloc; "goref", "gtp", "--size", "26"]?) == 2);
-    Ok(())
+fn judging_from_stream_to_stream(rt: HostRuntime) {
+    let agrees = b"moves 1\nscore B+74.5\nstated agrees\n".as_slice();
+    let record = b"(;GM[1]SZ[9]KM[6.5]RE[B+74.5];B[ee])".as_slice();
+    assert!(rt; comes_to(&rt, Task::Judge, record, 1_000, agrees, b"", 0));
+    assert!(rt; comes_to(
+        &rt,
+        Task::Judge,
+        b"(;SZ[2];B[ab];W[bb];W[aa];B[ab])".as_slice(),
+        1_000,
+        b"",
+        b"goref: move 4 repeats the position after 3 moves\n",
+        1,
+    ));
+}
+
+#[test]
+fn tidying_from_stream_to_stream(rt: HostRuntime) {
+    let record = b"x(;GM[1] FF[4] ;B[aa](;W[bb])(;W[cc]C[a\\]b]))".as_slice();
+    let tidy = b"(;GM[1]FF[4];B[aa](;W[bb])(;W[cc]C[a\\]b]))\n".as_slice();
+    assert!(rt; comes_to(&rt, Task::Tidy, record, 1_000, tidy, b"", 0));
+    assert!(rt; comes_to(
+        &rt,
+        Task::Tidy,
+        record.split_at(44).0,
+        1_000,
+        b"",
+        b"goref: record ends inside a tree at byte 44\n",
+        1,
+    ));
+}
+
+#[test]
+fn a_session_from_stream_to_stream(rt: HostRuntime) {
+    let nine = Size::new(9).expect(&rt, "a size");
+    assert!(rt; comes_to(
+        &rt,
+        Task::Gtp(nine),
+        b"goref-printsgf\nplay b k10\nquit\n".as_slice(),
+        1_000,
+        b"= (;GM[1]FF[4]SZ[9]KM[0]PL[B])\n\n? illegal move\n\n=\n\n",
+        b"",
+        0,
+    ));
+}
+
+#[test]
+fn streams_that_fail(rt: HostRuntime) {
+    let size = Size::new(19).expect(&rt, "a size");
+    for task in [Task::Gtp(size), Task::Judge, Task::Tidy] {
+        assert!(rt; comes_to(&rt, task, Broken, 1_000, b"", b"goref: read fault\n", 3));
+    }
+    let record = b"(;SZ[1])".as_slice();
+    for task in [Task::Judge, Task::Tidy] {
+        assert!(rt; comes_to(&rt, task, record, 0, b"", b"goref: write fault\n", 3));
+    }
+    let line = b"name\n".as_slice();
+    assert!(rt; comes_to(&rt, Task::Gtp(size), line, 0, b"", b"goref: write fault\n", 3));
+}
+
+/// How many bytes are written to a stream with so much room and to the errors for words that name no
+/// task, and the status.
+fn explained_to(rt: &HostRuntime, words: &[&str], room: usize) -> Option<(usize, usize, u8)> {
+    let mut output = Page::new(rt.alloc(), room);
+    let mut errors = Page::new(rt.alloc(), 10_000);
+    let error = task_of(rt.alloc(), words).err()?;
+    let status = explained(&error, &mut output, &mut errors);
+    Some((output.bytes.len(), errors.bytes.len(), status))
+}
+
+/// Whether the words are answered by help on the output, and by 3 where that is full.
+fn are_answered_by_help(rt: &HostRuntime, words: &[&str]) -> bool {
+    let shown = match explained_to(rt, words, 10_000) {
+        Some((shown, told, status)) => shown > 0 && told == 0 && status == 0,
+        None => false,
+    };
+    shown && explained_to(rt, words, 0) == Some((0, 0, 3))
+}
+
+/// Whether the words are refused, and that is told among the errors alone.
+fn are_refused(rt: &HostRuntime, words: &[&str]) -> bool {
+    match explained_to(rt, words, 10_000) {
+        Some((shown, told, status)) => shown == 0 && told > 0 && status == 2,
+        None => false,
+    }
+}
+
+#[test]
+fn words_that_name_no_task(rt: HostRuntime) {
+    assert!(rt; are_answered_by_help(&rt, &["goref", "--help"]));
+    assert!(rt; are_answered_by_help(&rt, &["goref", "gtp", "--help"]));
+    assert!(rt; are_answered_by_help(&rt, &["goref", "judge", "--help"]));
+    assert!(rt; are_refused(&rt, &["goref"]));
+    assert!(rt; are_refused(&rt, &["goref", "gtp", "--size", "26"]));
+}
+
+#[test]
+fn nothing_is_told_of_an_end(rt: HostRuntime) {
+    let mut errors = Page::new(rt.alloc(), 1_000);
+    let end: Result<(), Fault> = Ok(());
+    assert_eq!(rt; told(end, &mut errors), 0);
+    assert!(rt; errors.bytes.is_empty());
 }
 
 /// What is fetched by a name.
@@ -45,6 +202,24 @@ fn files_are_read_whole(rt: HostRuntime) -> Result<(), Fail> {
     assert!(rt; holds(&fetched_of(&rt, "short.sgf", text)?, text));
     assert!(rt; holds(&fetched_of(&rt, "empty.sgf", b"")?, b""));
     assert!(rt; holds(&fetched_of(&rt, "\u{e9}.sgf", b"(;)")?, b"(;)"));
+    Ok(())
+}
+
+#[test]
+fn files_by_their_names(rt: HostRuntime) -> Result<(), Fail> {
+    fs::write(&rt, "one.sgf", b"(;SZ[1])".as_slice())?;
+    fs::write(&rt, "two.sgf", b"(;SZ[2])".as_slice())?;
+    let mut files = NamedFiles::new(rt.alloc(), &rt);
+    let first = files.fetch(b"one.sgf");
+    let second = files.fetch(b"two.sgf");
+    let again = files.fetch(b"one.sgf");
+    fs::remove_file(&rt, "one.sgf")?;
+    fs::remove_file(&rt, "two.sgf")?;
+    assert!(rt; holds(&first, b"(;SZ[1])"));
+    assert!(rt; holds(&second, b"(;SZ[2])"));
+    assert!(rt; holds(&again, b"(;SZ[1])"));
+    assert!(rt; holds(&files.fetch(b"/dev/null"), b""));
+    assert!(rt; matches!(files.fetch(b"dev/null"), Fetched::Missing));
     Ok(())
 }
 

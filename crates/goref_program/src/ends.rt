@@ -1,0 +1,90 @@
+//! What is told of the end of a task, and the exit status that follows it.
+ghost use Rattle.std.specs.Prelude.{◌≡◌, ◌⊎◌, IfSome, Ok, OnOk};
+ghost use Rattle.clap.specs.Values.{kind_of};
+ghost use Rattle.goref_program.specs.Status.{end_status, fault_status, words_status};
+ghost use Rattle.goref_program.specs.declared.ends.Fault.TheVariants.{Run, Tool};
+
+use goref_runs::RunError;
+use goref_tools::ToolError;
+use std::io::Write;
+use thiserror::Error;
+
+/// The exit status where the words are refused.
+pub const REFUSED: u8 = 2;
+
+/// The exit status where a stream fails.
+pub const FAULT: u8 = 3;
+
+/// Why a task didn't come to its end.
+#[derive(Clone, Copy, Debug, PartialEq, Eq, Error)]
+pub enum Fault {
+    /// A run of lines met a fault.
+    #[error("{0}")]
+    Run(RunError),
+    /// A tool didn't do its task.
+    #[error("{0}")]
+    Tool(ToolError),
+}
+
+impl Fault {
+    /// The exit status that tells of it.
+    fn status(&self) -> u8
+        ensures { result ≡ fault_status self.now }
+    {
+        match self {
+            Fault::Run(_) => FAULT,
+            Fault::Tool(why) => why.status(),
+        }
+    }
+}
+
+impl From<RunError> for Fault {
+    ghost from_gives = { λ why fault. fault ≡ Run why };
+
+    fn from(why: RunError) -> Fault {
+        Fault::Run(why)
+    }
+}
+
+impl From<ToolError> for Fault {
+    ghost from_gives = { λ why fault. fault ≡ Tool why };
+
+    fn from(why: ToolError) -> Fault {
+        Fault::Tool(why)
+    }
+}
+
+/// Tells of a fault in one line, where there is one, and gives the exit status.
+pub fn told<E: Write>(end: Result<(), Fault>, errors: &mut E) -> u8
+    ensures status { result ≡ end_status end }
+    ensures silent { OnOk end (errors.new ≡ errors.old) }
+{
+    match end {
+        Ok(()) => 0,
+        Err(fault) => {
+            let _ = writeln!(errors, "goref: {fault}");
+            fault.status()
+        }
+    }
+}
+
+/// Tells why no task came of the words, or the help that they asked for, and gives the exit status.
+pub fn explained<O: Write, E: Write>(error: &clap::Error, output: &mut O, errors: &mut E) -> u8
+    ensures status { (result ≡ words_status (kind_of error.now))
+        ⊎ ((words_status (kind_of error.now) ≡ 0) × (result ≡ 3)) }
+{
+    if error.use_stderr() {
+        let _ = write!(errors, "{error}");
+        return REFUSED;
+    }
+    match shown(error, output) {
+        Ok(()) => 0,
+        Err(_) => FAULT,
+    }
+}
+
+/// Writes a text of help whole.
+fn shown<O: Write>(error: &clap::Error, output: &mut O) -> std::io::Result<()> {
+    write!(output, "{error}")?;
+    output.flush()
+}
