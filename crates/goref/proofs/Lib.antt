@@ -4,3 +4,8 @@ pub mod Moves
 pub mod Choices
 pub mod Starting
 pub mod Loading
+pub mod Lines
+pub mod Decimals
+pub mod Facts
+pub mod RecordLine
+pub mod Ending

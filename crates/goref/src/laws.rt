@@ -1,6 +1,6 @@
 //! What the words of this crate's contracts mean: laws about definitions, each the contract of a
 //! function that does nothing.
-ghost use Rattle.goref.specs.Laws.{OneLoad, SomeReply};
+ghost use Rattle.goref.specs.Laws.{AnswersEnd, OneLoad, PlainAnswers, SomeReply};
 
 use go_record::laws::one_outcome;
 use go_sgf::laws::one_record;
@@ -18,3 +18,14 @@ pub fn one_load()
     one_record();
     one_outcome();
 }
+
+/// Nothing is said to a line without words, and what is said to any other line ends at its first
+/// empty line, which is how a controller finds the end of an answer.
+pub fn answers_end()
+    ensures { AnswersEnd }
+{}
+
+/// No byte of an answer is below a space, line ends aside.
+pub fn plain_answers()
+    ensures { PlainAnswers }
+{}
