@@ -1,4 +1,4 @@
--- Answers end at their first empty line.
+-- The one empty line of an answer is at its end.
 use Rattle.std.proofs.Common.{arith, ◌≡◌, ◌≢◌, ◌∙◌, ◌≤◌, ℕ, Bool, true, false, List, [], ◌∷◌, ◌++◌, ap, append_assoc, drop, inl, inr, refl, subst, sym}
 use Rattle.std.specs.Prelude.{◌⊎◌, ◌==◌, Option, Some, None, codes, if◌then◌else◌, nat_le, slice_index}
 use Rattle.std.specs.List.{AllByRecursion}
@@ -59,13 +59,6 @@ first_gap s [] (a ∷ b ∷ front) back h e = absurd (none_behind front 10 (10 �
 first_gap s (b ∷ body) [] back h e = absurd (no_gap s b body (10 ∷ []) h (ap (λ xs. slice_index xs 0) e) (ap (λ xs. slice_index xs 1) e))
 first_gap s (b ∷ body) (a ∷ front) back h e = first_gap (step s b) body front back h (ap (drop 1) e)
 
-ends_at_empty_line : (body text : List ℕ) → GoesOn body → text ≡ body ++ codes "\n\n" → EndsAtEmptyLine text
-ends_at_empty_line body text h is = record {
-  body = body;
-  ends = is;
-  first = λ front back e. first_gap within body front back h (sym is ∙ e);
-}
-
 -- ---- plain bytes
 
 abbrev IsPlain : ℕ → Type 0
@@ -84,8 +77,9 @@ plain_text s (x ∷ xs) h = (by_test (cases_Bool (nat_le 32 x)) (cases_Bool (x =
 
 -- ---- answers
 
--- a text with which a line goes on, and two line ends behind it
+-- a text with which a line goes on, not begun by a line end, and two line ends behind it
 record IsAnswer (text : List ℕ) : Type 0 where
+  begins : (rest : List ℕ) → text ≢ 10 ∷ rest
   body : List ℕ
   goes_on : GoesOn body
   ends : text ≡ body ++ codes "\n\n"
@@ -114,6 +108,7 @@ refusal_goes_on OutOfMemory = refl
 
 behind_id : (mark : ℕ) → 32 ≤ mark → (id : Option ℕ) (result : List ℕ) → GoesOn result → IsAnswer (mark ∷ (id_text id ++ (result ++ codes "\n\n")))
 behind_id mark high id result h = record {
+  begins = λ rest e. let is_end : mark ≡ 10 = ap (λ bytes. slice_index bytes 0) e in omega (arith, high, is_end);
   body = mark ∷ (id_text id ++ result);
   goes_on = append_goes_on (mark ∷ id_text id) result (line_goes_on (mark ∷ id_text id) (high, id_line id)) h;
   ends = ap (λ text. mark ∷ text) (sym (append_assoc (id_text id) result (codes "\n\n")));
@@ -124,6 +119,14 @@ decision_answers id Done s = behind_id 61 (omega arith) id [] refl
 decision_answers id Ends s = behind_id 61 (omega arith) id [] refl
 decision_answers id (Tells fact) s = behind_id 61 (omega arith) id (result_text (fact_text fact s)) (result_goes_on (fact_text fact s) (fact_goes_on fact s))
 decision_answers id (Refused why) s = behind_id 63 (omega arith) id (codes " " ++ refusal_text why) (refusal_goes_on why)
+
+ends_at_empty_line : (text : List ℕ) → IsAnswer text → EndsAtEmptyLine text
+ends_at_empty_line text answer = record {
+  begins = answer.begins;
+  body = answer.body;
+  ends = answer.ends;
+  first = λ front back e. first_gap within answer.body front back answer.goes_on (sym answer.ends ∙ e);
+}
 
 plain_answer : (text : List ℕ) → IsAnswer text → AllByRecursion IsPlain text
 plain_answer text answer =
@@ -138,7 +141,7 @@ said s k content reply (inr some) =
 pub answers_end : AnswersEnd
 answers_end s k content reply may = elim (said s k content reply may) [
   | inl none ↦ ((λ _. none.1), (λ some. absurd (both_ways (has_bytes k.text) none.0 some)))
-  | inr some ↦ ((λ none. absurd (both_ways (has_bytes k.text) none some.0)), (λ _. ends_at_empty_line some.1.body reply.text some.1.goes_on some.1.ends))
+  | inr some ↦ ((λ none. absurd (both_ways (has_bytes k.text) none some.0)), (λ _. ends_at_empty_line reply.text some.1))
 ]
 
 pub plain_answers : PlainAnswers

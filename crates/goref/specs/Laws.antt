@@ -1,5 +1,5 @@
 -- Laws of replies.
-use Rattle.std.specs.Prelude.{◌≡◌, ◌≤◌, ℕ, ◌⊎◌, true, false, List, [], ◌++◌, Option, codes}
+use Rattle.std.specs.Prelude.{◌≡◌, ◌≢◌, ◌≤◌, ℕ, ◌⊎◌, true, false, List, [], ◌++◌, Option, codes}
 use Rattle.std.specs.List.{All}
 use Rattle.go_game.specs.Standings.{Standing}
 use Rattle.goref_lines.specs.Kept.{Kept, has_bytes}
@@ -15,13 +15,15 @@ SomeReply = (s : Standing) (k : Kept) (content : Content) → (reply : Said) × 
 abbrev pub OneLoad : Type 0
 OneLoad = (bytes : List ℕ) (number : Option ℕ) (s : Standing) → Loads bytes number s → ((t : Standing) → Loads bytes number t → t ≡ s) × (LoadsNone bytes number → ⊥)
 
--- The text ends with two line ends, and nowhere before them does a line end follow another.
+-- The one empty line of the text is at its end: it begins with no line end and ends with two, and nowhere before these does a line
+-- end follow another.
 pub record EndsAtEmptyLine (text : List ℕ) : Type 0 where
+  pub begins : (rest : List ℕ) → text ≢ codes "\n" ++ rest
   pub body : List ℕ
   pub ends : text ≡ body ++ codes "\n\n"
   pub first : (front back : List ℕ) → text ≡ front ++ (codes "\n\n" ++ back) → back ≡ []
 
--- nothing is said to a line without words, and what is said to any other ends at its first empty line
+-- nothing is said to a line without words, and what is said to any other has one empty line, at its end
 abbrev pub AnswersEnd : Type 0
 AnswersEnd = (s : Standing) (k : Kept) (content : Content) (reply : Said) → Reply s k content reply →
     (has_bytes k.text ≡ false → reply.text ≡ []) × (has_bytes k.text ≡ true → EndsAtEmptyLine reply.text)
