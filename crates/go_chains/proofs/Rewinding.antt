@@ -1,11 +1,13 @@
 -- What putting changes back does, one stretch of changes after another and play by play.
-use Rattle.std.proofs.Common.{◌+◌, ◌++◌, ◌<◌, ◌∷◌, ◌≡◌, ◌≤◌, List, [], drop, length, slice_set, take, ℕ, refl, sym, ap, ◌∙◌, subst, arith, rules, append_assoc, length-append, suc, ◌-◌, get_or}
+use Rattle.std.proofs.Common.{◌+◌, ◌++◌, ◌<◌, ◌∷◌, ◌≡◌, ◌≤◌, List, [], drop, length, slice_index, slice_set, take, ℕ, refl, sym, ap, ◌∙◌, subst, arith, rules, append_assoc, length-append, suc, ◌-◌, get_or}
 use Rattle.std.proofs.Math.Seq.{drop-append_seam, take-append_seam}
 use Rattle.std.proofs.lemmas.List.{get_or-drop, take-append-drop, take_all, take-append-le, drop-append-le, length-drop, length-take-le, same_from_push}
-use Rattle.go_chains.specs.Rewound.{Logged, NamesCells, PlayLogged, Played, all_rewound, plays_of, rewound, total}
+use Rattle.go_chains.specs.Rewound.{Logged, NamesCells, PlayLogged, Played, all_rewound, plays_of, rewound, total, undone}
 use Rattle.std.proofs.lemmas.List.Elements.{All-append}
 use Rattle.go_chains.specs.declared.cells.TheConstants.{COUNT}
-use Rattle.go_chains.specs.declared.log.Change.{Change}
+use Rattle.go_chains.specs.declared.change.Change.{Change}
+use Rattle.go_chains.specs.Cells.{CellsValue}
+use Rattle.go_chains.specs.Sound.{BoardValue}
 
 -- of two lists of changes the second is put back first
 pub rewound-append : (cells : List ℕ) (xs ys : List Change) → rewound cells (xs ++ ys) ≡ rewound (rewound cells ys) xs
@@ -13,18 +15,19 @@ rewound-append cells [] ys = refl
 rewound-append cells (x ∷ xs) ys = ap (λ numbers. slice_set numbers x.place x.old) (rewound-append cells xs ys)
 
 -- one stretch of logged writes after another
-pub Logged_then : (a b c : List ℕ) (xs ys zs : List Change) (j k most : ℕ) → Logged a b xs ys j → Logged b c ys zs k → j + k ≤ most → Logged a c xs zs most
+pub Logged_then : (a b c : CellsValue) (xs ys zs : List Change) (j k most : ℕ) → Logged a b xs ys j → Logged b c ys zs k → j + k ≤ most → Logged a c xs zs most
 Logged_then a b c xs ys zs j k most first second within = record {
   added = first.added ++ second.added;
   grown = second.grown ∙ ap (λ l. l ++ second.added) first.grown ∙ append_assoc xs first.added second.added;
-  back = rewound-append c first.added second.added ∙ ap (λ cells. rewound cells first.added) second.back ∙ first.back;
+  traced = second.traced ∙ ap (λ l. l ++ second.added) first.traced ∙ append_assoc a.trace first.added second.added;
+  back = rewound-append c.numbers first.added second.added ∙ ap (λ cells. rewound cells first.added) second.back ∙ first.back;
   few = let f = first.few in let s = second.few in omega (arith, length-append first.added second.added);
   names = All-append (λ change. change.place < COUNT) first.added second.added first.names second.names;
 }
 
 -- no write
-pub Logged_none : (a : List ℕ) (xs : List Change) → Logged a a xs xs 0
-Logged_none a xs = record { added = []; grown = search rules; back = refl; few = omega arith; names = λ i d below. absurd (omega arith) }
+pub Logged_none : (a : CellsValue) (xs : List Change) → Logged a a xs xs 0
+Logged_none a xs = record { added = []; grown = search rules; traced = search rules; back = refl; few = omega arith; names = λ i d below. absurd (omega arith) }
 
 pub length-plays_of : (lengths : List ℕ) (changes : List Change) → length (plays_of lengths changes) ≡ length lengths
 length-plays_of [] changes = refl
@@ -62,7 +65,7 @@ last_play lengths count front tail earlier changes whole as_long split =
     same_from_push _ _ _ _ (sym e ∙ split)
 
 -- the log gains the stretch of changes as one play
-pub one_gained : (old new : List ℕ) (before after : List Change) (lengths lengths' : List ℕ) (log : List (List Change)) (most : ℕ)
+pub one_gained : (old new : CellsValue) (before after : List Change) (lengths lengths' : List ℕ) (log : List (List Change)) (most : ℕ)
     → total lengths ≡ length before → plays_of lengths before ≡ log → (logged : Logged old new before after most)
     → lengths' ≡ lengths ++ (length after - length before) ∷ [] → plays_of lengths' after ≡ log ++ logged.added ∷ []
 one_gained old new before after lengths lengths' log most whole is logged longer =
@@ -70,39 +73,44 @@ one_gained old new before after lengths lengths' log most whole is logged longer
     ap (λ l. plays_of l after) (longer ∙ ap (λ n. lengths ++ n ∷ []) size) ∙ ap (λ l. plays_of (lengths ++ length logged.added ∷ []) l) logged.grown
     ∙ plays_of-append lengths before logged.added whole ∙ ap (λ l. l ++ logged.added ∷ []) is
 
-pub play_gained : (old new : List ℕ) (before after : List Change) (lengths lengths' : List ℕ) (log : List (List Change)) (most : ℕ)
+-- what contracts see of a board of so many lines with these cells
+abbrev pub board_with : ℕ → CellsValue → BoardValue
+board_with n cells = record { lines = n; cells = cells.numbers; trace = cells.trace }
+
+pub play_gained : (n n' : ℕ) (old new : CellsValue) (before after : List Change) (lengths lengths' : List ℕ) (log : List (List Change)) (most : ℕ)
     → total lengths ≡ length before → plays_of lengths before ≡ log → Logged old new before after most
-    → lengths' ≡ lengths ++ (length after - length before) ∷ [] → PlayLogged old new log (plays_of lengths' after) most
-play_gained old new before after lengths lengths' log most whole is logged longer = record {
+    → lengths' ≡ lengths ++ (length after - length before) ∷ [] → PlayLogged (board_with n old) (board_with n' new) log (plays_of lengths' after) most
+play_gained n n' old new before after lengths lengths' log most whole is logged longer = record {
   changes = logged.added;
   gained = one_gained old new before after lengths lengths' log most whole is logged longer;
+  traced = logged.traced;
   back = logged.back;
   few = logged.few;
   names = logged.names;
 }
 
 -- the lengths still add up to the changes
-pub total_gained : (old new : List ℕ) (before after : List Change) (lengths lengths' : List ℕ) (most : ℕ)
+pub total_gained : (old new : CellsValue) (before after : List Change) (lengths lengths' : List ℕ) (most : ℕ)
     → total lengths ≡ length before → Logged old new before after most
     → lengths' ≡ lengths ++ (length after - length before) ∷ [] → total lengths' ≡ length after
 total_gained old new before after lengths lengths' most whole logged longer =
     omega (arith, ap total longer, total-append lengths ((length after - length before) ∷ []), ap length logged.grown, length-append before logged.added)
 
 -- what one push on the lengths makes of a log: it has one play more, of the changes since, and is whole
-pub record IsClosed (old new : List ℕ) (before after : List Change) (lengths : List ℕ) (log : List (List Change)) (most : ℕ) : Type 0 where
+pub record IsClosed (old new : BoardValue) (before after : List Change) (lengths : List ℕ) (log : List (List Change)) (most : ℕ) : Type 0 where
   pub logged : PlayLogged old new log (plays_of lengths after) most
   pub whole : total lengths ≡ length after
   pub size : (changes : List Change) → plays_of lengths after ≡ log ++ changes ∷ [] → length before + length changes ≡ length after
 
-pub closed : (old new : List ℕ) (before before' after : List Change) (lengths lengths' lengths'' : List ℕ) (log : List (List Change)) (most count : ℕ)
+pub closed : (n n' : ℕ) (old new : CellsValue) (before before' after : List Change) (lengths lengths' lengths'' : List ℕ) (log : List (List Change)) (most count : ℕ)
     → total lengths ≡ length before → plays_of lengths before ≡ log → before' ≡ before → lengths' ≡ lengths
-    → Logged old new before' after most → count ≡ length after - length before' → lengths'' ≡ lengths' ++ count ∷ [] → IsClosed old new before' after lengths'' log most
-closed old new before before' after lengths lengths' lengths'' log most count whole is same same_lengths logged counted longer =
+    → Logged old new before' after most → count ≡ length after - length before' → lengths'' ≡ lengths' ++ count ∷ [] → IsClosed (board_with n old) (board_with n' new) before' after lengths'' log most
+closed n n' old new before before' after lengths lengths' lengths'' log most count whole is same same_lengths logged counted longer =
     let from_start : Logged old new before after most = subst (λ (changes : List Change). Logged old new changes after most) same logged in
     let count_is : count ≡ length after - length before = omega (arith, ap length same) in
     let longer_is : lengths'' ≡ lengths ++ (length after - length before) ∷ [] = longer ∙ ap (λ l. l ++ count ∷ []) same_lengths ∙ ap (λ k. lengths ++ k ∷ []) count_is in
     record {
-      logged = play_gained old new before after lengths lengths'' log most whole is from_start longer_is;
+      logged = play_gained n n' old new before after lengths lengths'' log most whole is from_start longer_is;
       whole = total_gained old new before after lengths lengths'' most whole from_start longer_is;
       size = λ changes split.
           let gained = one_gained old new before after lengths lengths'' log most whole is from_start longer_is in
@@ -140,6 +148,16 @@ popped all left rest change k below is split =
       dropped = ap (λ i. drop i all) at ∙ ap (λ l. drop (length rest) l) whole ∙ drop-append_seam rest (change ∷ drop n all);
     }
 
+-- one change more put back
+pub traced_more : (start trace trace' : List Change) (cells numbers : List ℕ) (change : Change) (rest longer : List Change)
+    → trace ≡ start ++ undone cells rest → numbers ≡ rewound cells rest → longer ≡ change ∷ rest
+    → trace' ≡ trace ++ record { place = change.place; old = slice_index numbers change.place } ∷ [] → trace' ≡ start ++ undone cells longer
+traced_more start trace trace' cells numbers change rest longer so_far at more one =
+    let w : List Change = record { place = change.place; old = slice_index numbers change.place } ∷ [] in
+    one ∙ ap (λ l. l ++ w) so_far ∙ append_assoc start (undone cells rest) w
+    ∙ ap (λ n. start ++ (undone cells rest ++ record { place = change.place; old = slice_index n change.place } ∷ [])) at
+    ∙ ap (λ l. start ++ undone cells l) (sym more)
+
 -- a change that is among the last ones names a cell where each of those does
 pub popped_names : (bound : ℕ) (all rest : List Change) (change : Change) (k count : ℕ) → k < count → count ≤ length all → IsPopped all rest change k
     → NamesCells bound (drop (length all - count) all) → change.place < bound
@@ -173,5 +191,5 @@ is_last lengths all count changes log split whole is =
     }
 
 -- a looser bound
-pub Logged_within : (a b : List ℕ) (xs ys : List Change) (j most : ℕ) → Logged a b xs ys j → j ≤ most → Logged a b xs ys most
-Logged_within a b xs ys j most logged within = record { added = logged.added; grown = logged.grown; back = logged.back; few = let f = logged.few in omega arith; names = logged.names }
+pub Logged_within : (a b : CellsValue) (xs ys : List Change) (j most : ℕ) → Logged a b xs ys j → j ≤ most → Logged a b xs ys most
+Logged_within a b xs ys j most logged within = record { added = logged.added; grown = logged.grown; traced = logged.traced; back = logged.back; few = let f = logged.few in omega arith; names = logged.names }

@@ -3,6 +3,12 @@ use Rattle.std.specs.Prelude.{ℕ, List, ◌≡◌, ◌≢◌, ◌+◌, ◌*◌,
 use Rattle.std.specs.Int.{bit_at}
 use Rattle.go_chains.specs.declared.cells.TheConstants.{LABELS, LINKS, SIZES, LIBERTIES, WORDS}
 use Rattle.go_chains.specs.Tables.{Tables}
+use Rattle.go_chains.specs.declared.change.Change.{Change}
+
+-- what contracts see of cells: their numbers, and all writes to them
+pub record CellsValue : Type 0 where
+  pub numbers : List ℕ
+  pub trace : List Change
 
 -- how the cells are arranged: four numbers of each point, then the words of liberties of each label
 abbrev pub colour_of : List ℕ → ℕ → ℕ

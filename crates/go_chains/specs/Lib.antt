@@ -1,6 +1,7 @@
 pub mod Rings
 pub mod Tables
 pub mod Steps
+pub mod Traces
 pub mod Cells
 pub mod Writes
 pub mod Sound

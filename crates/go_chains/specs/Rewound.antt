@@ -1,7 +1,8 @@
 -- Changes of cells, put back from the last to the first, and lists of plays made of them.
-use Rattle.std.specs.Prelude.{ℕ, List, [], ◌∷◌, ◌++◌, ◌≡◌, ◌≤◌, ◌<◌, ◌+◌, length, slice_set, take, drop, All}
+use Rattle.std.specs.Prelude.{ℕ, List, [], ◌∷◌, ◌++◌, ◌≡◌, ◌≤◌, ◌<◌, ◌+◌, length, slice_index, slice_set, take, drop, All}
 use Rattle.go_chains.specs.declared.cells.TheConstants.{COUNT}
-use Rattle.go_chains.specs.declared.log.Change.{Change}
+use Rattle.go_chains.specs.declared.change.Change.{Change}
+use Rattle.go_chains.specs.Cells.{CellsValue}
 use Rattle.go_chains.specs.Sound.{BoardValue}
 
 -- the old values put back, from the last change to the first
@@ -9,15 +10,23 @@ abbrev pub rewound : List ℕ → List Change → List ℕ
 rewound cells [] = cells
 rewound cells (change ∷ changes) = slice_set (rewound cells changes) change.place change.old
 
+-- the writes that put the changes back, each with the number that it wrote over
+abbrev pub undone : List ℕ → List Change → List Change
+undone cells [] = []
+undone cells (change ∷ changes) = undone cells changes
+    ++ record { place = change.place; old = slice_index (rewound cells changes) change.place } ∷ []
+
 -- each change names a cell
 abbrev pub NamesCells : ℕ → List Change → Type 0
 NamesCells count changes = All (λ change. change.place < count) changes
 
--- the log gained changes, at most so many, that put back give the cells before
-pub record Logged (old new : List ℕ) (before after : List Change) (most : ℕ) : Type 0 where
+-- the log gained changes, at most so many, that put back give the cells before, and those are all
+-- writes to the cells
+pub record Logged (old new : CellsValue) (before after : List Change) (most : ℕ) : Type 0 where
   pub added : List Change
   pub grown : after ≡ before ++ added
-  pub back : rewound new added ≡ old
+  pub traced : new.trace ≡ old.trace ++ added
+  pub back : rewound new.numbers added ≡ old.numbers
   pub few : length added ≤ most
   pub names : NamesCells COUNT added
 
@@ -41,17 +50,21 @@ abbrev pub Played : List ℕ → List (List Change) → List ℕ → Type 0
 Played first [] last = first ≡ last
 Played first (changes ∷ plays) last = (cells : List ℕ) × (rewound cells changes ≡ first) × Played cells plays last
 
--- the log gained one play at its end, of at most so many changes, that put back give the cells before
-pub record PlayLogged (old new : List ℕ) (before after : List (List Change)) (most : ℕ) : Type 0 where
+-- the log gained one play at its end, of at most so many changes, that put back give the cells before, and
+-- those are all writes to the board's cells
+pub record PlayLogged (old new : BoardValue) (before after : List (List Change)) (most : ℕ) : Type 0 where
   pub changes : List Change
   pub gained : after ≡ before ++ changes ∷ []
-  pub back : rewound new changes ≡ old
+  pub traced : new.trace ≡ old.trace ++ changes
+  pub back : rewound new.cells changes ≡ old.cells
   pub few : length changes ≤ most
   pub names : NamesCells COUNT changes
 
--- the last play of a log is put back: the cells stand as before it, the log has lost it alone, and the meter counted its changes
-pub record IsPutBack (old new : List ℕ) (log earlier : List (List Change)) (changes : List Change) (before after : ℕ) : Type 0 where
-  pub cells : new ≡ rewound old changes
+-- the last play of a log is put back: the cells stand as before it, nothing else was written to them, the log has
+-- lost it alone, and the meter counted its changes
+pub record IsPutBack (old new : CellsValue) (log earlier : List (List Change)) (changes : List Change) (before after : ℕ) : Type 0 where
+  pub cells : new.numbers ≡ rewound old.numbers changes
+  pub traced : new.trace ≡ old.trace ++ undone old.numbers changes
   pub dropped : log ≡ earlier
   pub count : after ≡ before + length changes
 
@@ -59,5 +72,6 @@ pub record IsPutBack (old new : List ℕ) (log earlier : List (List Change)) (ch
 pub record IsRewound (old new : BoardValue) (log earlier : List (List Change)) (changes : List Change) (before after : ℕ) : Type 0 where
   pub lines : new.lines ≡ old.lines
   pub cells : new.cells ≡ rewound old.cells changes
+  pub traced : new.trace ≡ old.trace ++ undone old.cells changes
   pub dropped : log ≡ earlier
   pub count : after ≡ before + length changes

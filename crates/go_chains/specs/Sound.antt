@@ -7,12 +7,14 @@ use Rattle.go_board.specs.Colours.{Colouring, colour_at}
 use Rattle.go_board.specs.Paths.{IsAdjacent, Joined, Reaches}
 use Rattle.go_board.specs.Reaching.{points}
 use Rattle.go_chains.specs.Rings.{ring_from}
+use Rattle.go_chains.specs.declared.change.Change.{Change}
 use Rattle.go_chains.specs.Cells.{colour_of, label_of, next_of, size_of, lib_of}
 
--- what contracts see of a board: its lines, and its cells
+-- what contracts see of a board: its lines, its cells, and all writes to them
 pub record BoardValue : Type 0 where
   pub lines : ℕ
   pub cells : List ℕ
+  pub trace : List Change
 
 -- what the number in a colour cell stands for
 abbrev pub value_of : ℕ → Option Colour

@@ -10,7 +10,7 @@ ghost use Rattle.go_board.specs.Sizes.{lines_of};
 ghost use Rattle.go_board.specs.declared.pack.TheConstants.{PACK_BYTES};
 ghost use Rattle.go_board.specs.declared.size.TheConstants.{MAX_POINTS};
 ghost use Rattle.go_chains.specs.declared.cells.TheConstants.{COUNT, WORDS};
-ghost use Rattle.go_chains.specs.declared.log.Change.{Change};
+ghost use Rattle.go_chains.specs.declared.change.Change.{Change};
 ghost use Rattle.go_chains.specs.Cells.{colour_of, label_of};
 ghost use Rattle.go_chains.specs.Playing.{most_of};
 ghost use Rattle.go_chains.specs.Rewound.{IsRewound, NamesCells, PlayLogged, rewound};
@@ -42,9 +42,13 @@ impl Model for Board {
 
     ghost Value = { BoardValue };
 
-    ghost view = { λ b. record { lines = lines_of b.size; cells = b.cells } };
+    ghost view = { λ b. record {
+      lines = lines_of b.size;
+      cells = b.cells.numbers;
+      trace = b.cells.trace;
+    } };
 
-    ghost invariant = { λ b. IsKept (lines_of b.size) b.cells };
+    ghost invariant = { λ b. IsKept (lines_of b.size) b.cells.numbers };
 }
 
 impl Board {
@@ -53,6 +57,7 @@ impl Board {
         ensures lines { result.lines ≡ lines_of size }
         ensures colours { grid_of result ≡ replicate (lines_of size * lines_of size) None }
         ensures cells { result.cells ≡ replicate COUNT 0 }
+        ensures trace { result.trace ≡ [] }
         ensures kept { IsKept result.lines result.cells }
     {
         Board {
@@ -66,6 +71,8 @@ impl Board {
     pub fn clear(&mut self, size: Size)
         ensures lines { self.new.lines ≡ lines_of size }
         ensures colours { grid_of self.new ≡ replicate (lines_of size * lines_of size) None }
+        ensures writes { length self.new.trace
+            ≡ length self.old.trace + lines_of size * lines_of size }
         ensures kept { IsKept self.new.lines self.new.cells }
     {
         empty_points(&mut self.cells, usize::from(size.points()));
@@ -291,7 +298,7 @@ impl Board {
         ensures own { IfOk result (λ taken. taken.own ≡ vanished self.old.lines
             (slice_set (grid_of self.old) (number_of self.old.lines p) (Some colour))
             (grid_of self.new) colour) }
-        ensures logged { OnOk result (PlayLogged self.old.cells self.new.cells log.old log.new
+        ensures logged { OnOk result (PlayLogged self.old self.new log.old log.new
             (most_of self.old.lines (grid_of self.old) colour (number_of self.old.lines p))) }
         ensures count { meter.new ≤ meter.old
             + 3 * most_of self.old.lines (grid_of self.old) colour (number_of self.old.lines p) }
@@ -344,7 +351,8 @@ impl Board {
 /// Empties the first so many points.
 fn empty_points(cells: &mut Cells, points: usize)
     requires { points ≤ MAX_POINTS }
-    ensures { (p : ℕ) → p < points → colour_of cells.new p ≡ 0 }
+    ensures empty { (p : ℕ) → p < points → colour_of cells.new.numbers p ≡ 0 }
+    ensures writes { length cells.new.trace ≡ length cells.old.trace + points }
 {
     let mut meter = Meter::new();
     for number in 0..points {

@@ -12,7 +12,7 @@ ghost use Rattle.go_chains.specs.Tables.{IsDead, IsStone, IsTidy, IsWhole, Table
 
 use crate::cells::{Cells, LABELS, word_place, words_of};
 use crate::lift::take_off;
-use crate::log::Change;
+use crate::change::Change;
 use crate::masks::mask_of;
 use go_board::{Meter, Size};
 use std::alloc::Allocator;
@@ -28,9 +28,9 @@ fn has_liberty_in(
     requires points { points ≤ MAX_POINTS }
     requires label { label < MAX_POINTS }
     requires word { word < WORDS }
-    ensures some { IsTrue result → (q : ℕ) × (q < points) × (lib_of cells.now label q ≡ 1) }
+    ensures some { IsTrue result → (q : ℕ) × (q < points) × (lib_of cells.now.numbers label q ≡ 1) }
     ensures none { result ≡ false → (q : ℕ) → q < points → q / 64 ≡ word
-        → lib_of cells.now label q ≡ 1 → ⊥ }
+        → lib_of cells.now.numbers label q ≡ 1 → ⊥ }
     ensures count { meter.new ≡ meter.old + 1 }
 {
     cells.get(word_place(label, word), meter) & mask_of(points, word) != 0
@@ -41,7 +41,7 @@ fn has_liberty_in(
 pub fn is_dead(cells: &Cells, meter: &mut Meter, size: Size, label: usize, near: usize) -> bool
     requires label { label < MAX_POINTS }
     requires near { near < lines_of size * lines_of size }
-    ensures dead { IsTrue result ↔ IsDead (lines_of size * lines_of size) (tables_of cells.now)
+    ensures dead { IsTrue result ↔ IsDead (lines_of size * lines_of size) (tables_of cells.now.numbers)
         label }
     ensures count { meter.new ≤ meter.old + (WORDS + 1) }
     ensures onward { meter.old ≤ meter.new }
@@ -70,29 +70,29 @@ pub fn take_one<A: Allocator + Copy>(
     other: u64,
 ) -> usize
     requires tidy { IsTidy (lines_of size * lines_of size) (IsAdjacent (lines_of size))
-        (tables_of cells.old) }
+        (tables_of cells.old.numbers) }
     requires whole { IsWhole (lines_of size * lines_of size) (IsAdjacent (lines_of size))
-        (tables_of cells.old) }
+        (tables_of cells.old.numbers) }
     requires near { near < lines_of size * lines_of size }
     requires own { 0 < own }
     requires other { 0 < other }
     requires apart { own ≢ other }
-    requires two { (s : ℕ) → IsStone (lines_of size * lines_of size) (tables_of cells.old) s
-        → (colour_of cells.old s ≡ own) ⊎ (colour_of cells.old s ≡ other) }
+    requires two { (s : ℕ) → IsStone (lines_of size * lines_of size) (tables_of cells.old.numbers) s
+        → (colour_of cells.old.numbers s ≡ own) ⊎ (colour_of cells.old.numbers s ≡ other) }
     requires room { vec_len changes.old + 5 * MAX_POINTS ≤ vec_capacity changes.old }
     ensures capturing { (t : Tables)
         → IsTidy (lines_of size * lines_of size) (IsAdjacent (lines_of size)) t
         → IsCapturing (lines_of size * lines_of size) (IsAdjacent (lines_of size)) t
-        (tables_of cells.old) own
+        (tables_of cells.old.numbers) own
         → IsCapturing (lines_of size * lines_of size) (IsAdjacent (lines_of size)) t
-        (tables_of cells.new) own }
-    ensures gone { colour_of cells.old near ≡ own
-        → IsDead (lines_of size * lines_of size) (tables_of cells.old) (label_of cells.old near)
-        → colour_of cells.new near ≡ 0 }
-    ensures stones { CountsTaken (lines_of size * lines_of size) (tables_of cells.old)
-        (tables_of cells.new) own result }
+        (tables_of cells.new.numbers) own }
+    ensures gone { colour_of cells.old.numbers near ≡ own
+        → IsDead (lines_of size * lines_of size) (tables_of cells.old.numbers) (label_of cells.old.numbers near)
+        → colour_of cells.new.numbers near ≡ 0 }
+    ensures stones { CountsTaken (lines_of size * lines_of size) (tables_of cells.old.numbers)
+        (tables_of cells.new.numbers) own result }
     ensures few { result ≤ MAX_POINTS }
-    ensures bound { result ≤ size_of cells.old (label_of cells.old near) }
+    ensures bound { result ≤ size_of cells.old.numbers (label_of cells.old.numbers near) }
     ensures logged { Logged cells.old cells.new changes.old.items changes.new.items (5 * result) }
     ensures capacity { vec_capacity changes.old ≤ vec_capacity changes.new }
     ensures length { vec_len changes.new ≤ vec_len changes.old + 5 * MAX_POINTS }
@@ -121,27 +121,27 @@ pub fn capture<A: Allocator + Copy>(
     other: u64,
 ) -> usize
     requires tidy { IsTidy (lines_of size * lines_of size) (IsAdjacent (lines_of size))
-        (tables_of cells.old) }
+        (tables_of cells.old.numbers) }
     requires whole { IsWhole (lines_of size * lines_of size) (IsAdjacent (lines_of size))
-        (tables_of cells.old) }
+        (tables_of cells.old.numbers) }
     requires few { length beside.now ≤ 4 }
     requires on { (i : ℕ) → i < length beside.now
         → slice_index beside.now i < lines_of size * lines_of size }
     requires own { 0 < own }
     requires other { 0 < other }
     requires apart { own ≢ other }
-    requires two { (s : ℕ) → IsStone (lines_of size * lines_of size) (tables_of cells.old) s
-        → (colour_of cells.old s ≡ own) ⊎ (colour_of cells.old s ≡ other) }
+    requires two { (s : ℕ) → IsStone (lines_of size * lines_of size) (tables_of cells.old.numbers) s
+        → (colour_of cells.old.numbers s ≡ own) ⊎ (colour_of cells.old.numbers s ≡ other) }
     requires room { vec_len changes.old + 20 * MAX_POINTS ≤ vec_capacity changes.old }
     ensures capturing { IsCapturing (lines_of size * lines_of size) (IsAdjacent (lines_of size))
-        (tables_of cells.old) (tables_of cells.new) own }
+        (tables_of cells.old.numbers) (tables_of cells.new.numbers) own }
     ensures gone { (i : ℕ) → i < length beside.now
-        → colour_of cells.old (slice_index beside.now i) ≡ own
-        → IsDead (lines_of size * lines_of size) (tables_of cells.old)
-        (label_of cells.old (slice_index beside.now i))
-        → colour_of cells.new (slice_index beside.now i) ≡ 0 }
-    ensures stones { CountsTaken (lines_of size * lines_of size) (tables_of cells.old)
-        (tables_of cells.new) own result }
+        → colour_of cells.old.numbers (slice_index beside.now i) ≡ own
+        → IsDead (lines_of size * lines_of size) (tables_of cells.old.numbers)
+        (label_of cells.old.numbers (slice_index beside.now i))
+        → colour_of cells.new.numbers (slice_index beside.now i) ≡ 0 }
+    ensures stones { CountsTaken (lines_of size * lines_of size) (tables_of cells.old.numbers)
+        (tables_of cells.new.numbers) own result }
     ensures few { result ≤ 4 * MAX_POINTS }
     ensures logged { Logged cells.old cells.new changes.old.items changes.new.items (5 * result) }
     ensures capacity { vec_capacity changes.old ≤ vec_capacity changes.new }

@@ -1,9 +1,11 @@
-ghost use Rattle.std.specs.Prelude.{◌≡◌, ◌<◌, ◌≤◌, ◌+◌, ◌*◌, slice_index, slice_set};
+ghost use Rattle.std.specs.Prelude.{◌≡◌, ◌<◌, ◌≤◌, ◌+◌, ◌*◌, ◌++◌, ◌∷◌, [], slice_index, slice_set};
 ghost use Rattle.go_board.specs.Sizes.{lines_of};
 ghost use Rattle.go_board.specs.declared.size.TheConstants.{MAX_POINTS};
 ghost use Rattle.go_chains.specs.declared.cells.TheConstants.{COUNT, LIBERTIES, WORDS};
 ghost use Rattle.go_chains.specs.Cells.{words_for};
 
+use crate::change::Change;
+use crate::trace::Trace;
 use go_board::{MAX_POINTS, Meter, Size};
 use std::marker::Model;
 
@@ -26,19 +28,22 @@ pub const LIBERTIES: usize = SIZES + MAX_POINTS;
 pub const COUNT: usize = LIBERTIES + WORDS * MAX_POINTS;
 
 /// The cells of a board: the colour, the label and the ring link of each point, and the size and
-/// the words of liberties of each label. Nothing else reads or writes them.
+/// the words of liberties of each label. Nothing else reads or writes them, and each write is in their
+/// trace.
 #[derive(Drop)]
 pub struct Cells {
     numbers: [u64; COUNT],
+    trace: Trace,
 }
 
 impl Model for Cells {
-    ghost use Rattle.std.specs.Prelude.{◌≡◌, List, ℕ, length};
+    ghost use Rattle.std.specs.Prelude.{◌≡◌, length};
+    ghost use Rattle.go_chains.specs.Cells.{CellsValue};
     ghost use Rattle.go_chains.specs.declared.cells.TheConstants.{COUNT};
 
-    ghost Value = { List ℕ };
+    ghost Value = { CellsValue };
 
-    ghost view = { λ c. c.numbers };
+    ghost view = { λ c. record { numbers = c.numbers; trace = c.trace } };
 
     ghost invariant = { λ c. length c.numbers ≡ COUNT };
 }
@@ -49,17 +54,19 @@ impl Cells {
 
     /// Cells that are all 0.
     pub fn new() -> Cells
-        ensures { result ≡ replicate COUNT 0 }
+        ensures numbers { result.numbers ≡ replicate COUNT 0 }
+        ensures trace { result.trace ≡ [] }
     {
         Cells {
             numbers: [0; COUNT],
+            trace: Trace::new(),
         }
     }
 
     /// The number in a cell.
     pub fn get(&self, place: usize, meter: &mut Meter) -> u64
         requires { place < COUNT }
-        ensures value { result ≡ slice_index self.now place }
+        ensures value { result ≡ slice_index self.now.numbers place }
         ensures count { meter.new ≡ meter.old + 1 }
     {
         meter.tick();
@@ -69,11 +76,15 @@ impl Cells {
     /// Writes a number into a cell.
     pub fn set(&mut self, place: usize, number: u64, meter: &mut Meter)
         requires { place < COUNT }
-        ensures value { self.new ≡ slice_set self.old place number }
-        ensures written { IsWritten self.old self.new place number }
+        ensures value { self.new.numbers ≡ slice_set self.old.numbers place number }
+        ensures written { IsWritten self.old.numbers self.new.numbers place number }
+        ensures traced { self.new.trace ≡ self.old.trace
+            ++ record { place = place; old = slice_index self.old.numbers place } ∷ [] }
         ensures count { meter.new ≡ meter.old + 1 }
     {
         meter.tick();
+        let old = self.numbers[place];
+        self.trace.add(Change { place, old });
         self.numbers[place] = number;
     }
 }

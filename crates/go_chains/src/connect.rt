@@ -12,7 +12,7 @@ ghost use Rattle.go_chains.specs.Tables.{IsStone, IsTidy};
 
 use crate::cells::{Cells, LABELS, SIZES};
 use crate::join::join;
-use crate::log::Change;
+use crate::change::Change;
 use go_board::{Meter, Size};
 use std::alloc::Allocator;
 
@@ -27,22 +27,22 @@ fn connect_one<A: Allocator + Copy>(
     near: usize,
 )
     requires tidy { IsTidy (lines_of size * lines_of size) (IsAdjacent (lines_of size))
-        (tables_of cells.old) }
-    requires stone { IsStone (lines_of size * lines_of size) (tables_of cells.old) point }
+        (tables_of cells.old.numbers) }
+    requires stone { IsStone (lines_of size * lines_of size) (tables_of cells.old.numbers) point }
     requires beside { IsAdjacent (lines_of size) point near }
     requires room { vec_len changes.old + (MAX_POINTS + WORDS + 3) ≤ vec_capacity changes.old }
     ensures tidy { IsTidy (lines_of size * lines_of size) (IsAdjacent (lines_of size))
-        (tables_of cells.new) }
-    ensures connected { IsConnected (lines_of size * lines_of size) (tables_of cells.old)
-        (tables_of cells.new) point near }
+        (tables_of cells.new.numbers) }
+    ensures connected { IsConnected (lines_of size * lines_of size) (tables_of cells.old.numbers)
+        (tables_of cells.new.numbers) point near }
     ensures logged { Logged cells.old cells.new changes.old.items changes.new.items
-        (size_of cells.new (label_of cells.new point) - size_of cells.old (label_of cells.old point)
+        (size_of cells.new.numbers (label_of cells.new.numbers point) - size_of cells.old.numbers (label_of cells.old.numbers point)
         + WORDS + 3) }
     ensures capacity { vec_capacity changes.old ≤ vec_capacity changes.new }
     ensures length { vec_len changes.new ≤ vec_len changes.old + (MAX_POINTS + WORDS + 3) }
     ensures count { meter.new ≤ meter.old
-        + (3 * (size_of cells.new (label_of cells.new point)
-        - size_of cells.old (label_of cells.old point)) + 3 * WORDS + 15) }
+        + (3 * (size_of cells.new.numbers (label_of cells.new.numbers point)
+        - size_of cells.old.numbers (label_of cells.old.numbers point)) + 3 * WORDS + 15) }
     ensures ticked { meter.old + vec_len changes.new ≤ meter.new + vec_len changes.old }
 {
     if cells.get(near, meter) != cells.get(point, meter) {
@@ -70,22 +70,22 @@ pub fn connect<A: Allocator + Copy>(
     beside: &[usize],
 )
     requires tidy { IsTidy (lines_of size * lines_of size) (IsAdjacent (lines_of size))
-        (tables_of cells.old) }
-    requires stone { IsStone (lines_of size * lines_of size) (tables_of cells.old) point }
+        (tables_of cells.old.numbers) }
+    requires stone { IsStone (lines_of size * lines_of size) (tables_of cells.old.numbers) point }
     requires beside { AreBeside (lines_of size) point beside.now }
     requires room { vec_len changes.old + 4 * (MAX_POINTS + WORDS + 3) ≤ vec_capacity changes.old }
     ensures tidy { IsTidy (lines_of size * lines_of size) (IsAdjacent (lines_of size))
-        (tables_of cells.new) }
-    ensures connected { IsConnectedTo (lines_of size * lines_of size) (tables_of cells.old)
-        (tables_of cells.new) point beside.now (length beside.now) }
+        (tables_of cells.new.numbers) }
+    ensures connected { IsConnectedTo (lines_of size * lines_of size) (tables_of cells.old.numbers)
+        (tables_of cells.new.numbers) point beside.now (length beside.now) }
     ensures logged { Logged cells.old cells.new changes.old.items changes.new.items
-        (size_of cells.new (label_of cells.new point) - size_of cells.old (label_of cells.old point)
+        (size_of cells.new.numbers (label_of cells.new.numbers point) - size_of cells.old.numbers (label_of cells.old.numbers point)
         + 4 * (WORDS + 3)) }
     ensures capacity { vec_capacity changes.old ≤ vec_capacity changes.new }
     ensures length { vec_len changes.new ≤ vec_len changes.old + 4 * (MAX_POINTS + WORDS + 3) }
     ensures count { meter.new ≤ meter.old
-        + (3 * (size_of cells.new (label_of cells.new point)
-        - size_of cells.old (label_of cells.old point)) + 4 * (3 * WORDS + 15)) }
+        + (3 * (size_of cells.new.numbers (label_of cells.new.numbers point)
+        - size_of cells.old.numbers (label_of cells.old.numbers point)) + 4 * (3 * WORDS + 15)) }
     ensures ticked { meter.old + vec_len changes.new ≤ meter.new + vec_len changes.old }
 {
     for near in beside {

@@ -5,7 +5,7 @@ ghost use Rattle.go_chains.specs.Cells.{IsWritten};
 ghost use Rattle.go_chains.specs.Rewound.{Logged};
 
 use crate::cells::Cells;
-use crate::log::Change;
+use crate::change::Change;
 use go_board::Meter;
 use std::alloc::Allocator;
 
@@ -19,9 +19,9 @@ pub(crate) fn replace<A: Allocator + Copy>(
     number: u64,
 )
     requires place { place < COUNT }
-    requires old { old ≡ slice_index cells.old place }
+    requires old { old ≡ slice_index cells.old.numbers place }
     requires room { vec_len changes.old < vec_capacity changes.old }
-    ensures written { IsWritten cells.old cells.new place number }
+    ensures written { IsWritten cells.old.numbers cells.new.numbers place number }
     ensures logged { Logged cells.old cells.new changes.old.items changes.new.items 1 }
     ensures capacity { vec_capacity changes.old ≤ vec_capacity changes.new }
     ensures length { vec_len changes.new ≤ vec_len changes.old + 1 }
@@ -47,7 +47,7 @@ pub(crate) fn put<A: Allocator + Copy>(
 )
     requires place { place < COUNT }
     requires room { vec_len changes.old < vec_capacity changes.old }
-    ensures written { IsWritten cells.old cells.new place number }
+    ensures written { IsWritten cells.old.numbers cells.new.numbers place number }
     ensures logged { Logged cells.old cells.new changes.old.items changes.new.items 1 }
     ensures capacity { vec_capacity changes.old ≤ vec_capacity changes.new }
     ensures length { vec_len changes.new ≤ vec_len changes.old + 1 }

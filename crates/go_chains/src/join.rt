@@ -13,7 +13,7 @@ ghost use Rattle.go_chains.specs.Writes.{IsMerged, IsRelabelled};
 
 use crate::cells::{Cells, LABELS, LINKS, SIZES, word_place, words_of};
 use crate::edits::{put, replace};
-use crate::log::Change;
+use crate::change::Change;
 use go_board::{Meter, Size};
 use std::alloc::Allocator;
 
@@ -26,9 +26,9 @@ fn relabel<A: Allocator + Copy>(
     stones: usize,
     to: usize,
 )
-    requires on { (i : ℕ) → i < stones → steps (next_of cells.old) i from < MAX_POINTS }
+    requires on { (i : ℕ) → i < stones → steps (next_of cells.old.numbers) i from < MAX_POINTS }
     requires room { vec_len changes.old + stones ≤ vec_capacity changes.old }
-    ensures relabelled { IsRelabelled (next_of cells.old) cells.old cells.new from stones to }
+    ensures relabelled { IsRelabelled (next_of cells.old.numbers) cells.old.numbers cells.new.numbers from stones to }
     ensures logged { Logged cells.old cells.new changes.old.items changes.new.items stones }
     ensures capacity { vec_capacity changes.old ≤ vec_capacity changes.new }
     ensures length { vec_len changes.new ≤ vec_len changes.old + stones }
@@ -55,7 +55,7 @@ fn merge_words<A: Allocator + Copy>(
     requires gone { gone < MAX_POINTS }
     requires apart { keep ≢ gone }
     requires room { vec_len changes.old + WORDS ≤ vec_capacity changes.old }
-    ensures merged { IsMerged cells.old cells.new keep gone
+    ensures merged { IsMerged cells.old.numbers cells.new.numbers keep gone
         (words_for (lines_of size * lines_of size)) }
     ensures logged { Logged cells.old cells.new changes.old.items changes.new.items WORDS }
     ensures capacity { vec_capacity changes.old ≤ vec_capacity changes.new }
@@ -81,22 +81,22 @@ pub fn join<A: Allocator + Copy>(
     second: usize,
 )
     requires tidy { IsTidy (lines_of size * lines_of size) (IsAdjacent (lines_of size))
-        (tables_of cells.old) }
-    requires first { IsStone (lines_of size * lines_of size) (tables_of cells.old) first }
-    requires second { IsStone (lines_of size * lines_of size) (tables_of cells.old) second }
-    requires same { colour_of cells.old first ≡ colour_of cells.old second }
-    requires apart { label_of cells.old first ≢ label_of cells.old second }
+        (tables_of cells.old.numbers) }
+    requires first { IsStone (lines_of size * lines_of size) (tables_of cells.old.numbers) first }
+    requires second { IsStone (lines_of size * lines_of size) (tables_of cells.old.numbers) second }
+    requires same { colour_of cells.old.numbers first ≡ colour_of cells.old.numbers second }
+    requires apart { label_of cells.old.numbers first ≢ label_of cells.old.numbers second }
     requires room { vec_len changes.old
-        + (size_of cells.old (label_of cells.old second) + WORDS + 3) ≤ vec_capacity changes.old }
-    ensures joined { IsJoin (lines_of size * lines_of size) (tables_of cells.old)
-        (tables_of cells.new) first second }
+        + (size_of cells.old.numbers (label_of cells.old.numbers second) + WORDS + 3) ≤ vec_capacity changes.old }
+    ensures joined { IsJoin (lines_of size * lines_of size) (tables_of cells.old.numbers)
+        (tables_of cells.new.numbers) first second }
     ensures logged { Logged cells.old cells.new changes.old.items changes.new.items
-        (size_of cells.old (label_of cells.old second) + WORDS + 3) }
+        (size_of cells.old.numbers (label_of cells.old.numbers second) + WORDS + 3) }
     ensures capacity { vec_capacity changes.old ≤ vec_capacity changes.new }
     ensures length { vec_len changes.new
-        ≤ vec_len changes.old + (size_of cells.old (label_of cells.old second) + WORDS + 3) }
+        ≤ vec_len changes.old + (size_of cells.old.numbers (label_of cells.old.numbers second) + WORDS + 3) }
     ensures count { meter.new
-        ≤ meter.old + (3 * size_of cells.old (label_of cells.old second) + 3 * WORDS + 9) }
+        ≤ meter.old + (3 * size_of cells.old.numbers (label_of cells.old.numbers second) + 3 * WORDS + 9) }
     ensures ticked { meter.old + vec_len changes.new ≤ meter.new + vec_len changes.old }
 {
     let keep = cells.get(LABELS + first, meter) as usize;

@@ -1,7 +1,7 @@
 //! What the words of this crate's contracts mean: laws about definitions, each the contract of a
 //! function that does nothing.
 ghost use Rattle.std.specs.Prelude.{◌≡◌, List, ℕ};
-ghost use Rattle.go_chains.specs.declared.log.Change.{Change};
+ghost use Rattle.go_chains.specs.declared.change.Change.{Change};
 ghost use Rattle.go_chains.specs.Rewound.{Played, all_rewound};
 
 /// Whatever was played, putting all plays back from the last to the first gives the first cells.

@@ -6,6 +6,7 @@ mod beside;
 mod board;
 mod capture;
 mod cells;
+mod change;
 mod codes;
 mod connect;
 mod edits;
@@ -17,10 +18,12 @@ mod log;
 mod masks;
 mod occupy;
 mod place;
+mod trace;
 #[cfg(test)]
 mod tests;
 
 pub use board::Board;
 pub use cells::COUNT;
+pub use change::Change;
 pub use errors::PlaceError;
-pub use log::{Change, Log};
+pub use log::Log;

@@ -12,7 +12,7 @@ ghost use Rattle.go_chains.specs.Writes.{IsGiven, IsGivenBeside, IsLifted};
 use crate::beside::beside;
 use crate::cells::{Cells, LABELS, LINKS, SIZES, word_place};
 use crate::edits::replace;
-use crate::log::Change;
+use crate::change::Change;
 use go_board::{Meter, Point, Size};
 use std::alloc::Allocator;
 
@@ -27,7 +27,7 @@ fn set_liberty<A: Allocator + Copy>(
     requires label { label < MAX_POINTS }
     requires point { point < MAX_POINTS }
     requires room { vec_len changes.old < vec_capacity changes.old }
-    ensures given { IsGiven cells.old cells.new point (λ l. l ≡ label) }
+    ensures given { IsGiven cells.old.numbers cells.new.numbers point (λ l. l ≡ label) }
     ensures logged { Logged cells.old cells.new changes.old.items changes.new.items 1 }
     ensures capacity { vec_capacity changes.old ≤ vec_capacity changes.new }
     ensures length { vec_len changes.new ≤ vec_len changes.old + 1 }
@@ -50,10 +50,10 @@ fn give_one<A: Allocator + Copy>(
 )
     requires near { near < MAX_POINTS }
     requires point { point < MAX_POINTS }
-    requires label { colour_of cells.old near ≡ colour → label_of cells.old near < MAX_POINTS }
+    requires label { colour_of cells.old.numbers near ≡ colour → label_of cells.old.numbers near < MAX_POINTS }
     requires room { vec_len changes.old < vec_capacity changes.old }
-    ensures given { IsGiven cells.old cells.new point
-        (λ l. (colour_of cells.old near ≡ colour) × (label_of cells.old near ≡ l)) }
+    ensures given { IsGiven cells.old.numbers cells.new.numbers point
+        (λ l. (colour_of cells.old.numbers near ≡ colour) × (label_of cells.old.numbers near ≡ l)) }
     ensures logged { Logged cells.old cells.new changes.old.items changes.new.items 1 }
     ensures capacity { vec_capacity changes.old ≤ vec_capacity changes.new }
     ensures length { vec_len changes.new ≤ vec_len changes.old + 1 }
@@ -79,11 +79,11 @@ fn give_back<A: Allocator + Copy>(
     requires few { length beside.now ≤ 4 }
     requires on { All (λ near. near < MAX_POINTS) beside.now }
     requires point { point < MAX_POINTS }
-    requires labels { All (λ near. colour_of cells.old near ≡ colour
-        → label_of cells.old near < MAX_POINTS) beside.now }
+    requires labels { All (λ near. colour_of cells.old.numbers near ≡ colour
+        → label_of cells.old.numbers near < MAX_POINTS) beside.now }
     requires room { vec_len changes.old + 4 ≤ vec_capacity changes.old }
-    ensures given { IsGiven cells.old cells.new point
-        (IsGivenBeside cells.old beside.now colour (length beside.now)) }
+    ensures given { IsGiven cells.old.numbers cells.new.numbers point
+        (IsGivenBeside cells.old.numbers beside.now colour (length beside.now)) }
     ensures logged { Logged cells.old cells.new changes.old.items changes.new.items 4 }
     ensures capacity { vec_capacity changes.old ≤ vec_capacity changes.new }
     ensures length { vec_len changes.new ≤ vec_len changes.old + 4 }
@@ -106,11 +106,11 @@ fn lift<A: Allocator + Copy>(
     other: u64,
 )
     requires point { point < lines_of size * lines_of size }
-    requires own { colour_of cells.old point ≡ own }
-    requires labels { (s : ℕ) → s < lines_of size * lines_of size → colour_of cells.old s ≡ other
-        → label_of cells.old s < MAX_POINTS }
+    requires own { colour_of cells.old.numbers point ≡ own }
+    requires labels { (s : ℕ) → s < lines_of size * lines_of size → colour_of cells.old.numbers s ≡ other
+        → label_of cells.old.numbers s < MAX_POINTS }
     requires room { vec_len changes.old + 5 ≤ vec_capacity changes.old }
-    ensures lifted { IsLifted (lines_of size) cells.old cells.new point other }
+    ensures lifted { IsLifted (lines_of size) cells.old.numbers cells.new.numbers point other }
     ensures logged { Logged cells.old cells.new changes.old.items changes.new.items 5 }
     ensures capacity { vec_capacity changes.old ≤ vec_capacity changes.new }
     ensures length { vec_len changes.new ≤ vec_len changes.old + 5 }
@@ -133,19 +133,19 @@ pub fn take_off<A: Allocator + Copy>(
     other: u64,
 ) -> usize
     requires tidy { IsTidy (lines_of size * lines_of size) (IsAdjacent (lines_of size))
-        (tables_of cells.old) }
+        (tables_of cells.old.numbers) }
     requires whole { IsWhole (lines_of size * lines_of size) (IsAdjacent (lines_of size))
-        (tables_of cells.old) }
-    requires stone { IsStone (lines_of size * lines_of size) (tables_of cells.old) stone }
-    requires own { colour_of cells.old stone ≡ own }
+        (tables_of cells.old.numbers) }
+    requires stone { IsStone (lines_of size * lines_of size) (tables_of cells.old.numbers) stone }
+    requires own { colour_of cells.old.numbers stone ≡ own }
     requires other { 0 < other }
     requires apart { own ≢ other }
-    requires two { (s : ℕ) → IsStone (lines_of size * lines_of size) (tables_of cells.old) s
-        → (colour_of cells.old s ≡ own) ⊎ (colour_of cells.old s ≡ other) }
+    requires two { (s : ℕ) → IsStone (lines_of size * lines_of size) (tables_of cells.old.numbers) s
+        → (colour_of cells.old.numbers s ≡ own) ⊎ (colour_of cells.old.numbers s ≡ other) }
     requires room { vec_len changes.old + 5 * MAX_POINTS ≤ vec_capacity changes.old }
     ensures removed { IsRemoved (lines_of size * lines_of size) (IsAdjacent (lines_of size))
-        (tables_of cells.old) (tables_of cells.new) stone }
-    ensures stones { result ≡ size_of cells.old (label_of cells.old stone) }
+        (tables_of cells.old.numbers) (tables_of cells.new.numbers) stone }
+    ensures stones { result ≡ size_of cells.old.numbers (label_of cells.old.numbers stone) }
     ensures logged { Logged cells.old cells.new changes.old.items changes.new.items (5 * result) }
     ensures capacity { vec_capacity changes.old ≤ vec_capacity changes.new }
     ensures length { vec_len changes.new ≤ vec_len changes.old + 5 * MAX_POINTS }

@@ -1,18 +1,12 @@
 ghost use Rattle.std.specs.Prelude.{◌≡◌, ◌<◌, ◌≤◌, ◌+◌, ◌-◌, ◌++◌, ◌∷◌, [], List, ℕ, OnOk, length, drop, take, vec_capacity, vec_len};
 ghost use Rattle.go_chains.specs.declared.cells.TheConstants.{COUNT};
-ghost use Rattle.go_chains.specs.Rewound.{IsPutBack, NamesCells, rewound};
+ghost use Rattle.go_chains.specs.Rewound.{IsPutBack, NamesCells, rewound, undone};
 
 use crate::cells::Cells;
+use crate::change::Change;
 use go_board::Meter;
 use std::alloc::{AllocError, Allocator};
 use std::marker::Model;
-
-/// A write to a cell, by the cell and the number that stood there before.
-#[derive(Clone, Copy)]
-pub struct Change {
-    pub place: usize,
-    pub old: u64,
-}
 
 /// The changes that plays made, so that they can be put back. It takes memory as it grows, from the
 /// allocator that it was made with.
@@ -24,7 +18,7 @@ pub struct Log<A: Allocator + Copy> {
 
 impl<A: Allocator + Copy> Model for Log<A> {
     ghost use Rattle.std.specs.Prelude.{◌≡◌, List, length};
-    ghost use Rattle.go_chains.specs.declared.log.Change.{Change};
+    ghost use Rattle.go_chains.specs.declared.change.Change.{Change};
     ghost use Rattle.go_chains.specs.Rewound.{plays_of, total};
 
     ghost Value = { List (List Change) };
@@ -35,7 +29,7 @@ impl<A: Allocator + Copy> Model for Log<A> {
 }
 
 impl<A: Allocator + Copy> Log<A> {
-    ghost use Rattle.go_chains.specs.declared.log.Change.{Change};
+    ghost use Rattle.go_chains.specs.declared.change.Change.{Change};
 
     /// A log of no play.
     pub fn new(alloc: A) -> Log<A>
@@ -78,8 +72,10 @@ fn put_back_changes<A: Allocator + Copy>(
 )
     requires enough { count ≤ length changes.old.items }
     requires names { NamesCells COUNT (drop (length changes.old.items - count) changes.old.items) }
-    ensures cells { cells.new
-        ≡ rewound cells.old (drop (length changes.old.items - count) changes.old.items) }
+    ensures cells { cells.new.numbers
+        ≡ rewound cells.old.numbers (drop (length changes.old.items - count) changes.old.items) }
+    ensures traced { cells.new.trace ≡ cells.old.trace
+        ++ undone cells.old.numbers (drop (length changes.old.items - count) changes.old.items) }
     ensures changes { changes.new.items
         ≡ take (length changes.old.items - count) changes.old.items }
     ensures count { meter.new ≡ meter.old + count }

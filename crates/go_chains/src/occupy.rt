@@ -13,7 +13,7 @@ ghost use Rattle.go_chains.specs.Writes.{IsDeprived, IsFilled, IsMarked, IsStone
 
 use crate::cells::{Cells, LABELS, LINKS, SIZES, WORDS, word_place, words_of};
 use crate::edits::{put, replace};
-use crate::log::Change;
+use crate::change::Change;
 use go_board::{MAX_POINTS, Meter, Size};
 use std::alloc::Allocator;
 
@@ -24,7 +24,7 @@ type Words = [u64; WORDS];
 fn mark_empty(cells: &Cells, meter: &mut Meter, near: usize, words: &mut Words)
     requires near { near < MAX_POINTS }
     requires words { length words.old ≡ WORDS }
-    ensures marked { IsMarked cells.now words.old words.new near }
+    ensures marked { IsMarked cells.now.numbers words.old words.new near }
     ensures words { length words.new ≡ WORDS }
     ensures count { meter.new ≡ meter.old + 1 }
 {
@@ -37,7 +37,7 @@ fn mark_empty(cells: &Cells, meter: &mut Meter, near: usize, words: &mut Words)
 fn empty_of(cells: &Cells, meter: &mut Meter, beside: &[usize]) -> Words
     requires few { length beside.now ≤ 4 }
     requires on { All (λ near. near < MAX_POINTS) beside.now }
-    ensures marks { MarksEmpty cells.now result beside.now (length beside.now) }
+    ensures marks { MarksEmpty cells.now.numbers result beside.now (length beside.now) }
     ensures words { length result ≡ WORDS }
     ensures count { meter.new ≡ meter.old + length beside.now }
 {
@@ -59,7 +59,7 @@ fn clear_liberty<A: Allocator + Copy>(
     requires label { label < MAX_POINTS }
     requires point { point < MAX_POINTS }
     requires room { vec_len changes.old < vec_capacity changes.old }
-    ensures deprived { IsDeprived cells.old cells.new point (λ l. l ≡ label) }
+    ensures deprived { IsDeprived cells.old.numbers cells.new.numbers point (λ l. l ≡ label) }
     ensures logged { Logged cells.old cells.new changes.old.items changes.new.items 1 }
     ensures capacity { vec_capacity changes.old ≤ vec_capacity changes.new }
     ensures length { vec_len changes.new ≤ vec_len changes.old + 1 }
@@ -88,10 +88,10 @@ fn deprive_one<A: Allocator + Copy>(
 )
     requires near { near < MAX_POINTS }
     requires point { point < MAX_POINTS }
-    requires label { 0 < colour_of cells.old near → label_of cells.old near < MAX_POINTS }
+    requires label { 0 < colour_of cells.old.numbers near → label_of cells.old.numbers near < MAX_POINTS }
     requires room { vec_len changes.old < vec_capacity changes.old }
-    ensures deprived { IsDeprived cells.old cells.new point
-        (λ l. (0 < colour_of cells.old near) × (label_of cells.old near ≡ l)) }
+    ensures deprived { IsDeprived cells.old.numbers cells.new.numbers point
+        (λ l. (0 < colour_of cells.old.numbers near) × (label_of cells.old.numbers near ≡ l)) }
     ensures logged { Logged cells.old cells.new changes.old.items changes.new.items 1 }
     ensures capacity { vec_capacity changes.old ≤ vec_capacity changes.new }
     ensures length { vec_len changes.new ≤ vec_len changes.old + 1 }
@@ -116,11 +116,11 @@ fn deprive<A: Allocator + Copy>(
     requires few { length beside.now ≤ 4 }
     requires on { All (λ near. near < MAX_POINTS) beside.now }
     requires point { point < MAX_POINTS }
-    requires labels { All (λ near. 0 < colour_of cells.old near
-        → label_of cells.old near < MAX_POINTS) beside.now }
+    requires labels { All (λ near. 0 < colour_of cells.old.numbers near
+        → label_of cells.old.numbers near < MAX_POINTS) beside.now }
     requires room { vec_len changes.old + 4 ≤ vec_capacity changes.old }
-    ensures deprived { IsDeprived cells.old cells.new point
-        (IsStoneBeside cells.old beside.now (length beside.now)) }
+    ensures deprived { IsDeprived cells.old.numbers cells.new.numbers point
+        (IsStoneBeside cells.old.numbers beside.now (length beside.now)) }
     ensures logged { Logged cells.old cells.new changes.old.items changes.new.items 4 }
     ensures capacity { vec_capacity changes.old ≤ vec_capacity changes.new }
     ensures length { vec_len changes.new ≤ vec_len changes.old + 4 }
@@ -144,7 +144,7 @@ fn fill_words<A: Allocator + Copy>(
     requires label { label < MAX_POINTS }
     requires words { length words.now ≡ WORDS }
     requires room { vec_len changes.old + WORDS ≤ vec_capacity changes.old }
-    ensures filled { IsFilled cells.old cells.new label words.now
+    ensures filled { IsFilled cells.old.numbers cells.new.numbers label words.now
         (words_for (lines_of size * lines_of size)) }
     ensures logged { Logged cells.old cells.new changes.old.items changes.new.items WORDS }
     ensures capacity { vec_capacity changes.old ≤ vec_capacity changes.new }
@@ -169,14 +169,14 @@ pub fn occupy<A: Allocator + Copy>(
     beside: &[usize],
 )
     requires tidy { IsTidy (lines_of size * lines_of size) (IsAdjacent (lines_of size))
-        (tables_of cells.old) }
+        (tables_of cells.old.numbers) }
     requires point { point < lines_of size * lines_of size }
-    requires empty { colour_of cells.old point ≡ 0 }
+    requires empty { colour_of cells.old.numbers point ≡ 0 }
     requires colour { 0 < colour }
     requires beside { AreBeside (lines_of size) point beside.now }
     requires room { vec_len changes.old + (WORDS + 8) ≤ vec_capacity changes.old }
     ensures occupied { IsOccupied (lines_of size * lines_of size) (IsAdjacent (lines_of size))
-        (tables_of cells.old) (tables_of cells.new) point colour }
+        (tables_of cells.old.numbers) (tables_of cells.new.numbers) point colour }
     ensures logged { Logged cells.old cells.new changes.old.items changes.new.items (WORDS + 8) }
     ensures capacity { vec_capacity changes.old ≤ vec_capacity changes.new }
     ensures length { vec_len changes.new ≤ vec_len changes.old + (WORDS + 8) }

@@ -15,7 +15,7 @@ use crate::capture::{capture, take_one};
 use crate::cells::{Cells, WORDS};
 use crate::codes::code_of;
 use crate::connect::connect;
-use crate::log::Change;
+use crate::change::Change;
 use crate::occupy::occupy;
 use go_board::laws::{joined_by_a_path, reaches_by_a_path};
 use go_board::{Colour, MAX_POINTS, Meter, Size, Taken};
@@ -35,24 +35,24 @@ pub fn place<A: Allocator + Copy>(
     point: usize,
     near: &[usize],
 ) -> Taken
-    requires kept { IsKept (lines_of size) cells.old }
+    requires kept { IsKept (lines_of size) cells.old.numbers }
     requires point { point < lines_of size * lines_of size }
-    requires empty { colour_of cells.old point ≡ 0 }
+    requires empty { colour_of cells.old.numbers point ≡ 0 }
     requires near { AreBeside (lines_of size) point near.now }
     requires room { vec_len changes.old + ROOM ≤ vec_capacity changes.old }
-    ensures kept { IsKept (lines_of size) cells.new }
-    ensures colours { colouring_of (lines_of size) cells.new
-        ≡ moved (lines_of size) (colouring_of (lines_of size) cells.old) colour point }
+    ensures kept { IsKept (lines_of size) cells.new.numbers }
+    ensures colours { colouring_of (lines_of size) cells.new.numbers
+        ≡ moved (lines_of size) (colouring_of (lines_of size) cells.old.numbers) colour point }
     ensures theirs { result.theirs ≡ vanished (lines_of size)
-        (slice_set (colouring_of (lines_of size) cells.old) point (Some colour))
-        (colouring_of (lines_of size) cells.new) (other colour) }
+        (slice_set (colouring_of (lines_of size) cells.old.numbers) point (Some colour))
+        (colouring_of (lines_of size) cells.new.numbers) (other colour) }
     ensures own { result.own ≡ vanished (lines_of size)
-        (slice_set (colouring_of (lines_of size) cells.old) point (Some colour))
-        (colouring_of (lines_of size) cells.new) colour }
+        (slice_set (colouring_of (lines_of size) cells.old.numbers) point (Some colour))
+        (colouring_of (lines_of size) cells.new.numbers) colour }
     ensures logged { Logged cells.old cells.new changes.old.items changes.new.items
-        (most_of (lines_of size) (colouring_of (lines_of size) cells.old) colour point) }
+        (most_of (lines_of size) (colouring_of (lines_of size) cells.old.numbers) colour point) }
     ensures count { meter.new + 1 ≤ meter.old
-        + 3 * most_of (lines_of size) (colouring_of (lines_of size) cells.old) colour point }
+        + 3 * most_of (lines_of size) (colouring_of (lines_of size) cells.old.numbers) colour point }
     ensures ticked { meter.old + vec_len changes.new ≤ meter.new + vec_len changes.old }
 {
     joined_by_a_path();

@@ -8,7 +8,7 @@ use Rattle.go_board.specs.declared.vertex.Move.{Move}
 use Rattle.go_board.specs.declared.vertex.Vertex.{Vertex}
 use Rattle.go_board.specs.declared.vertex.Vertex.TheVariants.{Pass, At}
 use Rattle.go_board.specs.Grids.{GridValue}
-use Rattle.go_chains.specs.declared.log.Change.{Change}
+use Rattle.go_chains.specs.declared.change.Change.{Change}
 use Rattle.go_chains.specs.Rewound.{PlayLogged, rewound}
 use Rattle.go_chains.specs.Sound.{BoardValue}
 use Rattle.go_history.specs.Histories.{HistoryValue}

@@ -17,7 +17,7 @@ use Rattle.go_board.specs.Points.{IsOn, number_of}
 use Rattle.go_board.specs.Packs.{packed_of}
 use Rattle.go_board.specs.PackBytes.{bytes_of}
 use Rattle.go_board.specs.Reaching.{moved, vanished}
-use Rattle.go_chains.specs.declared.log.Change.{Change}
+use Rattle.go_chains.specs.declared.change.Change.{Change}
 use Rattle.go_chains.specs.Playing.{most_of}
 use Rattle.go_chains.specs.Sound.{BoardValue, IsStoneOf, grid_of}
 use Rattle.go_history.specs.declared.key.Key.{Key}

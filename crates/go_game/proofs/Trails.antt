@@ -5,7 +5,7 @@ use Rattle.go_board.specs.declared.vertex.Move.{Move}
 use Rattle.go_board.specs.declared.vertex.Vertex.{Vertex}
 use Rattle.go_board.specs.declared.vertex.Vertex.TheVariants.{Pass, At}
 use Rattle.go_board.specs.Colours.{Colouring}
-use Rattle.go_chains.specs.declared.log.Change.{Change}
+use Rattle.go_chains.specs.declared.change.Change.{Change}
 use Rattle.go_chains.specs.Sound.{IsKept, colouring_of}
 use Rattle.go_game.specs.Standings.{after_vertex, board}
 use Rattle.go_game.specs.Trails.{IsTurn, WentThrough}

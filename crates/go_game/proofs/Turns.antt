@@ -15,7 +15,7 @@ use Rattle.go_board.specs.Packs.{packed_of}
 use Rattle.go_board.specs.Grids.{GridValue}
 use Rattle.go_board.specs.Points.{number_of}
 use Rattle.go_board.specs.Reaching.{moved}
-use Rattle.go_chains.specs.declared.log.Change.{Change}
+use Rattle.go_chains.specs.declared.change.Change.{Change}
 use Rattle.std.proofs.lemmas.List.{same_from_push}
 use Rattle.go_chains.specs.declared.cells.TheConstants.{COUNT}
 use Rattle.go_chains.specs.Rewound.{IsRewound, NamesCells, PlayLogged, rewound}

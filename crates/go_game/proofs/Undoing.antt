@@ -14,7 +14,7 @@ use Rattle.go_board.specs.PackBytes.{bytes_of}
 use Rattle.go_board.specs.Packs.{packed_of}
 use Rattle.go_board.specs.Grids.{GridValue}
 use Rattle.go_chains.specs.declared.cells.TheConstants.{COUNT}
-use Rattle.go_chains.specs.declared.log.Change.{Change}
+use Rattle.go_chains.specs.declared.change.Change.{Change}
 use Rattle.go_chains.specs.Rewound.{IsRewound, NamesCells, rewound}
 use Rattle.go_chains.specs.Sound.{BoardValue, IsKept, grid_of}
 use Rattle.go_history.specs.declared.key.Key.{Key}

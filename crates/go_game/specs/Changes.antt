@@ -3,7 +3,7 @@ use Rattle.std.specs.Prelude.{List, [], ◌∷◌}
 use Rattle.go_board.specs.declared.vertex.Move.{Move}
 use Rattle.go_board.specs.declared.vertex.Vertex.{Vertex}
 use Rattle.go_board.specs.declared.vertex.Vertex.TheVariants.{Pass, At}
-use Rattle.go_chains.specs.declared.log.Change.{Change}
+use Rattle.go_chains.specs.declared.change.Change.{Change}
 
 -- the changes of a turn: none for a pass, and those of the first play otherwise
 abbrev pub own_changes : Vertex → List (List Change) → List Change

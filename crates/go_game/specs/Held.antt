@@ -9,7 +9,7 @@ use Rattle.go_board.specs.declared.vertex.Vertex.TheVariants.{Pass, At}
 use Rattle.go_board.specs.Colours.{Colouring, colour_at}
 use Rattle.go_board.specs.Grids.{GridValue}
 use Rattle.go_board.specs.Points.{IsOn, number_of}
-use Rattle.go_chains.specs.declared.log.Change.{Change}
+use Rattle.go_chains.specs.declared.change.Change.{Change}
 use Rattle.go_chains.specs.Sound.{BoardValue, IsKept, colouring_of}
 use Rattle.go_history.specs.Histories.{HistoryValue}
 use Rattle.go_game.specs.declared.step.Step.{Step}

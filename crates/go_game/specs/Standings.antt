@@ -12,7 +12,7 @@ use Rattle.go_board.specs.Colours.{Colouring, colour_at, other}
 use Rattle.go_board.specs.Grids.{GridValue}
 use Rattle.go_board.specs.Points.{IsOn, number_of}
 use Rattle.go_board.specs.Reaching.{moved, reaches}
-use Rattle.go_chains.specs.declared.log.Change.{Change}
+use Rattle.go_chains.specs.declared.change.Change.{Change}
 use Rattle.go_game.specs.declared.superko.Superko.{Superko}
 use Rattle.go_game.specs.declared.superko.Superko.TheVariants.{Positional, Situational}
 

@@ -12,14 +12,14 @@ use Rattle.go_chains.proofs.capture.capture.Goals as goal
 pub take_one-taken-requires-clause-two : goal.take_one-taken-requires-clause-two
 take_one-taken-requires-clause-two g c =
     let n = lines_of c.args.size in
-    still_two (n * n) (IsAdjacent n) (tables_of c.args.cells.now) (tables_of c.loop-near.cells) c.args.own c.args.other c.loop-near.invariant.capturing c.requires.two
+    still_two (n * n) (IsAdjacent n) (tables_of c.args.cells.now.numbers) (tables_of c.loop-near.cells.numbers) c.args.own c.args.other c.loop-near.invariant.capturing c.requires.two
 
 pub loop-near-preserved : goal.loop-near-preserved
 loop-near-preserved g c =
     let n = lines_of c.args.size in
-    let old = c.args.cells.now in
-    let mid = c.loop-near.cells in
-    let new = c.take_one-taken.new.cells in
+    let old = c.args.cells.now.numbers in
+    let mid = c.loop-near.cells.numbers in
+    let new = c.take_one-taken.new.cells.numbers in
     let inv = c.loop-near.invariant in
     let one = c.take_one-taken.ensures in
     let i = c.loop-near.near-index in
@@ -41,7 +41,7 @@ loop-near-preserved g c =
           ];
       stones = counts_then (n * n) (IsAdjacent n) (tables_of old) (tables_of mid) (tables_of new) own j k c.requires.own inv.capturing after inv.stones one.stones;
       few = let e = inv.few in let f = one.few in omega arith;
-      logged = Logged_then old mid new c.args.changes.now.items c.loop-near.changes.items c.take_one-taken.new.changes.items (5 * j) (5 * k) (5 * (j + k)) inv.logged one.logged (omega arith);
+      logged = Logged_then c.args.cells.now c.loop-near.cells c.take_one-taken.new.cells c.args.changes.now.items c.loop-near.changes.items c.take_one-taken.new.changes.items (5 * j) (5 * k) (5 * (j + k)) inv.logged one.logged (omega arith);
       capacity = let e = inv.capacity in let f = one.capacity in omega arith;
       length = let e = inv.length in let f = one.length in omega arith;
       count = let e = inv.count in let f = one.count in omega arith;

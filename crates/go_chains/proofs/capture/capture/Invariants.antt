@@ -12,13 +12,13 @@ use Rattle.go_chains.proofs.capture.capture.Given as goal
 abbrev pub invariant-loop-near : goal.invariant-loop-near
 invariant-loop-near g l =
     let n = lines_of l.fn.size in
-    let old = l.fn.cells in
+    let old = l.fn.cells.numbers in
     record {
-      capturing : IsCapturing (n * n) (IsAdjacent n) (tables_of old) (tables_of l.cells) l.fn.own;
-      gone : (i : ℕ) → i < l.near-index → colour_of old (slice_index l.fn.beside i) ≡ l.fn.own → IsDead (n * n) (tables_of old) (label_of old (slice_index l.fn.beside i)) → colour_of l.cells (slice_index l.fn.beside i) ≡ 0;
-      stones : CountsTaken (n * n) (tables_of old) (tables_of l.cells) l.fn.own l.taken;
+      capturing : IsCapturing (n * n) (IsAdjacent n) (tables_of old) (tables_of l.cells.numbers) l.fn.own;
+      gone : (i : ℕ) → i < l.near-index → colour_of old (slice_index l.fn.beside i) ≡ l.fn.own → IsDead (n * n) (tables_of old) (label_of old (slice_index l.fn.beside i)) → colour_of l.cells.numbers (slice_index l.fn.beside i) ≡ 0;
+      stones : CountsTaken (n * n) (tables_of old) (tables_of l.cells.numbers) l.fn.own l.taken;
       few : l.taken ≤ l.near-index * MAX_POINTS;
-      logged : Logged old l.cells l.fn.changes.items l.changes.items (5 * l.taken);
+      logged : Logged l.fn.cells l.cells l.fn.changes.items l.changes.items (5 * l.taken);
       capacity : vec_capacity l.fn.changes ≤ vec_capacity l.changes;
       length : vec_len l.changes ≤ vec_len l.fn.changes + l.near-index * (5 * MAX_POINTS);
       count : l.meter ≤ l.fn.meter + (l.near-index * (WORDS + 5) + 18 * l.taken);

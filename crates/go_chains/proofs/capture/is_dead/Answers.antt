@@ -8,7 +8,7 @@ loop-word-preserved c =
     let n = lines_of c.args.size in
     let points_is : c.from-points.result ≡ n * n = c.from-points.ensures ∙ c.points.ensures.value in
     record {
-      none = dead_more c.args.cells.now c.args.label (n * n) c.loop-word.word c.loop-word.invariant.none
+      none = dead_more c.args.cells.now.numbers c.args.label (n * n) c.loop-word.word c.loop-word.invariant.none
           (λ q q_in. c.has_liberty_in-in-loop-word.ensures.none c.if-has_liberty_in-2.false q (omega (arith, q_in, points_is)));
       count = let e = c.loop-word.invariant.count in omega arith;
       onward = let e = c.loop-word.invariant.onward in omega arith;

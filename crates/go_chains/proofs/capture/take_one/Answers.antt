@@ -13,7 +13,7 @@ use Rattle.go_chains.proofs.capture.take_one.Goals as goal
 pub is_dead-requires : goal.is_dead-requires
 is_dead-requires g c =
     let n = lines_of c.args.size in
-    let old = c.args.cells.now in
+    let old = c.args.cells.now.numbers in
     let is : colour_of old c.args.near ≡ c.args.own = sym c.get.ensures.value ∙ c.if-get-own.false in
     let some = c.requires.own in
     let stone : IsStone (n * n) (tables_of old) c.args.near = (c.requires.near, omega arith) in
@@ -23,23 +23,23 @@ is_dead-requires g c =
 pub returns-clause-capturing : goal.returns-clause-capturing
 returns-clause-capturing g c t tidy capturing =
     let n = lines_of c.args.size in
-    let old = c.args.cells.now in
+    let old = c.args.cells.now.numbers in
     let is : colour_of old c.args.near ≡ c.args.own = sym c.get.ensures.value ∙ c.if-get-own.false in
     let D : ℕ → Type 0 = λ l. IsDead (n * n) (tables_of old) l in
-    IsCapturing_more (n * n) (IsAdjacent n) (flip n) (inside n) t (tables_of old) (tables_of c.take_off.new.cells) c.args.own c.args.near tidy capturing c.take_off.ensures.removed is c.requires.own
+    IsCapturing_more (n * n) (IsAdjacent n) (flip n) (inside n) t (tables_of old) (tables_of c.take_off.new.cells.numbers) c.args.own c.args.near tidy capturing c.take_off.ensures.removed is c.requires.own
     (subst D c.get-label.ensures.value (c.is_dead.ensures.dead.0 c.if-not-is_dead.false))
 
 pub returns-clause-stones : goal.returns-clause-stones
 returns-clause-stones g c =
     let n = lines_of c.args.size in
-    let old = c.args.cells.now in
+    let old = c.args.cells.now.numbers in
     let is : colour_of old c.args.near ≡ c.args.own = sym c.get.ensures.value ∙ c.if-get-own.false in
-    let P : ℕ → Type 0 = λ k. CountsTaken (n * n) (tables_of old) (tables_of c.take_off.new.cells) c.args.own k in
-    subst P (sym c.take_off.ensures.stones) (counts_ring (n * n) (IsAdjacent n) (tables_of old) (tables_of c.take_off.new.cells) c.args.near c.args.own c.requires.tidy c.take_off.ensures.removed is c.requires.own)
+    let P : ℕ → Type 0 = λ k. CountsTaken (n * n) (tables_of old) (tables_of c.take_off.new.cells.numbers) c.args.own k in
+    subst P (sym c.take_off.ensures.stones) (counts_ring (n * n) (IsAdjacent n) (tables_of old) (tables_of c.take_off.new.cells.numbers) c.args.near c.args.own c.requires.tidy c.take_off.ensures.removed is c.requires.own)
 
 pub returns-clause-few : goal.returns-clause-few
 returns-clause-few g c =
     let n = lines_of c.args.size in
-    let old = c.args.cells.now in
+    let old = c.args.cells.now.numbers in
     let h = size_small n (IsAdjacent n) (tables_of old) c.args.size.in_range c.requires.tidy c.args.near c.take_off.ensures.removed.stone in
     let e = c.take_off.ensures.stones in omega arith

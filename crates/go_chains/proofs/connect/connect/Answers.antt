@@ -9,9 +9,9 @@ use Rattle.go_chains.proofs.connect.connect.Goals as goal
 pub loop-near-preserved : goal.loop-near-preserved
 loop-near-preserved g c =
     let n = lines_of c.args.size in
-    let old = c.args.cells.now in
-    let mid = c.loop-near.cells in
-    let new = c.connect_one.new.cells in
+    let old = c.args.cells.now.numbers in
+    let mid = c.loop-near.cells.numbers in
+    let new = c.connect_one.new.cells.numbers in
     let i = c.loop-near.near-index in
     let inv = c.loop-near.invariant in
     let one = c.connect_one.ensures in
@@ -22,7 +22,7 @@ loop-near-preserved g c =
       tidy = one.tidy;
       connected = IsConnectedTo_more (n * n) (tables_of old) (tables_of mid) (tables_of new) at c.args.beside.now i (slice_index c.args.beside.now i) c.requires.stone
           (λ j below. (c.requires.beside.are j (let t = c.loop-near-test.true in omega arith)).1) refl inv.connected one.connected;
-      logged = Logged_then old mid new c.args.changes.now.items c.loop-near.changes.items c.connect_one.new.changes.items
+      logged = Logged_then c.args.cells.now c.loop-near.cells c.connect_one.new.cells c.args.changes.now.items c.loop-near.changes.items c.connect_one.new.changes.items
           (size_of mid (label_of mid at) - size_of old (label_of old at) + i * (WORDS + 3)) (size_of new (label_of new at) - size_of mid (label_of mid at) + WORDS + 3)
           (size_of new (label_of new at) - size_of old (label_of old at) + (i + 1) * (WORDS + 3)) inv.logged one.logged (omega arith);
       capacity = let e = inv.capacity in let f = one.capacity in omega arith;

@@ -12,10 +12,10 @@ use Rattle.go_chains.proofs.connect.connect.Given as goal
 abbrev pub invariant-loop-near : goal.invariant-loop-near
 invariant-loop-near g l =
     let n = lines_of l.fn.size in
-    let grown = size_of l.cells (label_of l.cells l.fn.point) - size_of l.fn.cells (label_of l.fn.cells l.fn.point) in
+    let grown = size_of l.cells.numbers (label_of l.cells.numbers l.fn.point) - size_of l.fn.cells.numbers (label_of l.fn.cells.numbers l.fn.point) in
     record {
-      tidy : IsTidy (n * n) (IsAdjacent n) (tables_of l.cells);
-      connected : IsConnectedTo (n * n) (tables_of l.fn.cells) (tables_of l.cells) l.fn.point l.fn.beside l.near-index;
+      tidy : IsTidy (n * n) (IsAdjacent n) (tables_of l.cells.numbers);
+      connected : IsConnectedTo (n * n) (tables_of l.fn.cells.numbers) (tables_of l.cells.numbers) l.fn.point l.fn.beside l.near-index;
       logged : Logged l.fn.cells l.cells l.fn.changes.items l.changes.items (grown + l.near-index * (WORDS + 3));
       capacity : vec_capacity l.fn.changes ≤ vec_capacity l.changes;
       length : vec_len l.changes ≤ vec_len l.fn.changes + l.near-index * (MAX_POINTS + WORDS + 3);

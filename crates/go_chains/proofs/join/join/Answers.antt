@@ -1,7 +1,7 @@
 use Rattle.std.proofs.Common.{arith, ◌≡◌, ◌<◌, ◌+◌, ◌*◌, ap, sym, ◌∙◌}
 use Rattle.go_board.specs.Paths.{IsAdjacent}
 use Rattle.go_board.specs.Sizes.{lines_of}
-use Rattle.go_chains.specs.declared.cells.TheConstants.{SIZES, WORDS}
+use Rattle.go_chains.specs.declared.cells.TheConstants.{LINKS, SIZES, WORDS}
 use Rattle.go_chains.specs.Cells.{label_of, size_of, tables_of, words_for}
 use Rattle.go_chains.proofs.Joined.{IsJoin_written}
 use Rattle.go_chains.proofs.Neighbours.{square-le}
@@ -12,34 +12,45 @@ use Rattle.go_chains.proofs.join.join.Goals as goal
 pub get-kept-requires : goal.get-kept-requires
 get-kept-requires g c =
     let n = lines_of c.args.size in
-    let h = label_small n (IsAdjacent n) (tables_of c.args.cells.now) c.args.size.in_range c.requires.tidy c.args.first c.requires.first in
+    let h = label_small n (IsAdjacent n) (tables_of c.args.cells.now.numbers) c.args.size.in_range c.requires.tidy c.args.first c.requires.first in
     let e = c.get-keep.ensures.value in omega arith
 
 pub get-stones-requires : goal.get-stones-requires
 get-stones-requires g c =
     let n = lines_of c.args.size in
-    let h = label_small n (IsAdjacent n) (tables_of c.args.cells.now) c.args.size.in_range c.requires.tidy c.args.second c.requires.second in
+    let h = label_small n (IsAdjacent n) (tables_of c.args.cells.now.numbers) c.args.size.in_range c.requires.tidy c.args.second c.requires.second in
     let e = c.get-gone.ensures.value in omega arith
 
 pub relabel-requires-clause-on : goal.relabel-requires-clause-on
 relabel-requires-clause-on g c i below =
     let n = lines_of c.args.size in
-    let is : c.get-stones.result ≡ size_of c.args.cells.now (label_of c.args.cells.now c.args.second) = c.get-stones.ensures.value ∙ ap (size_of c.args.cells.now) c.get-gone.ensures.value in
-    ring_small n (IsAdjacent n) (tables_of c.args.cells.now) c.args.size.in_range c.requires.tidy c.args.second c.requires.second i (omega arith)
+    let is : c.get-stones.result ≡ size_of c.args.cells.now.numbers (label_of c.args.cells.now.numbers c.args.second) = c.get-stones.ensures.value ∙ ap (size_of c.args.cells.now.numbers) c.get-gone.ensures.value in
+    ring_small n (IsAdjacent n) (tables_of c.args.cells.now.numbers) c.args.size.in_range c.requires.tidy c.args.second c.requires.second i (omega arith)
 
 pub overflow_add-stones : goal.overflow_add-stones
 overflow_add-stones g c =
     let n = lines_of c.args.size in
-    let is : c.get-stones.result ≡ size_of c.args.cells.now (label_of c.args.cells.now c.args.second) = c.get-stones.ensures.value ∙ ap (size_of c.args.cells.now) c.get-gone.ensures.value in
-    let first_is : c.get-kept.result ≡ size_of c.args.cells.now (label_of c.args.cells.now c.args.first) = c.get-kept.ensures.value ∙ ap (size_of c.args.cells.now) c.get-keep.ensures.value in
-    let a = size_small n (IsAdjacent n) (tables_of c.args.cells.now) c.args.size.in_range c.requires.tidy c.args.second c.requires.second in
-    let b = size_small n (IsAdjacent n) (tables_of c.args.cells.now) c.args.size.in_range c.requires.tidy c.args.first c.requires.first in
+    let is : c.get-stones.result ≡ size_of c.args.cells.now.numbers (label_of c.args.cells.now.numbers c.args.second) = c.get-stones.ensures.value ∙ ap (size_of c.args.cells.now.numbers) c.get-gone.ensures.value in
+    let first_is : c.get-kept.result ≡ size_of c.args.cells.now.numbers (label_of c.args.cells.now.numbers c.args.first) = c.get-kept.ensures.value ∙ ap (size_of c.args.cells.now.numbers) c.get-keep.ensures.value in
+    let a = size_small n (IsAdjacent n) (tables_of c.args.cells.now.numbers) c.args.size.in_range c.requires.tidy c.args.second c.requires.second in
+    let b = size_small n (IsAdjacent n) (tables_of c.args.cells.now.numbers) c.args.size.in_range c.requires.tidy c.args.first c.requires.first in
     omega arith
+
+pub get-first_next-requires : goal.get-first_next-requires
+get-first_next-requires g c =
+    let n = lines_of c.args.size in
+    let s = square-le n c.args.size.in_range in
+    let below : c.args.first < n * n = c.requires.first.0 in omega arith
+
+pub replace-requires-2-clause-old : goal.replace-requires-2-clause-old
+replace-requires-2-clause-old g c =
+    let apart = λ (e : LINKS + c.args.second ≡ LINKS + c.args.first). c.requires.apart (ap (label_of c.args.cells.now.numbers) (let same : c.args.first ≡ c.args.second = omega (arith, e) in same)) in
+    c.get-second_next.ensures.value ∙ sym (c.replace.ensures.written.others (LINKS + c.args.second) apart)
 
 pub replace-requires-3-clause-place : goal.replace-requires-3-clause-place
 replace-requires-3-clause-place g c =
     let n = lines_of c.args.size in
-    let h = label_small n (IsAdjacent n) (tables_of c.args.cells.now) c.args.size.in_range c.requires.tidy c.args.first c.requires.first in
+    let h = label_small n (IsAdjacent n) (tables_of c.args.cells.now.numbers) c.args.size.in_range c.requires.tidy c.args.first c.requires.first in
     let e = c.get-keep.ensures.value in omega arith
 
 pub replace-requires-3-clause-old : goal.replace-requires-3-clause-old
@@ -53,20 +64,20 @@ replace-requires-3-clause-old g c =
 pub merge_words-requires-clause-keep : goal.merge_words-requires-clause-keep
 merge_words-requires-clause-keep g c =
     let n = lines_of c.args.size in
-    let h = label_small n (IsAdjacent n) (tables_of c.args.cells.now) c.args.size.in_range c.requires.tidy c.args.first c.requires.first in
+    let h = label_small n (IsAdjacent n) (tables_of c.args.cells.now.numbers) c.args.size.in_range c.requires.tidy c.args.first c.requires.first in
     let e = c.get-keep.ensures.value in omega arith
 
 pub merge_words-requires-clause-gone : goal.merge_words-requires-clause-gone
 merge_words-requires-clause-gone g c =
     let n = lines_of c.args.size in
-    let h = label_small n (IsAdjacent n) (tables_of c.args.cells.now) c.args.size.in_range c.requires.tidy c.args.second c.requires.second in
+    let h = label_small n (IsAdjacent n) (tables_of c.args.cells.now.numbers) c.args.size.in_range c.requires.tidy c.args.second c.requires.second in
     let e = c.get-gone.ensures.value in omega arith
 
 pub returns-clause-joined : goal.returns-clause-joined
 returns-clause-joined g c =
     let n = lines_of c.args.size in
     IsJoin_written (n * n) (IsAdjacent n) (square-le n c.args.size.in_range)
-    c.args.cells.now c.relabel.new.cells c.replace.new.cells c.replace-2.new.cells c.replace-3.new.cells c.merge_words.new.cells
+    c.args.cells.now.numbers c.relabel.new.cells.numbers c.replace.new.cells.numbers c.replace-2.new.cells.numbers c.replace-3.new.cells.numbers c.merge_words.new.cells.numbers
     c.args.first c.args.second c.get-keep.result c.get-gone.result c.get-kept.result c.get-stones.result c.get-first_next.result c.get-second_next.result
     c.requires.tidy c.requires.first c.requires.second c.requires.same c.requires.apart
     c.get-keep.ensures.value c.get-gone.ensures.value c.get-kept.ensures.value c.get-stones.ensures.value
@@ -75,11 +86,11 @@ returns-clause-joined g c =
 
 pub returns-clause-logged : goal.returns-clause-logged
 returns-clause-logged g c =
-    let old = c.args.cells.now in
+    let old = c.args.cells.now.numbers in
     let xs = c.args.changes.now.items in
     let k = c.get-stones.result in
     let is : k ≡ size_of old (label_of old c.args.second) = c.get-stones.ensures.value ∙ ap (size_of old) c.get-gone.ensures.value in
-    let one = Logged_then old c.relabel.new.cells c.replace.new.cells xs c.relabel.new.changes.items c.replace.new.changes.items k 1 (k + 1) c.relabel.ensures.logged c.replace.ensures.logged (omega arith) in
-    let two = Logged_then old c.replace.new.cells c.replace-2.new.cells xs c.replace.new.changes.items c.replace-2.new.changes.items (k + 1) 1 (k + 2) one c.replace-2.ensures.logged (omega arith) in
-    let three = Logged_then old c.replace-2.new.cells c.replace-3.new.cells xs c.replace-2.new.changes.items c.replace-3.new.changes.items (k + 2) 1 (k + 3) two c.replace-3.ensures.logged (omega arith) in
-    Logged_then old c.replace-3.new.cells c.merge_words.new.cells xs c.replace-3.new.changes.items c.merge_words.new.changes.items (k + 3) WORDS (size_of old (label_of old c.args.second) + WORDS + 3) three c.merge_words.ensures.logged (omega arith)
+    let one = Logged_then c.args.cells.now c.relabel.new.cells c.replace.new.cells xs c.relabel.new.changes.items c.replace.new.changes.items k 1 (k + 1) c.relabel.ensures.logged c.replace.ensures.logged (omega arith) in
+    let two = Logged_then c.args.cells.now c.replace.new.cells c.replace-2.new.cells xs c.replace.new.changes.items c.replace-2.new.changes.items (k + 1) 1 (k + 2) one c.replace-2.ensures.logged (omega arith) in
+    let three = Logged_then c.args.cells.now c.replace-2.new.cells c.replace-3.new.cells xs c.replace-2.new.changes.items c.replace-3.new.changes.items (k + 2) 1 (k + 3) two c.replace-3.ensures.logged (omega arith) in
+    Logged_then c.args.cells.now c.replace-3.new.cells c.merge_words.new.cells xs c.replace-3.new.changes.items c.merge_words.new.changes.items (k + 3) WORDS (size_of old (label_of old c.args.second) + WORDS + 3) three c.merge_words.ensures.logged (omega arith)

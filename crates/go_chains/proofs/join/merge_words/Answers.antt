@@ -9,12 +9,12 @@ use Rattle.go_chains.proofs.join.merge_words.Goals as goal
 
 pub loop-word-preserved : goal.loop-word-preserved
 loop-word-preserved g c = record {
-  merged = IsMerged_more c.args.cells.now c.loop-word.cells c.replace.new.cells c.args.keep c.args.gone c.loop-word.word c.get-here.result c.get-there.result
+  merged = IsMerged_more c.args.cells.now.numbers c.loop-word.cells.numbers c.replace.new.cells.numbers c.args.keep c.args.gone c.loop-word.word c.get-here.result c.get-there.result
       c.requires.keep c.requires.gone c.requires.apart (omega arith)
-      (c.get-here.ensures.value ∙ ap (slice_index c.loop-word.cells) c.word_place-place.ensures.value)
-      (c.get-there.ensures.value ∙ ap (slice_index c.loop-word.cells) c.word_place.ensures.value)
+      (c.get-here.ensures.value ∙ ap (slice_index c.loop-word.cells.numbers) c.word_place-place.ensures.value)
+      (c.get-there.ensures.value ∙ ap (slice_index c.loop-word.cells.numbers) c.word_place.ensures.value)
       c.loop-word.invariant.merged
-      (let P : ℕ → Type 0 = λ k. IsWritten c.loop-word.cells c.replace.new.cells k (bit_or c.get-here.result c.get-there.result) in subst P c.word_place-place.ensures.value c.replace.ensures.written);
+      (let P : ℕ → Type 0 = λ k. IsWritten c.loop-word.cells.numbers c.replace.new.cells.numbers k (bit_or c.get-here.result c.get-there.result) in subst P c.word_place-place.ensures.value c.replace.ensures.written);
   logged = Logged_then c.args.cells.now c.loop-word.cells c.replace.new.cells c.args.changes.now.items c.loop-word.changes.items c.replace.new.changes.items c.loop-word.word 1 (c.loop-word.word + 1) c.loop-word.invariant.logged c.replace.ensures.logged (omega arith);
   capacity = let e = c.loop-word.invariant.capacity in let f = c.replace.ensures.capacity in omega arith;
   length = let e = c.loop-word.invariant.length in let f = c.replace.ensures.length in omega arith;

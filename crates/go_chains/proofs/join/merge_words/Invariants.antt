@@ -5,7 +5,7 @@ use Rattle.go_chains.proofs.join.merge_words.Given as goal
 
 abbrev pub invariant-loop-word : goal.invariant-loop-word
 invariant-loop-word g l = record {
-  merged : IsMerged l.fn.cells l.cells l.fn.keep l.fn.gone l.word;
+  merged : IsMerged l.fn.cells.numbers l.cells.numbers l.fn.keep l.fn.gone l.word;
   logged : Logged l.fn.cells l.cells l.fn.changes.items l.changes.items l.word;
   capacity : vec_capacity l.fn.changes ≤ vec_capacity l.changes;
   length : vec_len l.changes ≤ vec_len l.fn.changes + l.word;

@@ -7,8 +7,8 @@ use Rattle.go_chains.proofs.join.relabel.Given as goal
 
 abbrev pub invariant-loop : goal.invariant-loop
 invariant-loop g l = record {
-  at : l.at ≡ steps (next_of l.fn.cells) l.counter l.fn.from;
-  relabelled : IsRelabelled (next_of l.fn.cells) l.fn.cells l.cells l.fn.from l.counter l.fn.to;
+  at : l.at ≡ steps (next_of l.fn.cells.numbers) l.counter l.fn.from;
+  relabelled : IsRelabelled (next_of l.fn.cells.numbers) l.fn.cells.numbers l.cells.numbers l.fn.from l.counter l.fn.to;
   logged : Logged l.fn.cells l.cells l.fn.changes.items l.changes.items l.counter;
   capacity : vec_capacity l.fn.changes ≤ vec_capacity l.changes;
   length : vec_len l.changes ≤ vec_len l.fn.changes + l.counter;

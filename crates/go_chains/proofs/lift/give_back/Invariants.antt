@@ -5,7 +5,7 @@ use Rattle.go_chains.proofs.lift.give_back.Given as goal
 
 abbrev pub invariant-loop-near : goal.invariant-loop-near
 invariant-loop-near g l = record {
-  given : IsGiven l.fn.cells l.cells l.fn.point (IsGivenBeside l.fn.cells l.fn.beside l.fn.colour l.near-index);
+  given : IsGiven l.fn.cells.numbers l.cells.numbers l.fn.point (IsGivenBeside l.fn.cells.numbers l.fn.beside l.fn.colour l.near-index);
   logged : Logged l.fn.cells l.cells l.fn.changes.items l.changes.items l.near-index;
   capacity : vec_capacity l.fn.changes ≤ vec_capacity l.changes;
   length : vec_len l.changes ≤ vec_len l.fn.changes + l.near-index;

@@ -1,8 +1,9 @@
-use Rattle.std.proofs.Common.{◌≡◌, ◌-◌, ◌∙◌, ◌++◌, ◌∷◌, [], length, slice_set, ap, sym, arith, option_to_list}
+use Rattle.std.proofs.Common.{◌≡◌, ◌-◌, ◌∙◌, ◌++◌, ◌∷◌, ◌+◌, [], drop, length, slice_set, ap, sym, arith, option_to_list}
 use Rattle.std.proofs.lemmas.List.{length-take-le}
 use Rattle.go_chains.specs.declared.cells.TheConstants.{COUNT}
+use Rattle.go_chains.specs.Cells.{CellsValue}
 use Rattle.go_chains.specs.Rewound.{rewound}
-use Rattle.go_chains.proofs.Rewinding.{popped, popped_names}
+use Rattle.go_chains.proofs.Rewinding.{popped, popped_names, traced_more}
 use Rattle.go_chains.proofs.log.put_back_changes.Goals as goal
 use Rattle.go_chains.proofs.log.put_back_changes.Goals.{in-Some, in_default}
 
@@ -19,8 +20,11 @@ loop-preserved g c = elim c.match-pop.branch [
       let p = popped c.args.changes.now.items c.loop.changes.items c.pop.new.self.items w.in-Some.change c.loop.counter (omega arith) c.loop.invariant.changes split in
       record {
         changes = p.rest_is;
-        cells = w.cells-is ∙ w.set.ensures.value ∙ ap (λ cells. slice_set cells w.in-Some.change.place w.in-Some.change.old) c.loop.invariant.cells
-            ∙ sym (ap (λ changes. rewound c.args.cells.now changes) p.dropped);
+        cells = ap (λ (v : CellsValue). v.numbers) w.cells-is ∙ w.set.ensures.value ∙ ap (λ cells. slice_set cells w.in-Some.change.place w.in-Some.change.old) c.loop.invariant.cells
+            ∙ sym (ap (λ changes. rewound c.args.cells.now.numbers changes) p.dropped);
+        traced = traced_more c.args.cells.now.trace c.loop.cells.trace _ c.args.cells.now.numbers c.loop.cells.numbers w.in-Some.change
+            (drop (length c.args.changes.now.items - c.loop.counter) c.args.changes.now.items) (drop (length c.args.changes.now.items - (c.loop.counter + 1)) c.args.changes.now.items)
+            c.loop.invariant.traced c.loop.invariant.cells p.dropped (ap (λ (v : CellsValue). v.trace) w.cells-is ∙ w.set.ensures.traced);
         meter = omega arith;
       }
   | in_default w ↦ absurd (

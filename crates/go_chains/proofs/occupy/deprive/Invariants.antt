@@ -5,7 +5,7 @@ use Rattle.go_chains.proofs.occupy.deprive.Given as goal
 
 abbrev pub invariant-loop-near : goal.invariant-loop-near
 invariant-loop-near g l = record {
-  deprived : IsDeprived l.fn.cells l.cells l.fn.point (IsStoneBeside l.fn.cells l.fn.beside l.near-index);
+  deprived : IsDeprived l.fn.cells.numbers l.cells.numbers l.fn.point (IsStoneBeside l.fn.cells.numbers l.fn.beside l.near-index);
   logged : Logged l.fn.cells l.cells l.fn.changes.items l.changes.items l.near-index;
   capacity : vec_capacity l.fn.changes ≤ vec_capacity l.changes;
   length : vec_len l.changes ≤ vec_len l.fn.changes + l.near-index;

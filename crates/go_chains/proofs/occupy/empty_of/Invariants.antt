@@ -5,7 +5,7 @@ use Rattle.go_chains.proofs.occupy.empty_of.Given as goal
 
 abbrev pub invariant-loop-near : goal.invariant-loop-near
 invariant-loop-near l = record {
-  marks : MarksEmpty l.fn.cells l.words l.fn.beside l.near-index;
+  marks : MarksEmpty l.fn.cells.numbers l.words l.fn.beside l.near-index;
   words : length l.words ≡ WORDS;
   count : l.meter ≡ l.fn.meter + l.near-index;
 }

@@ -10,9 +10,9 @@ loop-word-preserved g c =
     let inv = c.loop-word.invariant in
     let one = c.put.ensures in
     let i = c.loop-word.word in
-    let P : ℕ → Type 0 = λ k. IsWritten c.loop-word.cells c.put.new.cells k (slice_index c.args.words.now i) in
+    let P : ℕ → Type 0 = λ k. IsWritten c.loop-word.cells.numbers c.put.new.cells.numbers k (slice_index c.args.words.now i) in
     record {
-      filled = IsFilled_more c.args.cells.now c.loop-word.cells c.put.new.cells c.args.label c.args.words.now i (slice_index c.args.words.now i) (omega arith) inv.filled (subst P c.word_place-place.ensures.value one.written) refl;
+      filled = IsFilled_more c.args.cells.now.numbers c.loop-word.cells.numbers c.put.new.cells.numbers c.args.label c.args.words.now i (slice_index c.args.words.now i) (omega arith) inv.filled (subst P c.word_place-place.ensures.value one.written) refl;
       logged = Logged_then c.args.cells.now c.loop-word.cells c.put.new.cells c.args.changes.now.items c.loop-word.changes.items c.put.new.changes.items i 1 (i + 1) inv.logged one.logged (omega arith);
       capacity = let e = inv.capacity in let f = one.capacity in omega arith;
       length = let e = inv.length in let f = one.length in omega arith;

@@ -15,25 +15,25 @@ pub deprive-requires-clause-labels : goal.deprive-requires-clause-labels
 deprive-requires-clause-labels g c k d below =
     let n = lines_of c.args.size in
     let same = get_or_default c.args.beside.now k d 0 below in
-    let P : ℕ → Type 0 = λ x. 0 < colour_of c.args.cells.now x → label_of c.args.cells.now x < MAX_POINTS in
-    subst P (sym same) (λ some. label_small n (IsAdjacent n) (tables_of c.args.cells.now) c.args.size.in_range c.requires.tidy (slice_index c.args.beside.now k)
+    let P : ℕ → Type 0 = λ x. 0 < colour_of c.args.cells.now.numbers x → label_of c.args.cells.now.numbers x < MAX_POINTS in
+    subst P (sym same) (λ some. label_small n (IsAdjacent n) (tables_of c.args.cells.now.numbers) c.args.size.in_range c.requires.tidy (slice_index c.args.beside.now k)
     ((c.requires.beside.are k below).1, some))
 
 pub returns-clause-occupied : goal.returns-clause-occupied
 returns-clause-occupied g c =
     let n = lines_of c.args.size in
     IsOccupied_written n (square-le n c.args.size.in_range)
-    c.args.cells.now c.deprive.new.cells c.replace.new.cells c.put.new.cells c.put-2.new.cells c.put-3.new.cells c.fill_words.new.cells
+    c.args.cells.now.numbers c.deprive.new.cells.numbers c.replace.new.cells.numbers c.put.new.cells.numbers c.put-2.new.cells.numbers c.put-3.new.cells.numbers c.fill_words.new.cells.numbers
     c.empty_of-words.result c.args.beside.now c.args.point c.args.colour
     c.requires.tidy c.requires.point c.requires.empty c.requires.colour c.requires.beside c.empty_of-words.ensures.marks c.deprive.ensures.deprived
     c.replace.ensures.written c.put.ensures.written c.put-2.ensures.written c.put-3.ensures.written (words_for (n * n)) (omega arith) c.fill_words.ensures.filled
 
 pub returns-clause-logged : goal.returns-clause-logged
 returns-clause-logged g c =
-    let old = c.args.cells.now in
+    let old = c.args.cells.now.numbers in
     let xs = c.args.changes.now.items in
-    let one = Logged_then old c.deprive.new.cells c.replace.new.cells xs c.deprive.new.changes.items c.replace.new.changes.items 4 1 5 c.deprive.ensures.logged c.replace.ensures.logged (omega arith) in
-    let two = Logged_then old c.replace.new.cells c.put.new.cells xs c.replace.new.changes.items c.put.new.changes.items 5 1 6 one c.put.ensures.logged (omega arith) in
-    let three = Logged_then old c.put.new.cells c.put-2.new.cells xs c.put.new.changes.items c.put-2.new.changes.items 6 1 7 two c.put-2.ensures.logged (omega arith) in
-    let four = Logged_then old c.put-2.new.cells c.put-3.new.cells xs c.put-2.new.changes.items c.put-3.new.changes.items 7 1 8 three c.put-3.ensures.logged (omega arith) in
-    Logged_then old c.put-3.new.cells c.fill_words.new.cells xs c.put-3.new.changes.items c.fill_words.new.changes.items 8 WORDS (WORDS + 8) four c.fill_words.ensures.logged (omega arith)
+    let one = Logged_then c.args.cells.now c.deprive.new.cells c.replace.new.cells xs c.deprive.new.changes.items c.replace.new.changes.items 4 1 5 c.deprive.ensures.logged c.replace.ensures.logged (omega arith) in
+    let two = Logged_then c.args.cells.now c.replace.new.cells c.put.new.cells xs c.replace.new.changes.items c.put.new.changes.items 5 1 6 one c.put.ensures.logged (omega arith) in
+    let three = Logged_then c.args.cells.now c.put.new.cells c.put-2.new.cells xs c.put.new.changes.items c.put-2.new.changes.items 6 1 7 two c.put-2.ensures.logged (omega arith) in
+    let four = Logged_then c.args.cells.now c.put-2.new.cells c.put-3.new.cells xs c.put-2.new.changes.items c.put-3.new.changes.items 7 1 8 three c.put-3.ensures.logged (omega arith) in
+    Logged_then c.args.cells.now c.put-3.new.cells c.fill_words.new.cells xs c.put-3.new.changes.items c.fill_words.new.changes.items 8 WORDS (WORDS + 8) four c.fill_words.ensures.logged (omega arith)

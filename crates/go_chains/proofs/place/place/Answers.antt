@@ -14,49 +14,49 @@ use Rattle.go_chains.proofs.Taking.{still_two}
 use Rattle.go_chains.proofs.place.place.Goals as goal
 
 pub occupy-requires-clause-tidy : goal.occupy-requires-clause-tidy
-occupy-requires-clause-tidy g c = tidy-kept (lines_of c.args.size) c.args.cells.now c.requires.kept
+occupy-requires-clause-tidy g c = tidy-kept (lines_of c.args.size) c.args.cells.now.numbers c.requires.kept
 
 pub connect-requires-clause-tidy : goal.connect-requires-clause-tidy
 connect-requires-clause-tidy g c =
     let n = lines_of c.args.size in
-    IsTidy-occupied (n * n) (IsAdjacent n) (inside n) (apart n) (tables_of c.args.cells.now) (tables_of c.occupy.new.cells) c.args.point c.code_of-own.result
-    (tidy-kept n c.args.cells.now c.requires.kept) c.occupy.ensures.occupied
+    IsTidy-occupied (n * n) (IsAdjacent n) (inside n) (apart n) (tables_of c.args.cells.now.numbers) (tables_of c.occupy.new.cells.numbers) c.args.point c.code_of-own.result
+    (tidy-kept n c.args.cells.now.numbers c.requires.kept) c.occupy.ensures.occupied
 
 pub capture-theirs-requires-clause-whole : goal.capture-theirs-requires-clause-whole
 capture-theirs-requires-clause-whole g c =
     let n = lines_of c.args.size in
-    let old = c.args.cells.now in
+    let old = c.args.cells.now.numbers in
     let p = c.args.point in
     let own = c.code_of-own.result in
     let theirs = c.code_of-other.result in
     let beside = c.args.near.now in
     let b = begins n old p c.args.colour c.other.result own theirs c.requires.kept c.requires.point c.requires.empty c.code_of-own.ensures.value c.code_of-own.ensures.range c.other.ensures c.code_of-other.ensures.value c.code_of-other.ensures.range in
-    let j = joins n old c.occupy.new.cells c.connect.new.cells p own beside beside c.requires.near refl c.occupy.ensures.occupied c.connect.ensures.connected c.connect.ensures.tidy in
-    whole_of n old c.occupy.new.cells c.connect.new.cells p c.args.colour own theirs beside b j
+    let j = joins n old c.occupy.new.cells.numbers c.connect.new.cells.numbers p own beside beside c.requires.near refl c.occupy.ensures.occupied c.connect.ensures.connected c.connect.ensures.tidy in
+    whole_of n old c.occupy.new.cells.numbers c.connect.new.cells.numbers p c.args.colour own theirs beside b j
 
 pub capture-theirs-requires-clause-two : goal.capture-theirs-requires-clause-two
 capture-theirs-requires-clause-two g c =
     let n = lines_of c.args.size in
-    let old = c.args.cells.now in
+    let old = c.args.cells.now.numbers in
     let p = c.args.point in
     let own = c.code_of-own.result in
     let theirs = c.code_of-other.result in
     let beside = c.args.near.now in
     let b = begins n old p c.args.colour c.other.result own theirs c.requires.kept c.requires.point c.requires.empty c.code_of-own.ensures.value c.code_of-own.ensures.range c.other.ensures c.code_of-other.ensures.value c.code_of-other.ensures.range in
-    let j = joins n old c.occupy.new.cells c.connect.new.cells p own beside beside c.requires.near refl c.occupy.ensures.occupied c.connect.ensures.connected c.connect.ensures.tidy in
-    two_then n old c.occupy.new.cells c.connect.new.cells p c.args.colour own theirs beside b j
+    let j = joins n old c.occupy.new.cells.numbers c.connect.new.cells.numbers p own beside beside c.requires.near refl c.occupy.ensures.occupied c.connect.ensures.connected c.connect.ensures.tidy in
+    two_then n old c.occupy.new.cells.numbers c.connect.new.cells.numbers p c.args.colour own theirs beside b j
 
 pub take_one-taken-requires-clause-two : goal.take_one-taken-requires-clause-two
 take_one-taken-requires-clause-two g c =
     let n = lines_of c.args.size in
-    let old = c.args.cells.now in
+    let old = c.args.cells.now.numbers in
     let p = c.args.point in
     let own = c.code_of-own.result in
     let theirs = c.code_of-other.result in
     let beside = c.args.near.now in
     let b = begins n old p c.args.colour c.other.result own theirs c.requires.kept c.requires.point c.requires.empty c.code_of-own.ensures.value c.code_of-own.ensures.range c.other.ensures c.code_of-other.ensures.value c.code_of-other.ensures.range in
-    let j = joins n old c.occupy.new.cells c.connect.new.cells p own beside beside c.requires.near refl c.occupy.ensures.occupied c.connect.ensures.connected c.connect.ensures.tidy in
-    (λ s stone. elim (still_two (n * n) (IsAdjacent n) (tables_of c.connect.new.cells) (tables_of c.capture-theirs.new.cells) theirs own c.capture-theirs.ensures.capturing (two_then n old c.occupy.new.cells c.connect.new.cells p c.args.colour own theirs beside b j) s stone) [
+    let j = joins n old c.occupy.new.cells.numbers c.connect.new.cells.numbers p own beside beside c.requires.near refl c.occupy.ensures.occupied c.connect.ensures.connected c.connect.ensures.tidy in
+    (λ s stone. elim (still_two (n * n) (IsAdjacent n) (tables_of c.connect.new.cells.numbers) (tables_of c.capture-theirs.new.cells.numbers) theirs own c.capture-theirs.ensures.capturing (two_then n old c.occupy.new.cells.numbers c.connect.new.cells.numbers p c.args.colour own theirs beside b j) s stone) [
       | inl is ↦ inr is
       | inr is ↦ inl is
     ])
@@ -64,94 +64,94 @@ take_one-taken-requires-clause-two g c =
 pub returns-clause-kept : goal.returns-clause-kept
 returns-clause-kept g c =
     let n = lines_of c.args.size in
-    let old = c.args.cells.now in
+    let old = c.args.cells.now.numbers in
     let p = c.args.point in
     let own = c.code_of-own.result in
     let theirs = c.code_of-other.result in
     let beside = c.args.near.now in
     let b = begins n old p c.args.colour c.other.result own theirs c.requires.kept c.requires.point c.requires.empty c.code_of-own.ensures.value c.code_of-own.ensures.range c.other.ensures c.code_of-other.ensures.value c.code_of-other.ensures.range in
-    let j = joins n old c.occupy.new.cells c.connect.new.cells p own beside beside c.requires.near refl c.occupy.ensures.occupied c.connect.ensures.connected c.connect.ensures.tidy in
-    let t = takes n c.connect.new.cells c.capture-theirs.new.cells c.take_one-taken.new.cells p own theirs beside c.capture-theirs.ensures.capturing c.capture-theirs.ensures.gone c.take_one-taken.ensures.capturing c.take_one-taken.ensures.gone in
-    kept_end n old c.occupy.new.cells c.connect.new.cells c.capture-theirs.new.cells c.take_one-taken.new.cells p c.args.colour own theirs beside b j t
+    let j = joins n old c.occupy.new.cells.numbers c.connect.new.cells.numbers p own beside beside c.requires.near refl c.occupy.ensures.occupied c.connect.ensures.connected c.connect.ensures.tidy in
+    let t = takes n c.connect.new.cells.numbers c.capture-theirs.new.cells.numbers c.take_one-taken.new.cells.numbers p own theirs beside c.capture-theirs.ensures.capturing c.capture-theirs.ensures.gone c.take_one-taken.ensures.capturing c.take_one-taken.ensures.gone in
+    kept_end n old c.occupy.new.cells.numbers c.connect.new.cells.numbers c.capture-theirs.new.cells.numbers c.take_one-taken.new.cells.numbers p c.args.colour own theirs beside b j t
 
 pub returns-clause-colours : goal.returns-clause-colours
 returns-clause-colours g c =
     let n = lines_of c.args.size in
-    let old = c.args.cells.now in
+    let old = c.args.cells.now.numbers in
     let p = c.args.point in
     let own = c.code_of-own.result in
     let theirs = c.code_of-other.result in
     let beside = c.args.near.now in
     let b = begins n old p c.args.colour c.other.result own theirs c.requires.kept c.requires.point c.requires.empty c.code_of-own.ensures.value c.code_of-own.ensures.range c.other.ensures c.code_of-other.ensures.value c.code_of-other.ensures.range in
-    let j = joins n old c.occupy.new.cells c.connect.new.cells p own beside beside c.requires.near refl c.occupy.ensures.occupied c.connect.ensures.connected c.connect.ensures.tidy in
-    let t = takes n c.connect.new.cells c.capture-theirs.new.cells c.take_one-taken.new.cells p own theirs beside c.capture-theirs.ensures.capturing c.capture-theirs.ensures.gone c.take_one-taken.ensures.capturing c.take_one-taken.ensures.gone in
-    moved_end n old c.occupy.new.cells c.connect.new.cells c.capture-theirs.new.cells c.take_one-taken.new.cells p c.args.colour own theirs beside b j t c.reaches_by_a_path.ensures
+    let j = joins n old c.occupy.new.cells.numbers c.connect.new.cells.numbers p own beside beside c.requires.near refl c.occupy.ensures.occupied c.connect.ensures.connected c.connect.ensures.tidy in
+    let t = takes n c.connect.new.cells.numbers c.capture-theirs.new.cells.numbers c.take_one-taken.new.cells.numbers p own theirs beside c.capture-theirs.ensures.capturing c.capture-theirs.ensures.gone c.take_one-taken.ensures.capturing c.take_one-taken.ensures.gone in
+    moved_end n old c.occupy.new.cells.numbers c.connect.new.cells.numbers c.capture-theirs.new.cells.numbers c.take_one-taken.new.cells.numbers p c.args.colour own theirs beside b j t c.reaches_by_a_path.ensures
 
 pub returns-clause-theirs : goal.returns-clause-theirs
 returns-clause-theirs g c =
     let n = lines_of c.args.size in
-    let old = c.args.cells.now in
+    let old = c.args.cells.now.numbers in
     let p = c.args.point in
     let own = c.code_of-own.result in
     let theirs = c.code_of-other.result in
     let beside = c.args.near.now in
     let b = begins n old p c.args.colour c.other.result own theirs c.requires.kept c.requires.point c.requires.empty c.code_of-own.ensures.value c.code_of-own.ensures.range c.other.ensures c.code_of-other.ensures.value c.code_of-other.ensures.range in
-    let j = joins n old c.occupy.new.cells c.connect.new.cells p own beside beside c.requires.near refl c.occupy.ensures.occupied c.connect.ensures.connected c.connect.ensures.tidy in
-    let t = takes n c.connect.new.cells c.capture-theirs.new.cells c.take_one-taken.new.cells p own theirs beside c.capture-theirs.ensures.capturing c.capture-theirs.ensures.gone c.take_one-taken.ensures.capturing c.take_one-taken.ensures.gone in
-    theirs_end n old c.occupy.new.cells c.connect.new.cells c.capture-theirs.new.cells c.take_one-taken.new.cells p c.args.colour own theirs beside b j t c.capture-theirs.result c.capture-theirs.ensures.stones
+    let j = joins n old c.occupy.new.cells.numbers c.connect.new.cells.numbers p own beside beside c.requires.near refl c.occupy.ensures.occupied c.connect.ensures.connected c.connect.ensures.tidy in
+    let t = takes n c.connect.new.cells.numbers c.capture-theirs.new.cells.numbers c.take_one-taken.new.cells.numbers p own theirs beside c.capture-theirs.ensures.capturing c.capture-theirs.ensures.gone c.take_one-taken.ensures.capturing c.take_one-taken.ensures.gone in
+    theirs_end n old c.occupy.new.cells.numbers c.connect.new.cells.numbers c.capture-theirs.new.cells.numbers c.take_one-taken.new.cells.numbers p c.args.colour own theirs beside b j t c.capture-theirs.result c.capture-theirs.ensures.stones
 
 pub returns-clause-own : goal.returns-clause-own
 returns-clause-own g c =
     let n = lines_of c.args.size in
-    let old = c.args.cells.now in
+    let old = c.args.cells.now.numbers in
     let p = c.args.point in
     let own = c.code_of-own.result in
     let theirs = c.code_of-other.result in
     let beside = c.args.near.now in
     let b = begins n old p c.args.colour c.other.result own theirs c.requires.kept c.requires.point c.requires.empty c.code_of-own.ensures.value c.code_of-own.ensures.range c.other.ensures c.code_of-other.ensures.value c.code_of-other.ensures.range in
-    let j = joins n old c.occupy.new.cells c.connect.new.cells p own beside beside c.requires.near refl c.occupy.ensures.occupied c.connect.ensures.connected c.connect.ensures.tidy in
-    let t = takes n c.connect.new.cells c.capture-theirs.new.cells c.take_one-taken.new.cells p own theirs beside c.capture-theirs.ensures.capturing c.capture-theirs.ensures.gone c.take_one-taken.ensures.capturing c.take_one-taken.ensures.gone in
-    own_end n old c.occupy.new.cells c.connect.new.cells c.capture-theirs.new.cells c.take_one-taken.new.cells p c.args.colour own theirs beside b j t c.take_one-taken.result c.take_one-taken.ensures.stones
+    let j = joins n old c.occupy.new.cells.numbers c.connect.new.cells.numbers p own beside beside c.requires.near refl c.occupy.ensures.occupied c.connect.ensures.connected c.connect.ensures.tidy in
+    let t = takes n c.connect.new.cells.numbers c.capture-theirs.new.cells.numbers c.take_one-taken.new.cells.numbers p own theirs beside c.capture-theirs.ensures.capturing c.capture-theirs.ensures.gone c.take_one-taken.ensures.capturing c.take_one-taken.ensures.gone in
+    own_end n old c.occupy.new.cells.numbers c.connect.new.cells.numbers c.capture-theirs.new.cells.numbers c.take_one-taken.new.cells.numbers p c.args.colour own theirs beside b j t c.take_one-taken.result c.take_one-taken.ensures.stones
 
 pub returns-clause-logged : goal.returns-clause-logged
 returns-clause-logged g c =
     let n = lines_of c.args.size in
-    let old = c.args.cells.now in
+    let old = c.args.cells.now.numbers in
     let p = c.args.point in
     let own = c.code_of-own.result in
     let theirs = c.code_of-other.result in
     let beside = c.args.near.now in
     let b = begins n old p c.args.colour c.other.result own theirs c.requires.kept c.requires.point c.requires.empty c.code_of-own.ensures.value c.code_of-own.ensures.range c.other.ensures c.code_of-other.ensures.value c.code_of-other.ensures.range in
-    let j = joins n old c.occupy.new.cells c.connect.new.cells p own beside beside c.requires.near refl c.occupy.ensures.occupied c.connect.ensures.connected c.connect.ensures.tidy in
-    let t = takes n c.connect.new.cells c.capture-theirs.new.cells c.take_one-taken.new.cells p own theirs beside c.capture-theirs.ensures.capturing c.capture-theirs.ensures.gone c.take_one-taken.ensures.capturing c.take_one-taken.ensures.gone in
+    let j = joins n old c.occupy.new.cells.numbers c.connect.new.cells.numbers p own beside beside c.requires.near refl c.occupy.ensures.occupied c.connect.ensures.connected c.connect.ensures.tidy in
+    let t = takes n c.connect.new.cells.numbers c.capture-theirs.new.cells.numbers c.take_one-taken.new.cells.numbers p own theirs beside c.capture-theirs.ensures.capturing c.capture-theirs.ensures.gone c.take_one-taken.ensures.capturing c.take_one-taken.ensures.gone in
     let m = stones_beside n (colouring_of n old) c.args.colour p in
     let taken = stones_taken n (colouring_of n old) c.args.colour p in
-    let joined = size_then n old c.occupy.new.cells c.connect.new.cells p c.args.colour own theirs beside b j c.joined_by_a_path.ensures in
-    let captured = size_end n old c.occupy.new.cells c.connect.new.cells c.capture-theirs.new.cells c.take_one-taken.new.cells p c.args.colour own theirs beside b j t c.joined_by_a_path.ensures in
-    let taken_is = taken_end n old c.occupy.new.cells c.connect.new.cells c.capture-theirs.new.cells c.take_one-taken.new.cells p c.args.colour own theirs beside b j t c.reaches_by_a_path.ensures c.capture-theirs.result (theirs_end n old c.occupy.new.cells c.connect.new.cells c.capture-theirs.new.cells c.take_one-taken.new.cells p c.args.colour own theirs beside b j t c.capture-theirs.result c.capture-theirs.ensures.stones) in
+    let joined = size_then n old c.occupy.new.cells.numbers c.connect.new.cells.numbers p c.args.colour own theirs beside b j c.joined_by_a_path.ensures in
+    let captured = size_end n old c.occupy.new.cells.numbers c.connect.new.cells.numbers c.capture-theirs.new.cells.numbers c.take_one-taken.new.cells.numbers p c.args.colour own theirs beside b j t c.joined_by_a_path.ensures in
+    let taken_is = taken_end n old c.occupy.new.cells.numbers c.connect.new.cells.numbers c.capture-theirs.new.cells.numbers c.take_one-taken.new.cells.numbers p c.args.colour own theirs beside b j t c.reaches_by_a_path.ensures c.capture-theirs.result (theirs_end n old c.occupy.new.cells.numbers c.connect.new.cells.numbers c.capture-theirs.new.cells.numbers c.take_one-taken.new.cells.numbers p c.args.colour own theirs beside b j t c.capture-theirs.result c.capture-theirs.ensures.stones) in
     let bound = c.take_one-taken.ensures.bound in
     let xs = c.args.changes.now.items in
-    let j1 = size_of c.connect.new.cells (label_of c.connect.new.cells p) - size_of c.occupy.new.cells (label_of c.occupy.new.cells p) + 4 * (WORDS + 3) in
-    let one = Logged_then old c.occupy.new.cells c.connect.new.cells xs c.occupy.new.changes.items c.connect.new.changes.items (WORDS + 8) j1 (WORDS + 8 + j1) c.occupy.ensures.logged c.connect.ensures.logged (omega arith) in
-    let two = Logged_then old c.connect.new.cells c.capture-theirs.new.cells xs c.connect.new.changes.items c.capture-theirs.new.changes.items (WORDS + 8 + j1) (5 * c.capture-theirs.result) (WORDS + 8 + j1 + 5 * c.capture-theirs.result) one c.capture-theirs.ensures.logged (omega arith) in
-    Logged_then old c.capture-theirs.new.cells c.take_one-taken.new.cells xs c.capture-theirs.new.changes.items c.take_one-taken.new.changes.items (WORDS + 8 + j1 + 5 * c.capture-theirs.result) (5 * c.take_one-taken.result) (128 + 8 * (m + taken)) two c.take_one-taken.ensures.logged (omega arith)
+    let j1 = size_of c.connect.new.cells.numbers (label_of c.connect.new.cells.numbers p) - size_of c.occupy.new.cells.numbers (label_of c.occupy.new.cells.numbers p) + 4 * (WORDS + 3) in
+    let one = Logged_then c.args.cells.now c.occupy.new.cells c.connect.new.cells xs c.occupy.new.changes.items c.connect.new.changes.items (WORDS + 8) j1 (WORDS + 8 + j1) c.occupy.ensures.logged c.connect.ensures.logged (omega arith) in
+    let two = Logged_then c.args.cells.now c.connect.new.cells c.capture-theirs.new.cells xs c.connect.new.changes.items c.capture-theirs.new.changes.items (WORDS + 8 + j1) (5 * c.capture-theirs.result) (WORDS + 8 + j1 + 5 * c.capture-theirs.result) one c.capture-theirs.ensures.logged (omega arith) in
+    Logged_then c.args.cells.now c.capture-theirs.new.cells c.take_one-taken.new.cells xs c.capture-theirs.new.changes.items c.take_one-taken.new.changes.items (WORDS + 8 + j1 + 5 * c.capture-theirs.result) (5 * c.take_one-taken.result) (128 + 8 * (m + taken)) two c.take_one-taken.ensures.logged (omega arith)
 
 pub returns-clause-count : goal.returns-clause-count
 returns-clause-count g c =
     let n = lines_of c.args.size in
-    let old = c.args.cells.now in
+    let old = c.args.cells.now.numbers in
     let p = c.args.point in
     let own = c.code_of-own.result in
     let theirs = c.code_of-other.result in
     let beside = c.args.near.now in
     let b = begins n old p c.args.colour c.other.result own theirs c.requires.kept c.requires.point c.requires.empty c.code_of-own.ensures.value c.code_of-own.ensures.range c.other.ensures c.code_of-other.ensures.value c.code_of-other.ensures.range in
-    let j = joins n old c.occupy.new.cells c.connect.new.cells p own beside beside c.requires.near refl c.occupy.ensures.occupied c.connect.ensures.connected c.connect.ensures.tidy in
-    let t = takes n c.connect.new.cells c.capture-theirs.new.cells c.take_one-taken.new.cells p own theirs beside c.capture-theirs.ensures.capturing c.capture-theirs.ensures.gone c.take_one-taken.ensures.capturing c.take_one-taken.ensures.gone in
+    let j = joins n old c.occupy.new.cells.numbers c.connect.new.cells.numbers p own beside beside c.requires.near refl c.occupy.ensures.occupied c.connect.ensures.connected c.connect.ensures.tidy in
+    let t = takes n c.connect.new.cells.numbers c.capture-theirs.new.cells.numbers c.take_one-taken.new.cells.numbers p own theirs beside c.capture-theirs.ensures.capturing c.capture-theirs.ensures.gone c.take_one-taken.ensures.capturing c.take_one-taken.ensures.gone in
     let m = stones_beside n (colouring_of n old) c.args.colour p in
     let taken = stones_taken n (colouring_of n old) c.args.colour p in
-    let joined = size_then n old c.occupy.new.cells c.connect.new.cells p c.args.colour own theirs beside b j c.joined_by_a_path.ensures in
-    let captured = size_end n old c.occupy.new.cells c.connect.new.cells c.capture-theirs.new.cells c.take_one-taken.new.cells p c.args.colour own theirs beside b j t c.joined_by_a_path.ensures in
-    let taken_is = taken_end n old c.occupy.new.cells c.connect.new.cells c.capture-theirs.new.cells c.take_one-taken.new.cells p c.args.colour own theirs beside b j t c.reaches_by_a_path.ensures c.capture-theirs.result (theirs_end n old c.occupy.new.cells c.connect.new.cells c.capture-theirs.new.cells c.take_one-taken.new.cells p c.args.colour own theirs beside b j t c.capture-theirs.result c.capture-theirs.ensures.stones) in
+    let joined = size_then n old c.occupy.new.cells.numbers c.connect.new.cells.numbers p c.args.colour own theirs beside b j c.joined_by_a_path.ensures in
+    let captured = size_end n old c.occupy.new.cells.numbers c.connect.new.cells.numbers c.capture-theirs.new.cells.numbers c.take_one-taken.new.cells.numbers p c.args.colour own theirs beside b j t c.joined_by_a_path.ensures in
+    let taken_is = taken_end n old c.occupy.new.cells.numbers c.connect.new.cells.numbers c.capture-theirs.new.cells.numbers c.take_one-taken.new.cells.numbers p c.args.colour own theirs beside b j t c.reaches_by_a_path.ensures c.capture-theirs.result (theirs_end n old c.occupy.new.cells.numbers c.connect.new.cells.numbers c.capture-theirs.new.cells.numbers c.take_one-taken.new.cells.numbers p c.args.colour own theirs beside b j t c.capture-theirs.result c.capture-theirs.ensures.stones) in
     let bound = c.take_one-taken.ensures.bound in
     let a = c.occupy.ensures.count in
     let e = c.connect.ensures.count in

@@ -10,8 +10,8 @@ use Rattle.go_chains.proofs.board.Board.play.Goals as goal
 pub invariant_of-log-2 : goal.invariant_of-log-2
 invariant_of-log-2 g c =
     let n = lines_of c.self.inside.size in
-    (closed c.self.inside.cells c.place-taken.new.cells c.log.inside.changes.items c.reserve_play.new.changes.items c.place-taken.new.changes.items
-    c.log.inside.lengths.items c.reserve_play.new.lengths.items c.seal.new.lengths.items c.args.log.now (most_of n (colouring_of n c.self.inside.cells) c.args.colour c.from-point.result)
+    (closed n n c.self.inside.cells c.place-taken.new.cells c.log.inside.changes.items c.reserve_play.new.changes.items c.place-taken.new.changes.items
+    c.log.inside.lengths.items c.reserve_play.new.lengths.items c.seal.new.lengths.items c.args.log.now (most_of n (colouring_of n c.self.inside.cells.numbers) c.args.colour c.from-point.result)
     (c.len.result - c.len-before.result) c.log.invariant c.log.view_is
     c.in_ok-reserve_play.ensures.changes c.in_ok-reserve_play.ensures.lengths c.place-taken.ensures.logged (omega arith) c.seal.ensures).whole
 
@@ -21,9 +21,9 @@ returns-clause-logged g c =
     let at : c.from-point.result ≡ number_of n c.args.p = c.from-point.ensures ∙ c.index.ensures.value in
     let new = c.place-taken.new in
     let xs = c.reserve_play.new.changes.items in
-    let Here : ℕ → Type 0 = λ k. Logged c.self.inside.cells new.cells xs new.changes.items (most_of n (colouring_of n c.self.inside.cells) c.args.colour k) in
-    let There : BoardValue → Type 0 = λ b. Logged b.cells new.cells xs new.changes.items (most_of b.lines (grid_of b) c.args.colour (number_of b.lines c.args.p)) in
-    (closed c.args.self.now.cells new.cells c.log.inside.changes.items xs new.changes.items
+    let Here : ℕ → Type 0 = λ k. Logged c.self.inside.cells new.cells xs new.changes.items (most_of n (colouring_of n c.self.inside.cells.numbers) c.args.colour k) in
+    let There : BoardValue → Type 0 = λ b. Logged (record { numbers = b.cells; trace = b.trace }) new.cells xs new.changes.items (most_of b.lines (grid_of b) c.args.colour (number_of b.lines c.args.p)) in
+    (closed c.args.self.now.lines n (record { numbers = c.args.self.now.cells; trace = c.args.self.now.trace }) new.cells c.log.inside.changes.items xs new.changes.items
     c.log.inside.lengths.items c.reserve_play.new.lengths.items c.seal.new.lengths.items c.args.log.now
     (most_of c.args.self.now.lines (grid_of c.args.self.now) c.args.colour (number_of c.args.self.now.lines c.args.p))
     (c.len.result - c.len-before.result) c.log.invariant c.log.view_is
@@ -32,8 +32,8 @@ returns-clause-logged g c =
 pub returns-clause-ticked : goal.returns-clause-ticked
 returns-clause-ticked g c changes split =
     let n = lines_of c.self.inside.size in
-    let size = (closed c.self.inside.cells c.place-taken.new.cells c.log.inside.changes.items c.reserve_play.new.changes.items c.place-taken.new.changes.items
-    c.log.inside.lengths.items c.reserve_play.new.lengths.items c.seal.new.lengths.items c.args.log.now (most_of n (colouring_of n c.self.inside.cells) c.args.colour c.from-point.result)
+    let size = (closed n n c.self.inside.cells c.place-taken.new.cells c.log.inside.changes.items c.reserve_play.new.changes.items c.place-taken.new.changes.items
+    c.log.inside.lengths.items c.reserve_play.new.lengths.items c.seal.new.lengths.items c.args.log.now (most_of n (colouring_of n c.self.inside.cells.numbers) c.args.colour c.from-point.result)
     (c.len.result - c.len-before.result) c.log.invariant c.log.view_is
     c.in_ok-reserve_play.ensures.changes c.in_ok-reserve_play.ensures.lengths c.place-taken.ensures.logged (omega arith) c.seal.ensures).size changes split in
     let read = c.get.ensures.count in

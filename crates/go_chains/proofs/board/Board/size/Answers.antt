@@ -5,4 +5,4 @@ use Rattle.go_chains.proofs.Bridge.{length-colouring}
 use Rattle.go_chains.proofs.board.Board.size.Goals as goal
 
 pub returns-clause-whole : goal.returns-clause-whole
-returns-clause-whole c = ap (λ b. length (grid_of b)) (sym c.self.view_is) ∙ length-colouring (lines_of c.self.inside.size) c.self.inside.cells
+returns-clause-whole c = ap (λ b. length (grid_of b)) (sym c.self.view_is) ∙ length-colouring (lines_of c.self.inside.size) c.self.inside.cells.numbers

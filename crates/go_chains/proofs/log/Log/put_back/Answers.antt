@@ -1,6 +1,6 @@
 use Rattle.std.proofs.Common.{◌≡◌, ◌∙◌, ◌++◌, ◌∷◌, [], length, ap, sym, arith, option_to_list}
 use Rattle.std.proofs.lemmas.List.{same_from_push}
-use Rattle.go_chains.specs.Rewound.{plays_of, rewound}
+use Rattle.go_chains.specs.Rewound.{plays_of, rewound, undone}
 use Rattle.go_chains.proofs.Rewinding.{is_last}
 use Rattle.go_chains.proofs.log.Log.put_back.Goals as goal
 
@@ -27,7 +27,8 @@ returns-in-Some g c earlier changes is =
     let last = is_last c.pop.new.self.items c.self.inside.lengths.items c.in-Some.count c.self.inside.changes.items c.args.self.now split c.self.invariant c.self.view_is in
     let same = same_from_push _ _ _ _ (sym last.is ∙ is) in
     record {
-      cells = c.put_back_changes.ensures.cells ∙ ap (rewound c.args.cells.now) same.1;
+      cells = c.put_back_changes.ensures.cells ∙ ap (rewound c.args.cells.now.numbers) same.1;
+      traced = c.put_back_changes.ensures.traced ∙ ap (λ l. c.args.cells.now.trace ++ undone c.args.cells.now.numbers l) same.1;
       dropped = ap (plays_of c.pop.new.self.items) c.put_back_changes.ensures.changes ∙ same.0;
       count = omega (arith, ap length same.1, last.size);
     }

@@ -1,6 +1,6 @@
 use Rattle.std.proofs.Common.{arith, ◌∙◌, ◌+◌, ◌++◌, ◌∷◌, [], ℕ, List, ap, sym, subst}
 use Rattle.go_history.specs.Histories.{IsForgotten}
-use Rattle.go_chains.specs.declared.log.Change.{Change}
+use Rattle.go_chains.specs.declared.change.Change.{Change}
 use Rattle.go_game.specs.Counts.{IsTakenBack}
 use Rattle.go_board.specs.PackBytes.{bytes_of}
 use Rattle.go_game.specs.Standings.{GameValue, mover_by}
