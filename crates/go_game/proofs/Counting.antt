@@ -1,6 +1,6 @@
 -- What a move's changes are among those of a game, and what taking it back gives.
 use Rattle.go_game.specs.declared.superko.Superko.{Superko}
-use Rattle.std.proofs.Common.{arith, ◌≡◌, ◌≤◌, ◌+◌, ◌∙◌, ℕ, zero, suc, ℤ, List, [], ◌∷◌, ◌++◌, length, map, refl, sym, ap, ap₂, subst}
+use Rattle.std.proofs.Common.{arith, ◌≡◌, ◌≤◌, ◌+◌, ◌*◌, ◌∙◌, ℕ, zero, suc, ℤ, List, [], ◌∷◌, ◌++◌, length, length-append, map, slice_index, refl, sym, ap, ap₂, subst}
 use Rattle.std.proofs.lemmas.List.{append-nil, same_from_push}
 use Rattle.go_board.specs.declared.colour.Colour.{Colour}
 use Rattle.go_board.specs.declared.point.Point.{Point}
@@ -9,7 +9,7 @@ use Rattle.go_board.specs.declared.vertex.Vertex.{Vertex}
 use Rattle.go_board.specs.declared.vertex.Vertex.TheVariants.{Pass, At}
 use Rattle.go_board.specs.Grids.{GridValue}
 use Rattle.go_chains.specs.declared.change.Change.{Change}
-use Rattle.go_chains.specs.Rewound.{PlayLogged, rewound}
+use Rattle.go_chains.specs.Rewound.{IsRewound, PlayLogged, rewound, undone}
 use Rattle.go_chains.specs.Sound.{BoardValue}
 use Rattle.go_history.specs.Histories.{HistoryValue}
 use Rattle.go_game.specs.declared.step.Step.{Step}
@@ -50,7 +50,7 @@ as_many (m ∷ moves) plays = let same = as_many moves (plays_behind m.vertex pl
 
 -- what contracts see of what a game keeps
 abbrev pub seen : Superko → GridValue → ℤ → Colour → List Step → BoardValue → List (List Change) → ℕ → GameValue
-seen rule start komi first steps b log count = record { standing = standing_of rule start komi first steps; cells = b.cells; changes = changes_of (map made_of steps) log; count = count }
+seen rule start komi first steps b log count = record { standing = standing_of rule start komi first steps; cells = b.cells; changes = changes_of (map made_of steps) log; trace = b.trace; count = count }
 
 module _ (rule : Superko) (start : GridValue) (komi : ℤ) (first : Colour) (steps : List Step) (b : BoardValue) (log : List (List Change)) (history : HistoryValue) (black white : ℕ)
     (k : IsKeeping rule start komi first steps b log history black white) (more : List Step) (s : Step) (is : more ≡ steps ++ s ∷ []) where
@@ -71,14 +71,15 @@ module _ (rule : Superko) (start : GridValue) (komi : ℤ) (first : Colour) (ste
       ∙ ap (λ (v : Vertex). changes_of (map made_of steps) log ++ own_changes v (own ∷ []) ∷ []) at
 
   pub logged_pass : s.made.vertex ≡ Pass → (count : ℕ) → IsLogged (seen rule start komi first steps b log count) (seen rule start komi first more b log count) 0
-  logged_pass pass count = record { own = []; gained = changes_pass pass; back = refl; few = omega arith; ticked = omega arith }
+  logged_pass pass count = record { own = []; gained = changes_pass pass; traced = sym (append-nil b.trace); back = refl; few = omega arith; ticked = omega arith }
 
-  pub logged_put : (p : Point) → s.made.vertex ≡ At p → (b' : BoardValue) (log' : List (List Change)) (most most' count count' : ℕ) → PlayLogged b.cells b'.cells log log' most → most ≡ most'
+  pub logged_put : (p : Point) → s.made.vertex ≡ At p → (b' : BoardValue) (log' : List (List Change)) (most most' count count' : ℕ) → PlayLogged b b' log log' most → most ≡ most'
       → ((own : List Change) → log' ≡ log ++ own ∷ [] → count + length own ≤ count')
       → IsLogged (seen rule start komi first steps b log count) (seen rule start komi first more b' log' count') most'
   logged_put p at b' log' most most' count count' logged is_most ticked = record {
     own = logged.changes;
     gained = changes_put p at log' logged.changes logged.gained;
+    traced = logged.traced;
     back = logged.back;
     few = subst (λ m. let few : Type 0 = length logged.changes ≤ m in few) is_most logged.few;
     ticked = ticked logged.changes logged.gained;
@@ -86,11 +87,24 @@ module _ (rule : Superko) (start : GridValue) (komi : ℤ) (first : Colour) (ste
 
   -- the move taken back again
   pub taken_back_pass : s.made.vertex ≡ Pass → (count : ℕ) → IsTakenBack (seen rule start komi first more b log count) (seen rule start komi first steps b log count)
-  taken_back_pass pass count = record { own = []; lost = changes_pass pass; cells = refl; count = omega arith }
+  taken_back_pass pass count = record { own = []; lost = changes_pass pass; cells = refl; traced = sym (append-nil b.trace); count = omega arith }
 
-  pub taken_back_put : (p : Point) → s.made.vertex ≡ At p → (b' : BoardValue) (log' : List (List Change)) (own : List Change) (count count' : ℕ) → log' ≡ log ++ own ∷ [] → b.cells ≡ rewound b'.cells own → count' ≡ count + length own
+  pub taken_back_put : (p : Point) → s.made.vertex ≡ At p → (b' : BoardValue) (log' : List (List Change)) (own : List Change) (count count' : ℕ) → log' ≡ log ++ own ∷ [] → b.cells ≡ rewound b'.cells own → b.trace ≡ b'.trace ++ undone b'.cells own → count' ≡ count + length own
       → IsTakenBack (seen rule start komi first more b' log' count) (seen rule start komi first steps b log count')
-  taken_back_put p at b' log' own count count' gained cells ticks = record { own = own; lost = changes_put p at log' own gained; cells = cells; count = ticks }
+  taken_back_put p at b' log' own count count' gained cells traced ticks = record { own = own; lost = changes_put p at log' own gained; cells = cells; traced = traced; count = ticks }
+
+-- as many writes put changes back as they are
+undone-length : (cells : List ℕ) (changes : List Change) → length (undone cells changes) ≡ length changes
+undone-length cells [] = refl
+undone-length cells (x ∷ changes) =
+    let last : List Change = record { place = x.place; old = slice_index (rewound cells changes) x.place } ∷ [] in
+    omega (arith, length-append (undone cells changes) last, undone-length cells changes)
+
+-- what a play wrote that was taken back at once
+pub twice : (before then after : BoardValue) (log log' log'' : List (List Change)) (most ticks ticks' : ℕ) (logged : PlayLogged before then log log' most)
+    → IsRewound then after log'' log logged.changes ticks ticks' → length after.trace ≤ length before.trace + 2 * most
+twice before then after log log' log'' most ticks ticks' logged back =
+    omega (arith, ap length logged.traced, ap length back.traced, length-append before.trace logged.changes, length-append then.trace (undone then.cells logged.changes), undone-length then.cells logged.changes, logged.few)
 
 -- a move played and taken back
 pub as_before : (old mid new : GameValue) (most : ℕ) → IsLogged old mid most → IsTakenBack mid new → new.standing ≡ old.standing → IsAsBefore old new

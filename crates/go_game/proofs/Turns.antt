@@ -141,7 +141,7 @@ pub record IsPut (rule : Superko) (b b' : BoardValue) (log log' : List (List Cha
   pub lines : b'.lines ≡ b.lines
   pub moved_to : grid_of b' ≡ moved b.lines (grid_of b) c (number_of b.lines p)
   pub most : ℕ
-  pub logged : PlayLogged b.cells b'.cells log log' most
+  pub logged : PlayLogged b b' log log' most
   pub kept : IsKept b'.lines b'.cells
   pub packs : bytes_of key.pack ≡ packed_of (grid_of b')
   pub mover : key.mover ≡ mover_by rule (other c)
@@ -205,7 +205,7 @@ keep_back rule start komi first steps steps' b b' log log' history history' blac
 
 -- what was just logged can be put back
 pub rewinds : (rule : Superko) (start : GridValue) (komi : ℤ) (first : Colour) (steps : List Step) (b b' : BoardValue) (log log' : List (List Change)) (history : HistoryValue) (black white most : ℕ)
-    → IsKeeping rule start komi first steps b log history black white → b'.lines ≡ b.lines → PlayLogged b.cells b'.cells log log' most
+    → IsKeeping rule start komi first steps b log history black white → b'.lines ≡ b.lines → PlayLogged b b' log log' most
     → (earlier : List (List Change)) (changes : List Change) → log' ≡ earlier ++ changes ∷ [] → NamesCells COUNT changes × IsKept b'.lines (rewound b'.cells changes)
 rewinds rule start komi first steps b b' log log' history black white most k lines logged earlier changes split =
     let last = same_from_push _ _ _ _ (sym logged.gained ∙ split) in
@@ -215,7 +215,7 @@ rewinds rule start komi first steps b b' log log' history black white most k lin
 
 -- the play taken back, as rewinding leaves it
 pub keep_rewound : (rule : Superko) (start : GridValue) (komi : ℤ) (first : Colour) (steps steps' : List Step) (b b' b'' : BoardValue) (log log' log'' : List (List Change)) (history history' : HistoryValue) (black white most before after : ℕ)
-    → IsKeeping rule start komi first steps b log history black white → b'.lines ≡ b.lines → (logged : PlayLogged b.cells b'.cells log log' most)
+    → IsKeeping rule start komi first steps b log history black white → b'.lines ≡ b.lines → (logged : PlayLogged b b' log log' most)
     → IsRewound b' b'' log'' log logged.changes before after → steps' ≡ steps → IsUnchanged history history' → IsKeeping rule start komi first steps' b'' log'' history' black white
 keep_rewound rule start komi first steps steps' b b' b'' log log' log'' history history' black white most before after k lines logged back same unchanged =
     keep_back rule start komi first steps steps' b b'' log log'' history history' black white k same (back.lines ∙ lines) (back.cells ∙ logged.back) back.dropped unchanged

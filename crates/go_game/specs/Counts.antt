@@ -6,7 +6,7 @@ use Rattle.go_board.specs.declared.vertex.Vertex.TheVariants.{Pass, At}
 use Rattle.go_board.specs.Points.{number_of}
 use Rattle.go_chains.specs.declared.change.Change.{Change}
 use Rattle.go_chains.specs.Playing.{most_of}
-use Rattle.go_chains.specs.Rewound.{rewound}
+use Rattle.go_chains.specs.Rewound.{rewound, undone}
 use Rattle.go_game.specs.Standings.{GameValue, Standing, board_of}
 
 -- the most changes that a turn makes: a pass makes none
@@ -21,20 +21,23 @@ pub record IsAsBefore (old new : GameValue) : Type 0 where
   pub changes : new.changes ≡ old.changes
   pub onward : old.count ≤ new.count
 
--- a turn's changes came behind those of the earlier moves: at most so many, each of them counted,
--- and put back they give the cells before it
+-- a turn's changes came behind those of the earlier moves: at most so many, each of them counted, they are all
+-- writes to the cells, and put back they give the cells before it
 pub record IsLogged (old new : GameValue) (most : ℕ) : Type 0 where
   pub own : List Change
   pub gained : new.changes ≡ old.changes ++ own ∷ []
+  pub traced : new.trace ≡ old.trace ++ own
   pub back : rewound new.cells own ≡ old.cells
   pub few : length own ≤ most
   pub ticked : old.count + length own ≤ new.count
 
--- the last move's changes were put back, each at one tick, and those of the earlier moves stay
+-- the last move's changes were put back, each at one tick, nothing else was written, and those of the
+-- earlier moves stay
 pub record IsTakenBack (old new : GameValue) : Type 0 where
   pub own : List Change
   pub lost : old.changes ≡ new.changes ++ own ∷ []
   pub cells : new.cells ≡ rewound old.cells own
+  pub traced : new.trace ≡ old.trace ++ undone old.cells own
   pub count : new.count ≡ old.count + length own
 
 -- so many moves were played, one after the other

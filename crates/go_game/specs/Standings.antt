@@ -25,12 +25,13 @@ pub record Standing : Type 0 where
   pub first : Colour
   pub moves : List Move
 
--- what contracts see of a game: what it stands for, the cells of its board, the changes of each move that stands, and how many
--- cells were read or written
+-- what contracts see of a game: what it stands for, the cells of its board, the changes of each move that stands, all writes
+-- to the cells so far, and how many cells were read or written
 pub record GameValue : Type 0 where
   pub standing : Standing
   pub cells : List ℕ
   pub changes : List (List Change)
+  pub trace : List Change
   pub count : ℕ
 
 -- the colouring that a turn leaves: a pass leaves it as it is

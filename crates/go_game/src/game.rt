@@ -1,4 +1,4 @@
-ghost use Rattle.std.specs.Prelude.{◌≡◌, ◌<◌, ◌++◌, ◌∷◌, ◌*◌, ◌^◌, [], ◌↔◌, ℕ, pos, false, Err, IfOk, IfErr, IfNone, IfSome, OnErr, OnOk, Contains, length, slice_get};
+ghost use Rattle.std.specs.Prelude.{◌≡◌, ◌<◌, ◌+◌, ◌++◌, ◌∷◌, ◌*◌, ◌^◌, [], ◌↔◌, ℕ, pos, false, Err, IfOk, IfErr, IfNone, IfSome, OnErr, OnOk, Contains, length, slice_get};
 
 use crate::Superko;
 use crate::prisoners::Prisoners;
@@ -42,6 +42,7 @@ impl<A: Allocator + Copy> Model for Game<A> {
       standing = standing_of a.superko a.start a.komi a.first a.steps.items;
       cells = a.board.cells;
       changes = changes_of (map made_of a.steps.items) a.log;
+      trace = a.board.trace;
       count = a.meter;
     } };
 
@@ -71,6 +72,7 @@ impl<A: Allocator + Copy> Game<A> {
     pub fn new(alloc: A, size: Size) -> Game<A>
         ensures start { IsEmptyStart result.standing (lines_of size) (pos 0)
             Superko.Positional }
+        ensures trace { result.trace ≡ [] }
         ensures count { result.count ≡ 0 }
     {
         packs_tell_colourings_apart();
@@ -181,6 +183,8 @@ impl<A: Allocator + Copy> Game<A> {
     pub fn clear(&mut self)
         ensures start { IsEmptyStart self.new.standing self.old.standing.lines
             self.old.standing.komi self.old.standing.rule }
+        ensures writes { length self.new.trace ≡ length self.old.trace
+            + self.old.standing.lines * self.old.standing.lines }
         ensures count { self.new.count ≡ self.old.count }
     {
         self.resize(self.size());
@@ -190,6 +194,8 @@ impl<A: Allocator + Copy> Game<A> {
     pub fn resize(&mut self, size: Size)
         ensures start { IsEmptyStart self.new.standing (lines_of size) self.old.standing.komi
             self.old.standing.rule }
+        ensures writes { length self.new.trace
+            ≡ length self.old.trace + lines_of size * lines_of size }
         ensures count { self.new.count ≡ self.old.count }
     {
         packs_tell_colourings_apart();

@@ -37,8 +37,12 @@ impl<A: Allocator + Copy> Game<A> {
             ≤ self.old.count + 3 * most_for self.old.standing made.colour made.vertex) }
         ensures refused { OnErr result (self.new.count
             ≤ self.old.count + 4 * most_for self.old.standing made.colour made.vertex) }
+        ensures writes { OnErr result (length self.new.trace ≤ length self.old.trace
+            + 2 * most_for self.old.standing made.colour made.vertex) }
         ensures uncounted { (result ≡ Err PlayError.OffBoard) ⊎ (result ≡ Err PlayError.Occupied)
             → self.new.count ≡ self.old.count }
+        ensures unwritten { (result ≡ Err PlayError.OffBoard) ⊎ (result ≡ Err PlayError.Occupied)
+            → self.new.trace ≡ self.old.trace }
         ensures pass { made.vertex ≡ Vertex.Pass → self.new.count ≡ self.old.count }
     {
         match made.vertex {
@@ -98,8 +102,12 @@ impl<A: Allocator + Copy> Game<A> {
             ≤ self.old.count + 3 * most_for self.old.standing colour (Vertex.At p)) }
         ensures refused { OnErr result (self.new.count
             ≤ self.old.count + 4 * most_for self.old.standing colour (Vertex.At p)) }
+        ensures writes { OnErr result (length self.new.trace ≤ length self.old.trace
+            + 2 * most_for self.old.standing colour (Vertex.At p)) }
         ensures uncounted { (result ≡ Err PlayError.OffBoard) ⊎ (result ≡ Err PlayError.Occupied)
             → self.new.count ≡ self.old.count }
+        ensures unwritten { (result ≡ Err PlayError.OffBoard) ⊎ (result ≡ Err PlayError.Occupied)
+            → self.new.trace ≡ self.old.trace }
     {
         taken_and_left();
         packs_tell_colourings_apart();

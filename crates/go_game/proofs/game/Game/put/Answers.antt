@@ -1,4 +1,4 @@
-use Rattle.std.proofs.Common.{arith, ◌≡◌, ◌∙◌, ℕ, None, refl, sym, ap, subst}
+use Rattle.std.proofs.Common.{arith, ◌≡◌, ◌∙◌, ℕ, None, length, refl, sym, ap, subst}
 use Rattle.go_board.specs.PackBytes.{bytes_of}
 use Rattle.std.proofs.Math.ListN.{length-map}
 use Rattle.go_board.specs.declared.vertex.Vertex.TheVariants.{At}
@@ -10,7 +10,7 @@ use Rattle.go_game.specs.Counts.{IsLogged, most_for}
 use Rattle.go_game.specs.Held.{made_of}
 use Rattle.go_game.specs.Playing.{stones_taken}
 use Rattle.go_game.specs.Standings.{GameValue, IsLegal, Repeats, board_of, mover_by}
-use Rattle.go_game.proofs.Counting.{logged_put, seen}
+use Rattle.go_game.proofs.Counting.{logged_put, seen, twice}
 use Rattle.go_game.proofs.Keeping.{some_of}
 use Rattle.go_game.proofs.Played.{room_held}
 use Rattle.go_game.proofs.Puts.{colour_is, free_memory, free_ok, most_is, noted_apart, occupied_stone, same_error, legal_put, played_put, repeats_put, some_stone, stone_some, taken_put}
@@ -124,6 +124,15 @@ returns-in-Err-Memory-clause-refused g c =
     most_is c.self.inside.superko c.self.inside.start c.self.inside.komi c.self.inside.first c.self.inside.steps.items c.self.inside.board c.self.inside.log c.self.inside.history c.self.inside.prisoners.black c.self.inside.prisoners.white c.self.invariant c.args.colour c.args.p ∙ ap (λ (v : GameValue). most_for v.standing c.args.colour (At c.args.p)) c.self.view_is in
     let before : c.self.inside.meter ≡ c.args.self.now.count = ap (λ (v : GameValue). v.count) c.self.view_is in
     let ticks = c.play.ensures.count in omega (arith, most, before, ticks)
+
+pub returns-in-Err-clause-writes : goal.returns-in-Err-clause-writes
+returns-in-Err-clause-writes g c =
+    let most : most_of c.self.inside.board.lines (grid_of c.self.inside.board) c.args.colour (number_of c.self.inside.board.lines c.args.p) ≡ most_for c.args.self.now.standing c.args.colour (At c.args.p) =
+    most_is c.self.inside.superko c.self.inside.start c.self.inside.komi c.self.inside.first c.self.inside.steps.items c.self.inside.board c.self.inside.log c.self.inside.history c.self.inside.prisoners.black c.self.inside.prisoners.white c.self.invariant c.args.colour c.args.p ∙ ap (λ (v : GameValue). most_for v.standing c.args.colour (At c.args.p)) c.self.view_is in
+    let before : length c.self.inside.board.trace ≡ length c.args.self.now.trace = ap (λ (v : GameValue). length v.trace) c.self.view_is in
+    let logged = c.in-Ok.ensures.logged in
+    let written = twice c.self.inside.board c.play.new.self c.rewind.new.self c.self.inside.log c.play.new.log c.rewind.new.log _ _ _ logged (c.rewind.ensures.rewound c.self.inside.log logged.changes logged.gained) in
+    omega (arith, most, before, written)
 
 pub returns-in-Err-clause-refused : goal.returns-in-Err-clause-refused
 returns-in-Err-clause-refused g c =

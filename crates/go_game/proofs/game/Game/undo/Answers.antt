@@ -45,4 +45,4 @@ returns-in-At-clause-back g c =
     let new : GameValue = seen c.self.inside.superko c.self.inside.start c.self.inside.komi c.self.inside.first c.pop.new.self.items c.rewind.new.self c.rewind.new.log c.rewind.new.meter in
     subst (λ (v : GameValue). IsTakenBack v new) c.self.view_is
     (taken_back_put c.self.inside.superko c.self.inside.start c.self.inside.komi c.self.inside.first c.pop.new.self.items c.rewind.new.self c.rewind.new.log c.forget.new.self c.give_back.new.self.black c.give_back.new.self.white less c.self.inside.steps.items c.in_ok-step.step c.in_ok-step.ensures.items c.in-At.field-0 c.in-At.is
-    c.self.inside.board c.self.inside.log play.changes c.self.inside.meter c.rewind.new.meter (play.split ∙ ap (λ (l : List (List Change)). l ++ play.changes ∷ []) (sym put.dropped)) put.cells put.count)
+    c.self.inside.board c.self.inside.log play.changes c.self.inside.meter c.rewind.new.meter (play.split ∙ ap (λ (l : List (List Change)). l ++ play.changes ∷ []) (sym put.dropped)) put.cells put.traced put.count)
