@@ -1,4 +1,4 @@
-ghost use Rattle.std.specs.Prelude.{◌≡◌, ◌≤◌, Some};
+ghost use Rattle.std.specs.Prelude.{◌≡◌, ◌≤◌, ◌+◌, Some};
 
 use crate::calls::Calls;
 use go_board::{Failed, Meter, Source};
@@ -34,6 +34,7 @@ pub struct Reader<'a> {
     rest: &'a [u8],
     piece: Piece,
     calls: Calls,
+    ends: Calls,
     pulls: Meter,
     failures: Meter,
 }
@@ -56,6 +57,7 @@ impl<'a> Reader<'a> {
             rest: text,
             piece: Piece::Bytes(usize::MAX),
             calls: Calls::with_chosen(0),
+            ends: Calls::with_chosen(0),
             pulls: Meter::new(),
             failures: Meter::new(),
         }
@@ -89,6 +91,24 @@ impl<'a> Reader<'a> {
     pub fn pull_count(&self) -> u64 {
         self.calls.made()
     }
+
+    /// How often it told its end: how many pulls with room gave nothing.
+    pub fn end_count(&self) -> u64 {
+        self.ends.made()
+    }
+
+    /// Counts a pull that fails.
+    pub(crate) fn fail(&mut self) -> Failed
+        ensures { self.new ≡ record {
+          left = self.old.left;
+          pulls = self.old.pulls + 1;
+          failures = self.old.failures + 1;
+        } }
+    {
+        self.pulls.tick();
+        self.failures.tick();
+        Failed
+    }
 }
 
 impl Source for Reader<'_> {
@@ -99,11 +119,10 @@ impl Source for Reader<'_> {
     ghost failures = { λ reader. reader.failures };
 
     fn pull(&mut self, buffer: &mut [u8]) -> Result<usize, Failed> {
-        self.pulls.tick();
         if self.calls.count() {
-            self.failures.tick();
-            return Err(Failed);
+            return Err(self.fail());
         }
+        self.pulls.tick();
         let count = self
             .rest
             .len()
@@ -112,6 +131,9 @@ impl Source for Reader<'_> {
         let (piece, rest) = self.rest.split_at(count);
         buffer[..count].copy_from_slice(piece);
         self.rest = rest;
+        if count == 0 && !buffer.is_empty() {
+            let _ = self.ends.count();
+        }
         Ok(count)
     }
 }

@@ -1,5 +1,6 @@
-use crate::{Reader, Writer};
+use crate::{HoldingWriter, NotingReader, Reader, Writer};
 use go_board::{Failed, Sink, Source, send};
+use std::cell::Cell;
 use std::process::Abort;
 
 /// Asserts what the next pull into four bytes gives.
@@ -61,4 +62,43 @@ fn one_call_of_a_writer_fails(rt: HostRuntime) {
     assert!(rt; held.flush() == Ok(()));
     assert!(rt; held.flush() == Err(Failed));
     assert!(rt; held.flush() == Ok(()));
+}
+
+#[test]
+fn the_end_is_counted(rt: HostRuntime) {
+    let mut reader = Reader::new(b"undo");
+    assert!(rt; reader.pull(&mut []) == Ok(0));
+    pulls(&rt, &mut reader, b"undo");
+    assert!(rt; reader.end_count() == 0);
+    pulls(&rt, &mut reader, b"");
+    assert!(rt; reader.end_count() == 1);
+    pulls(&rt, &mut reader, b"");
+    assert!(rt; reader.end_count() == 2);
+}
+
+#[test]
+fn bytes_are_held_back(rt: HostRuntime) {
+    let passed = Cell::new(7);
+    let mut writer = HoldingWriter::new(rt.alloc(), &passed);
+    assert!(rt; writer.flush().is_ok());
+    assert!(rt; send(b"=\n\n", &mut writer).is_ok());
+    assert!(rt; passed.get() == 0);
+    assert!(rt; writer.flush().is_ok());
+    assert!(rt; passed.get() == 3);
+    assert!(rt; send(b"= B2\n\n", &mut writer).is_ok());
+    assert!(rt; writer.bytes() == b"=\n\n= B2\n\n".as_slice());
+    assert!(rt; writer.ends() == [0, 3].as_slice());
+}
+
+#[test]
+fn what_was_passed_on_is_noted(rt: HostRuntime) {
+    let passed = Cell::new(0);
+    let mut buffer = [0u8; 4];
+    let reader = Reader::new(b"a\nb\n").in_lines();
+    let mut noting = NotingReader::new(rt.alloc(), reader, &passed);
+    assert!(rt; noting.pull(&mut buffer) == Ok(2));
+    passed.set(5);
+    assert!(rt; noting.pull(&mut buffer) == Ok(2));
+    assert!(rt; noting.pull(&mut buffer) == Ok(0));
+    assert!(rt; noting.seen() == [0, 5, 5].as_slice());
 }
