@@ -96,6 +96,29 @@ fn a_free_handicap_leaves_a_point(rt: HostRuntime) {
 }
 
 #[test]
+fn an_emptied_board_has_no_handicap(rt: HostRuntime) {
+    says(
+        &rt,
+        rt.alloc(),
+        b"boardsize 7\nkomi 0.5\nfixed_handicap 2\nclear_board\nshowboard\ngoref-printsgf\nundo\n\
+        play b c3\nplay w e5\ngoref-chains\nundo\nundo\nundo\ngoref-chains\nfixed_handicap 2\n",
+        b"=\n\n=\n\n= C3 E5\n\n=\n\n\
+        = size 7 komi 0.5 prisoners B 0 W 0 moves 0 next B\n \
+        7 . . . . . . .\n 6 . . . . . . .\n 5 . . . . . . .\n 4 . . . . . . .\n \
+        3 . . . . . . .\n 2 . . . . . . .\n 1 . . . . . . .\n   A B C D E F G\n\n\
+        = (;GM[1]FF[4]SZ[7]KM[0.5]PL[B])\n\n? cannot undo\n\n\
+        =\n\n=\n\n= B C3 : C2 B3 D3 C4\nW E5 : E4 D5 F5 E6\n\n\
+        =\n\n=\n\n? cannot undo\n\n=\n\n= C3 E5\n\n",
+    );
+    says(
+        &rt,
+        rt.alloc(),
+        b"boardsize 2\nset_free_handicap a1 b2\nboardsize 2\ngoref-printsgf\nundo\ngoref-legal w\n",
+        b"=\n\n=\n\n=\n\n= (;GM[1]FF[4]SZ[2]KM[0]PL[B])\n\n? cannot undo\n\n= A1 B1 A2 B2\n\n",
+    );
+}
+
+#[test]
 fn refusals_in_order(rt: HostRuntime) {
     says(
         &rt,

@@ -16,6 +16,8 @@ mod matches;
 #[cfg(test)]
 mod plays;
 #[cfg(test)]
+mod refused_loads;
+#[cfg(test)]
 mod scripts;
 #[cfg(test)]
 mod sessions;

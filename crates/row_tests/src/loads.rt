@@ -3,7 +3,7 @@ use go_board::Size;
 use goref::{Fetched, Flow, Line, Session};
 use goref_runs::{Shelf, run};
 use memory_devices::{Reader, Writer};
-use std::alloc::{Allocator, Global};
+use std::alloc::{AllocError, Allocator, Global};
 use std::process::Abort;
 use std::test::Fail;
 
@@ -11,7 +11,7 @@ const HANDICAP_GAME: &[u8] = b"(;GM[1]SZ[9]KM[5.5]AB[cc][gg];W[ee];B[])";
 
 /// What a shelf gives for each name.
 #[derive(Clone, Copy)]
-enum Gift<'a> {
+pub(crate) enum Gift<'a> {
     Bytes(&'a [u8]),
     Missing,
     TooLarge,
@@ -103,17 +103,28 @@ fn answers_to(
     assert_eq!(rt; shelf.asked, asked);
 }
 
-/// Asserts how the answers begin to a script over a shelf that gives the game with a handicap.
-fn begins(rt: &impl Abort, alloc: Global, script: &[u8], heading: &[u8]) {
+/// What a script is answered over a shelf that gives this for `f`.
+pub(crate) fn answers_over(
+    rt: &impl Abort,
+    alloc: Global,
+    gift: Gift<'_>,
+    script: &[u8],
+) -> Result<Vec<u8>, AllocError> {
     let mut shelf = OneFile {
         alloc,
-        gift: Gift::Bytes(HANDICAP_GAME),
+        gift,
         name: b"f",
         asked: 0,
     };
     let mut writer = Writer::new(alloc);
     runs(rt, alloc, Reader::new(script), &mut writer, &mut shelf);
-    assert!(rt; writer.bytes().starts_with(heading));
+    writer.bytes().to_vec(alloc)
+}
+
+/// Asserts how the answers begin to a script over a shelf that gives this record.
+fn begins(rt: &impl Abort, alloc: Global, record: &[u8], script: &[u8], heading: &[u8]) {
+    let answers = answers_over(rt, alloc, Gift::Bytes(record), script).expect(rt, "memory");
+    assert!(rt; answers.as_slice().starts_with(heading));
 }
 
 #[test]
@@ -159,15 +170,62 @@ fn load_a_record(rt: HostRuntime) {
     begins(
         &rt,
         alloc,
+        HANDICAP_GAME,
         b"loadsgf f 0\nshowboard\n",
         b"=\n\n= size 9 komi 5.5 prisoners B 0 W 0 moves 0 next W\n",
     );
     begins(
         &rt,
         alloc,
+        HANDICAP_GAME,
         b"loadsgf f 99\nshowboard\n",
         b"=\n\n= size 9 komi 5.5 prisoners B 0 W 0 moves 2 next W\n",
     );
+}
+
+#[test]
+fn a_long_record(rt: HostRuntime) -> Result<(), Fail> {
+    let alloc = rt.alloc();
+    let mut record = b"(;SZ[9]".to_vec(alloc)?;
+    for _ in 0..1_200u16 {
+        record.extend_from_slice(b";B[]")?;
+    }
+    record.push(b')')?;
+    for (script, heading) in [
+        (
+            b"loadsgf f 1000\nshowboard\n".as_slice(),
+            b"=\n\n= size 9 komi 0 prisoners B 0 W 0 moves 999 next W\n".as_slice(),
+        ),
+        (
+            b"loadsgf f 1001\nshowboard\n".as_slice(),
+            b"=\n\n= size 9 komi 0 prisoners B 0 W 0 moves 1000 next W\n".as_slice(),
+        ),
+        (
+            b"loadsgf f\nshowboard\n".as_slice(),
+            b"=\n\n= size 9 komi 0 prisoners B 0 W 0 moves 1200 next W\n".as_slice(),
+        ),
+    ] {
+        begins(&rt, alloc, record.as_slice(), script, heading);
+    }
+    Ok(())
+}
+
+#[test]
+fn a_record_without_a_size_has_nineteen_lines(rt: HostRuntime) {
+    for record in [
+        b"(;B[sa])".as_slice(),
+        b"(;SZ[];B[sa])",
+        b"(;SZ[ \t];B[sa])",
+    ] {
+        says(
+            &rt,
+            rt.alloc(),
+            Gift::Bytes(record),
+            b"boardsize 9\nplay w t19\nloadsgf f\ngoref-chains\nplay w t18\nplay w u1\n",
+            b"=\n\n? illegal move\n\n=\n\n= B T19 : T18 S19\n\n=\n\n? illegal move\n\n",
+            1,
+        );
+    }
 }
 
 #[test]

@@ -3,7 +3,7 @@ use go_board::Size;
 use goref::{Fetched, Flow, Line, Session};
 use goref_runs::{RunError, Shelf, run, run_within};
 use memory_devices::{Reader, Writer};
-use std::alloc::{Allocator, Global};
+use std::alloc::{AllocError, Allocator, Global};
 use std::process::Abort;
 use std::test::Fail;
 
@@ -125,26 +125,55 @@ fn lines_as_sent(rt: HostRuntime) {
     );
 }
 
+/// A line of a front and so many letters, with its end.
+pub(crate) fn long_line(alloc: Global, front: &[u8], letters: u32) -> Result<Vec<u8>, AllocError> {
+    let mut line = front.to_vec(alloc)?;
+    for _ in 0..letters {
+        line.push(b'a')?;
+    }
+    line.push(b'\n')?;
+    Ok(line)
+}
+
 #[test]
 fn long_lines(rt: HostRuntime) -> Result<(), Fail> {
-    let mut script = Vec::new(rt.alloc());
+    let alloc = rt.alloc();
+    let mut script = Vec::new(alloc);
     for (front, letters) in [
         (b"play ".as_slice(), 8_188u32),
         (b"play ".as_slice(), 8_187),
         (b"9 play ".as_slice(), 8_186),
     ] {
-        script.extend_from_slice(front)?;
-        for _ in 0..letters {
-            script.push(b'a')?;
-        }
-        script.push(b'\n')?;
+        script.extend_from_slice(long_line(alloc, front, letters)?.as_slice())?;
     }
     says(
         &rt,
-        rt.alloc(),
+        alloc,
         script.as_slice(),
         b"? line too long\n\n? syntax error\n\n?9 line too long\n\n",
     );
+    Ok(())
+}
+
+/// The first play has 8,192 bytes, the second one more.
+#[test]
+fn the_longest_line_is_done(rt: HostRuntime) -> Result<(), Fail> {
+    let alloc = rt.alloc();
+    let mut script = b"boardsize 9\n".to_vec(alloc)?;
+    for (front, letters) in [
+        (b"play b e5 ".as_slice(), 8_182u32),
+        (b"play w e6 ".as_slice(), 8_183),
+    ] {
+        let line = long_line(alloc, front, letters)?;
+        script.extend_from_slice(line.as_slice())?;
+    }
+    script.extend_from_slice(b"goref-chains\n")?;
+    let text = b"=\n\n=\n\n? line too long\n\n= B E5 : E4 D5 F5 E6\n\n";
+    says(&rt, alloc, script.as_slice(), text);
+    for most in [3, 64, 1_000, 2_731, 4_095] {
+        let reader = Reader::new(script.as_slice()).in_pieces_of(most);
+        read_as(&rt, alloc, reader, text);
+    }
     Ok(())
 }
 
