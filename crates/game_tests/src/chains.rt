@@ -144,6 +144,39 @@ fn explore_board(rt: &impl Abort, alloc: impl Allocator + Copy, lines: u8, left:
     agrees(rt, &board, &log, &grid, 0, &mut walk);
 }
 
+/// Plays once on an empty point, if the drawn one is, and compares the board with a grid.
+fn play_once<A: Allocator + Copy>(
+    rt: &impl Abort,
+    board: &mut Board,
+    log: &mut Log<A>,
+    random: &mut Pcg32,
+) {
+    let p = any_point(random, board.size());
+    let colour = any_colour(random);
+    let mut after = board.grid();
+    if after.get(p).is_some() {
+        return;
+    }
+    plain::place(&mut after, colour, p);
+    assert!(rt; board.play(log, &mut Meter::new(), colour, p).is_ok());
+    same_answers(rt, board, &after, random);
+}
+
+#[test]
+fn an_emptied_board_is_as_a_new_one(rt: HostRuntime) {
+    let mut random = Pcg32::new(3, 5);
+    let mut board = Board::new(size_of(&rt, 4));
+    for lines in [4, 9, 2, 25, 4u8] {
+        let mut log = Log::new(rt.alloc());
+        for _ in 0..40u8 {
+            play_once(&rt, &mut board, &mut log, &mut random);
+        }
+        let size = size_of(&rt, lines);
+        board.clear(size);
+        same_answers(&rt, &board, &Grid::new(size), &mut random);
+    }
+}
+
 #[test]
 fn small_boards_as_the_plain_body(rt: HostRuntime) {
     for lines in 1..6u8 {
