@@ -238,6 +238,38 @@ fn starts(rt: HostRuntime) {
     assert!(rt; game.undo().is_none());
 }
 
+/// Asserts that a game starts from a grid, with nothing made.
+fn starts_as(rt: &impl Abort, alloc: Global, grid: &Grid) {
+    let game = Game::start_from(alloc, grid, Colour::White).expect(rt, "a start");
+    let size = game.size();
+    assert!(rt; grid.size() == size);
+    assert!(rt; game.start_mover() == Colour::White && game.move_count() == 0);
+    for number in 0..size.points() {
+        let p = Point::numbered(size, number);
+        assert!(rt; game.start_at(p) == grid.get(p));
+        assert!(rt; game.colour_at(p) == grid.get(p));
+    }
+}
+
+#[test]
+fn starts_with_few_and_many_stones(rt: HostRuntime) {
+    let mut grid = Grid::new(size_of(&rt, 25));
+    starts_as(&rt, rt.alloc(), &grid);
+    for number in 25..625u16 {
+        let at = Point::nth(grid.size(), number).expect(&rt, "a point");
+        let colour = if number % 25 < 13 {
+            Colour::Black
+        } else {
+            Colour::White
+        };
+        grid.set(at, Some(colour));
+        if number == 25 {
+            starts_as(&rt, rt.alloc(), &grid);
+        }
+    }
+    starts_as(&rt, rt.alloc(), &grid);
+}
+
 /// Passes and plays, each sent again where it was refused for want of memory; how many were.
 fn script<A: Allocator + Copy>(rt: &impl Abort, game: &mut Game<A>) -> u32 {
     let mut refused = 0u32;
