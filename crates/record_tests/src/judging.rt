@@ -26,7 +26,7 @@ fn judging<A: Allocator + Copy>(
 }
 
 /// Asserts the verdict on a record, however it is read and written, with one flush.
-fn judged(rt: &impl Abort, alloc: Global, source: &[u8], text: &[u8]) {
+pub(crate) fn judged(rt: &impl Abort, alloc: Global, source: &[u8], text: &[u8]) {
     for (most, least) in [(1, 4_096), (2, 1), (7, 3), (4_096, 7)] {
         judged_in_pieces(rt, alloc, source, most, least, text);
     }

@@ -2,6 +2,10 @@
 #![tactic(auto)]
 
 #[cfg(test)]
+mod ample;
+#[cfg(test)]
+mod ends;
+#[cfg(test)]
 mod judging;
 #[cfg(test)]
 mod records;

@@ -44,7 +44,12 @@ fn tidied(rt: &impl Abort, alloc: Global, source: &[u8], text: &[u8]) {
 }
 
 /// So many copies of a piece, and a back.
-fn copies(alloc: Global, piece: &[u8], count: u32, back: &[u8]) -> Result<Vec<u8>, AllocError> {
+pub(crate) fn copies(
+    alloc: Global,
+    piece: &[u8],
+    count: u32,
+    back: &[u8],
+) -> Result<Vec<u8>, AllocError> {
     let mut text = Vec::new(alloc);
     for _ in 0..count {
         text.extend_from_slice(piece)?;
@@ -180,6 +185,26 @@ fn cooked_and_escaped(rt: HostRuntime) {
     gives(&rt, escape(alloc, b"a]b\\"), b"a\\]b\\\\");
 }
 
+#[test]
+fn cooked_and_escaped_nothing(rt: HostRuntime) {
+    let alloc = rt.alloc();
+    gives(&rt, cook_text(alloc, b""), b"");
+    gives(&rt, cook_simple(alloc, b""), b"");
+    gives(&rt, escape(alloc, b""), b"");
+}
+
+#[test]
+fn cooked_and_escaped_at_length(rt: HostRuntime) -> Result<(), Fail> {
+    let alloc = rt.alloc();
+    let value = copies(alloc, b"a\\]\n", 1_000, b"b")?;
+    let text = copies(alloc, b"a]\n", 1_000, b"b")?;
+    gives(&rt, cook_text(alloc, value.as_slice()), text.as_slice());
+    let simple = copies(alloc, b"a] ", 1_000, b"b")?;
+    gives(&rt, cook_simple(alloc, value.as_slice()), simple.as_slice());
+    gives(&rt, escape(alloc, text.as_slice()), value.as_slice());
+    Ok(())
+}
+
 /// Asserts the points that values list on nine lines, by their words.
 fn lists(rt: &impl Abort, alloc: Global, values: &[&[u8]], words: &[&[u8]]) {
     let listed = points_of(alloc, values, nine(rt)).expect(rt, "memory");
@@ -225,6 +250,23 @@ fn points_and_lists(rt: HostRuntime) {
         let listed = points_of(alloc, &[word], size).expect(&rt, "memory");
         assert!(rt; listed.is_none());
     }
+}
+
+#[test]
+fn points_at_length(rt: HostRuntime) -> Result<(), Fail> {
+    let alloc = rt.alloc();
+    let largest = Size::new(25).expect(&rt, "a size");
+    let corner = Point { col: 0, row: 24 };
+    let values = vec![in alloc; b"aa".as_slice(); 1_500]?;
+    let listed = points_of(alloc, values.as_slice(), largest)?;
+    let points = vec![in alloc; corner; 1_500]?;
+    assert!(rt; listed.expect(&rt, "points").as_slice() == points.as_slice());
+    let padded = copies(alloc, b" ", 1_500, b"aa")?;
+    let listed = points_of(alloc, &[padded.as_slice()], largest)?;
+    assert!(rt; listed.expect(&rt, "points").as_slice() == [corner].as_slice());
+    let listed = points_of(alloc, &[b"aa:yy".as_slice()], largest)?;
+    assert!(rt; listed.expect(&rt, "points").len() == 625);
+    Ok(())
 }
 
 #[test]

@@ -25,7 +25,12 @@ fn replayed(
 }
 
 /// The game of a source that has one, up to a move.
-fn game_of(rt: &impl Abort, alloc: Global, source: &[u8], number: Option<u32>) -> Game<Global> {
+pub(crate) fn game_of(
+    rt: &impl Abort,
+    alloc: Global,
+    source: &[u8],
+    number: Option<u32>,
+) -> Game<Global> {
     replayed(rt, alloc, source, number).expect(rt, "a game")
 }
 
@@ -168,6 +173,8 @@ fn a_record_without_a_size(rt: HostRuntime) {
     let game = game_of(&rt, alloc, b"(;B[pd])", None);
     assert_eq!(rt; game.size().lines(), 19);
     assert!(rt; stone(&rt, &game, b"q16") == Some(Colour::Black));
+    let corner = game_of(&rt, alloc, b"(;B[sa])", None);
+    assert!(rt; stone(&rt, &corner, b"t19") == Some(Colour::Black));
 }
 
 #[test]
@@ -234,7 +241,7 @@ fn written(game: &Game<Global>, writer: &mut Writer<Global>) -> Result<(), Write
 }
 
 /// The text that is written of a record's game, if the record has one.
-fn is_written_as(rt: &impl Abort, alloc: Global, source: &[u8], text: &[u8]) {
+pub(crate) fn is_written_as(rt: &impl Abort, alloc: Global, source: &[u8], text: &[u8]) {
     let game = game_of(rt, alloc, source, None);
     for most in [1, 3, 4_096] {
         let mut writer = Writer::new(alloc).in_pieces_of(most);
@@ -260,7 +267,8 @@ fn judged(rt: &impl Abort, alloc: Global, source: &[u8]) -> Result<Verdict, Reco
     judge(alloc, &collection)
 }
 
-fn has_verdict(
+/// Asserts the verdict on a record.
+pub(crate) fn has_verdict(
     rt: &impl Abort,
     alloc: Global,
     source: &[u8],

@@ -19,7 +19,7 @@ fn tidying<A: Allocator + Copy>(
 }
 
 /// Asserts what a record is written as, however it is read and written, with one flush.
-fn tidied(rt: &impl Abort, alloc: Global, source: &[u8], text: &[u8]) {
+pub(crate) fn tidied(rt: &impl Abort, alloc: Global, source: &[u8], text: &[u8]) {
     for (most, least) in [(1, 4_096), (2, 1), (7, 3), (4_096, 7)] {
         tidied_in_pieces(rt, alloc, source, most, least, text);
     }
