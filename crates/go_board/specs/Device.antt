@@ -28,6 +28,11 @@ abbrev pub put_failures_after : {E : Type 0} → Result ℕ E → ℕ → ℕ �
 put_failures_after (Ok n) len old = if n == 0 && nat_lt 0 len then old + 1 else old
 put_failures_after (Err e) len old = old + 1
 
+-- the count of ends found after a read into a buffer of so many bytes: one more where it gave none of some
+abbrev pub ends_after : {E : Type 0} → Result ℕ E → ℕ → ℕ → ℕ
+ends_after (Ok n) len old = if n == 0 && nat_lt 0 len then old + 1 else old
+ends_after (Err e) len old = old
+
 -- what a device took of a text written so far: all of it, or a front of it after a fault
 abbrev pub TookSoFar : Bool → Option (List ℕ) → Option (List ℕ) → List ℕ → Type 0
 TookSoFar false start now text = now ≡ then_bytes start text

@@ -1,5 +1,5 @@
 ghost use Rattle.std.specs.Prelude.{◌≡◌, ◌≤◌, ◌<◌, ◌+◌, ℕ, List, [], Option, IfOk, IfSome, OnErr, length, take};
-ghost use Rattle.go_board.specs.Device.{then_bytes, after_bytes, failures_after, put_failures_after};
+ghost use Rattle.go_board.specs.Device.{then_bytes, after_bytes, ends_after, failures_after, put_failures_after};
 
 use thiserror::Error;
 
@@ -24,6 +24,9 @@ pub trait Source {
     /// How often that failed.
     ghost failures: { Self → ℕ };
 
+    /// How often it found the end of the input.
+    ghost ends: { Self → ℕ };
+
     /// Reads into the buffer, and gives the number of bytes read. None into a buffer with room is
     /// the end of the input.
     fn pull(&mut self, buffer: &mut [u8]) -> Result<usize, Failed>
@@ -34,7 +37,8 @@ pub trait Source {
             (λ n. n ≡ 0 → 0 < length buffer.new → IfSome (left self.new) (λ xs. xs ≡ [])) }
         ensures failed { OnErr result (left self.new ≡ left self.old) }
         ensures pulls { pulls self.new ≡ pulls self.old + 1 }
-        ensures failures { failures self.new ≡ failures_after result (failures self.old) };
+        ensures failures { failures self.new ≡ failures_after result (failures self.old) }
+        ensures ends { ends self.new ≡ ends_after result (length buffer.new) (ends self.old) };
 }
 
 /// A device that bytes are written to.

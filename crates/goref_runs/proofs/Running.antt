@@ -1,7 +1,8 @@
 -- What a run did, from what was read of the input.
-use Rattle.std.proofs.Common.{◌≡◌, ℕ, List, [], Option}
+use Rattle.std.proofs.Common.{◌≡◌, ℕ, List, [], Option, Result, Ok, refl}
+use Rattle.std.proofs.lemmas.Bool.{ne_eqb}
 use Rattle.std.proofs.lemmas.List.{append-nil}
-use Rattle.go_board.specs.Device.{after_bytes}
+use Rattle.go_board.specs.Device.{after_bytes, ends_after}
 use Rattle.go_game.specs.Standings.{Standing}
 use Rattle.goref_lines.specs.Kept.{Kept}
 use Rattle.goref_runs.specs.Lines.{lines}
@@ -29,3 +30,7 @@ answers_complete {s} {now} {read} e p = record {
 pub answers_front : {s : Standing} {left left' : Option (List ℕ)} {given given' : Option (List Pair)} {taken taken' : Option (List ℕ)} (read : List ℕ) →
     left ≡ after_bytes read left' → BreaksOff s (lines read) given given' taken taken' → AnswersFront s left left' given given' taken taken'
 answers_front read e b = record { read = read; has_read = e; breaks_off = b }
+
+-- a read that gave some bytes found no end
+pub no_end_found : (E : Type 0) (n len old : ℕ) → (n ≡ 0 → ⊥) → (let given : Result ℕ E = Ok n in ends_after given len old ≡ old)
+no_end_found E n len old some = rw (ne_eqb n 0 some) refl

@@ -24,7 +24,7 @@ pub const READS: u64 = 1 << 40;
 
 /// Reads lines and answers each before the next read, up to `quit` or to the end of the input. A
 /// last line without a line end is answered too. It makes at most [`READS`] reads, and finds an
-/// input endless only after that many reads and as many bytes.
+/// input endless only after that many reads and as many bytes, where none of them found its end.
 pub fn run<A: Allocator + Copy, R: Source, W: Sink, S: Shelf<A>>(
     alloc: A,
     size: Size,
@@ -49,6 +49,8 @@ pub fn run<A: Allocator + Copy, R: Source, W: Sink, S: Shelf<A>>(
         → R.pulls reader.new ≡ R.pulls reader.old + READS }
     ensures many_bytes { IsErrOf result RunError.Endless
         → ReadsAtLeast READS (R.left reader.old) (R.left reader.new) }
+    ensures no_end { IsErrOf result RunError.Endless → R.ends reader.new ≡ R.ends reader.old }
+    ensures one_end { R.ends reader.new ≤ R.ends reader.old + 1 }
 {
     run_within(READS, alloc, size, reader, writer, shelf)
 }
@@ -79,6 +81,8 @@ pub fn run_within<A: Allocator + Copy, R: Source, W: Sink, S: Shelf<A>>(
         → R.pulls reader.new ≡ R.pulls reader.old + limit }
     ensures many_bytes { IsErrOf result RunError.Endless
         → ReadsAtLeast limit (R.left reader.old) (R.left reader.new) }
+    ensures no_end { IsErrOf result RunError.Endless → R.ends reader.new ≡ R.ends reader.old }
+    ensures one_end { R.ends reader.new ≤ R.ends reader.old + 1 }
 {
     let mut session = Session::new(alloc, size);
     let mut line = Line::new();

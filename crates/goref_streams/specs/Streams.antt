@@ -2,11 +2,12 @@
 use Rattle.std.specs.Prelude.{ℕ, ◌-◌, ◌==◌, if◌then◌else◌, List, Option}
 use Rattle.std.specs.Io.KnownBytes.{append_known}
 
--- an input: the bytes that its stream has left, where it tells them, and the counts of reads and of failures
+-- an input: the bytes that its stream has left, where it tells them, and the counts of reads, of failures and of ends found
 pub record Reading : Type 0 where
   pub left : Option (List ℕ)
   pub pulls : ℕ
   pub failures : ℕ
+  pub ends : ℕ
 
 -- an output: the bytes that its stream holds, where it tells them, those kept back, and the count of failures
 pub record Writing : Type 0 where

@@ -4,7 +4,7 @@
 ghost use Rattle.std.specs.Prelude.{◌≡◌, ◌≤◌, ◌<◌, ◌+◌, IfOk, None, OnErr, OnOk, [], length, min};
 ghost use Rattle.std.specs.Prelude.{take};
 ghost use Rattle.std.specs.Io.KnownBytes.{Appends, Consumes, IsAtEnd};
-ghost use Rattle.go_board.specs.Device.{failures_after, put_failures_after};
+ghost use Rattle.go_board.specs.Device.{ends_after, failures_after, put_failures_after};
 ghost use Rattle.goref_streams.specs.Streams.{given_to, room};
 
 use arrayvec::ArrayVec;
@@ -22,6 +22,7 @@ pub struct Input<R: Read> {
     stream: R,
     pulls: Meter,
     failures: Meter,
+    ends: Meter,
 }
 
 impl<R: Read> Model for Input<R> {
@@ -33,18 +34,25 @@ impl<R: Read> Model for Input<R> {
       left = R.remaining input.stream;
       pulls = input.pulls;
       failures = input.failures;
+      ends = input.ends;
     } };
 }
 
 impl<R: Read> Input<R> {
     /// A device over this stream, which nothing was read from.
     pub fn new(stream: R) -> Input<R>
-        ensures { result ≡ record { left = R.remaining stream; pulls = 0; failures = 0 } }
+        ensures { result ≡ record {
+          left = R.remaining stream;
+          pulls = 0;
+          failures = 0;
+          ends = 0;
+        } }
     {
         Input {
             stream,
             pulls: Meter::new(),
             failures: Meter::new(),
+            ends: Meter::new(),
         }
     }
 }
@@ -56,16 +64,24 @@ impl<R: Read> Source for Input<R> {
 
     ghost failures = { λ input. input.failures };
 
+    ghost ends = { λ input. input.ends };
+
     fn pull(&mut self, buffer: &mut [u8]) -> Result<usize, Failed>
         ensures within { IfOk result (λ n. n ≤ length buffer.new) }
         ensures read { IfOk result (λ n. Consumes self.old.left self.new.left (take n buffer.new)) }
         ensures end { IfOk result (λ n. n ≡ 0 → 0 < length buffer.new → IsAtEnd self.new.left) }
         ensures pulls { self.new.pulls ≡ self.old.pulls + 1 }
         ensures failures { self.new.failures ≡ failures_after result self.old.failures }
+        ensures ends { self.new.ends ≡ ends_after result (length buffer.new) self.old.ends }
     {
         self.pulls.tick();
         match self.stream.read(buffer) {
-            Ok(count) => Ok(count),
+            Ok(count) => {
+                if count == 0 && !buffer.is_empty() {
+                    self.ends.tick();
+                }
+                Ok(count)
+            }
             Err(_) => {
                 self.failures.tick();
                 Err(Failed)

@@ -24,6 +24,7 @@ pub fn read_input<A: Allocator + Copy, R: Source>(
     ensures pulls { R.pulls reader.new ≤ R.pulls reader.old + MAX_RECORD + 2 }
     ensures failures { R.failures reader.new ≡ read_failures_after result
         (R.failures reader.old) }
+    ensures one_end { R.ends reader.new ≤ R.ends reader.old + 1 }
 {
     let mut bytes = Vec::new(alloc);
     let mut buffer = [0u8; 4096];

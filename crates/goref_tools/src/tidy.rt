@@ -39,6 +39,7 @@ pub fn tidy_run<A: Allocator + Copy, R: Source, W: Sink>(
         (λ error. error ≢ Write → W.taken writer.new ≡ W.taken writer.old) }
     ensures reads { Reads (R.left reader.old) (R.left reader.new) }
     ensures pulls { R.pulls reader.new ≤ R.pulls reader.old + MAX_RECORD + 2 }
+    ensures one_end { R.ends reader.new ≤ R.ends reader.old + 1 }
     ensures read_failures { R.failures reader.new ≡ read_failures_after result
         (R.failures reader.old) }
     ensures write_failures { W.failures writer.new ≡ write_failures_after result

@@ -1,11 +1,12 @@
 -- What contracts see of the devices in memory.
 use Rattle.std.specs.Prelude.{ℕ, List}
 
--- a reader: the bytes that are left, and the counts of pulls and of failures
+-- a reader: the bytes that are left, and the counts of pulls, of failures and of ends found
 pub record Reading : Type 0 where
   pub left : List ℕ
   pub pulls : ℕ
   pub failures : ℕ
+  pub ends : ℕ
 
 -- a writer: the bytes that it took, and the count of failures
 pub record Writing : Type 0 where

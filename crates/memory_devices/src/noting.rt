@@ -47,6 +47,8 @@ impl<A: Allocator> Source for NotingReader<'_, A> {
 
     ghost failures = { λ noting. noting.failures };
 
+    ghost ends = { λ noting. noting.ends };
+
     /// Want of memory is a failure.
     fn pull(&mut self, buffer: &mut [u8]) -> Result<usize, Failed> {
         if self.seen.push(self.passed.get()).is_err() {

@@ -37,6 +37,7 @@ pub struct Reader<'a> {
     ends: Calls,
     pulls: Meter,
     failures: Meter,
+    found: Meter,
 }
 
 impl<'a> Model for Reader<'a> {
@@ -45,13 +46,23 @@ impl<'a> Model for Reader<'a> {
     ghost Value = { Reading };
 
     ghost view = { λ reader.
-        record { left = reader.rest.now; pulls = reader.pulls; failures = reader.failures } };
+        record {
+          left = reader.rest.now;
+          pulls = reader.pulls;
+          failures = reader.failures;
+          ends = reader.found;
+        } };
 }
 
 impl<'a> Reader<'a> {
     /// A reader of this text.
     pub fn new(text: &'a [u8]) -> Reader<'a>
-        ensures { result ≡ record { left = text.entry.now; pulls = 0; failures = 0 } }
+        ensures { result ≡ record {
+          left = text.entry.now;
+          pulls = 0;
+          failures = 0;
+          ends = 0;
+        } }
     {
         Reader {
             rest: text,
@@ -60,6 +71,7 @@ impl<'a> Reader<'a> {
             ends: Calls::with_chosen(0),
             pulls: Meter::new(),
             failures: Meter::new(),
+            found: Meter::new(),
         }
     }
 
@@ -103,6 +115,7 @@ impl<'a> Reader<'a> {
           left = self.old.left;
           pulls = self.old.pulls + 1;
           failures = self.old.failures + 1;
+          ends = self.old.ends;
         } }
     {
         self.pulls.tick();
@@ -118,6 +131,8 @@ impl Source for Reader<'_> {
 
     ghost failures = { λ reader. reader.failures };
 
+    ghost ends = { λ reader. reader.ends };
+
     fn pull(&mut self, buffer: &mut [u8]) -> Result<usize, Failed> {
         if self.calls.count() {
             return Err(self.fail());
@@ -132,6 +147,7 @@ impl Source for Reader<'_> {
         buffer[..count].copy_from_slice(piece);
         self.rest = rest;
         if count == 0 && !buffer.is_empty() {
+            self.found.tick();
             let _ = self.ends.count();
         }
         Ok(count)

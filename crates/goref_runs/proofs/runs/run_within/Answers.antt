@@ -1,13 +1,14 @@
 use Rattle.std.proofs.Common.{◌∙◌, [], ◌++◌, refl, sym, ap, pos, arith}
 use Rattle.std.proofs.lemmas.List.{append-nil, length-append}
 use Rattle.go_board.specs.Device.{after_bytes}
+use Rattle.go_board.specs.declared.device.Failed.{Failed}
 use Rattle.go_board.specs.Sizes.{lines_of}
 use Rattle.goref.specs.Starts.{begun}
 use Rattle.goref_runs.specs.Lines.{lines}
 use Rattle.goref_runs.specs.Conversation.{Converses}
 use Rattle.goref_runs.proofs.Progressing.{begins}
 use Rattle.go_board.specs.Reading.{after_bytes-nil, has_read_more, of_input}
-use Rattle.goref_runs.proofs.Running.{answers_complete, answers_front}
+use Rattle.goref_runs.proofs.Running.{answers_complete, answers_front, no_end_found}
 use Rattle.goref_runs.proofs.runs.run_within.Goals as goal
 
 pub loop-init : goal.loop-init
@@ -17,6 +18,7 @@ loop-init g c = record {
   progress = rw (c.new-line.ensures, c.new-session.ensures) (begins (begun (lines_of c.args.size) (pos 0)) (g.S.Shelf.given c.args.shelf.now) (g.W.Sink.taken c.args.writer.now));
   many = omega arith;
   pulls = omega arith;
+  ends = refl;
   read_failures = refl;
   write_failures = refl;
 }
@@ -63,6 +65,7 @@ loop-preserved g c =
       progress = rw (c.in-Ok-More.is, c.in-Ok-More.field-0-is) at (c.feed.ensures.proceeds _ now.read _ _ now.progress);
       many = omega (arith, length-append now.read chunk, c.split_at.ensures.front_len, now.many);
       pulls = omega (arith, c.pull.ensures.pulls);
+      ends = c.in-Ok.ensures.ends ∙ no_end_found Failed c.in-Ok.count _ _ c.if-count-eq0.false ∙ now.ends;
       read_failures = c.in-Ok.ensures.failures ∙ now.read_failures;
       write_failures = c.in-Ok-More.ensures.failures ∙ now.write_failures;
     }

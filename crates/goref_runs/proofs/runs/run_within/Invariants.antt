@@ -13,6 +13,7 @@ invariant-loop g l = record {
       (g.S.Shelf.given l.initial.shelf) (g.S.Shelf.given l.shelf) (g.W.Sink.taken l.initial.writer) (g.W.Sink.taken l.writer);
   many : l.counter ≤ length read;
   pulls : g.R.Source.pulls l.reader ≡ g.R.Source.pulls l.initial.reader + l.counter;
+  ends : g.R.Source.ends l.reader ≡ g.R.Source.ends l.initial.reader;
   read_failures : g.R.Source.failures l.reader ≡ g.R.Source.failures l.initial.reader;
   write_failures : g.W.Sink.failures l.writer ≡ g.W.Sink.failures l.initial.writer;
 }

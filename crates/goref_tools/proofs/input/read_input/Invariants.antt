@@ -8,6 +8,7 @@ invariant-loop-buffer g l = record {
   few : length l.bytes.items ≤ MAX_RECORD + 1;
   given : g.R.Source.left l.initial.reader ≡ after_bytes l.bytes.items (g.R.Source.left l.reader);
   pulls : g.R.Source.pulls l.reader ≤ g.R.Source.pulls l.initial.reader + length l.bytes.items;
+  ends : g.R.Source.ends l.reader ≡ g.R.Source.ends l.initial.reader;
   failures : g.R.Source.failures l.reader ≡ g.R.Source.failures l.initial.reader;
 }
 
