@@ -1,5 +1,5 @@
 -- What was written to cells: a list of changes that grows at its end.
-use Rattle.std.specs.Prelude.{ℕ, List, [], ◌∷◌, ◌++◌, Option, Some, None}
+use Rattle.std.specs.Prelude.{List, [], ◌∷◌, ◌++◌, Option, Some, None}
 use Rattle.std.specs.declared.snapshot.Snapshot.{Snapshot}
 use Rattle.go_chains.specs.declared.change.Change.{Change}
 

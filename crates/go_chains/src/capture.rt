@@ -11,8 +11,8 @@ ghost use Rattle.go_chains.specs.Steps.{CountsTaken, IsCapturing};
 ghost use Rattle.go_chains.specs.Tables.{IsDead, IsStone, IsTidy, IsWhole, Tables};
 
 use crate::cells::{Cells, LABELS, word_place, words_of};
-use crate::lift::take_off;
 use crate::change::Change;
+use crate::lift::take_off;
 use crate::masks::mask_of;
 use go_board::{Meter, Size};
 use std::alloc::Allocator;

@@ -11,8 +11,8 @@ ghost use Rattle.go_chains.specs.Steps.{IsConnected, IsConnectedTo};
 ghost use Rattle.go_chains.specs.Tables.{IsStone, IsTidy};
 
 use crate::cells::{Cells, LABELS, SIZES};
-use crate::join::join;
 use crate::change::Change;
+use crate::join::join;
 use go_board::{Meter, Size};
 use std::alloc::Allocator;
 

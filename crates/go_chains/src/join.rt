@@ -12,8 +12,8 @@ ghost use Rattle.go_chains.specs.Tables.{IsStone, IsTidy};
 ghost use Rattle.go_chains.specs.Writes.{IsMerged, IsRelabelled};
 
 use crate::cells::{Cells, LABELS, LINKS, SIZES, word_place, words_of};
-use crate::edits::{put, replace};
 use crate::change::Change;
+use crate::edits::{put, replace};
 use go_board::{Meter, Size};
 use std::alloc::Allocator;
 

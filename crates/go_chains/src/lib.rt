@@ -18,9 +18,9 @@ mod log;
 mod masks;
 mod occupy;
 mod place;
-mod trace;
 #[cfg(test)]
 mod tests;
+mod trace;
 
 pub use board::Board;
 pub use cells::COUNT;

@@ -11,8 +11,8 @@ ghost use Rattle.go_chains.specs.Writes.{IsGiven, IsGivenBeside, IsLifted};
 
 use crate::beside::beside;
 use crate::cells::{Cells, LABELS, LINKS, SIZES, word_place};
-use crate::edits::replace;
 use crate::change::Change;
+use crate::edits::replace;
 use go_board::{Meter, Point, Size};
 use std::alloc::Allocator;
 

@@ -12,8 +12,8 @@ ghost use Rattle.go_chains.specs.Tables.{IsTidy};
 ghost use Rattle.go_chains.specs.Writes.{IsDeprived, IsFilled, IsMarked, IsStoneBeside, MarksEmpty};
 
 use crate::cells::{Cells, LABELS, LINKS, SIZES, WORDS, word_place, words_of};
-use crate::edits::{put, replace};
 use crate::change::Change;
+use crate::edits::{put, replace};
 use go_board::{MAX_POINTS, Meter, Size};
 use std::alloc::Allocator;
 

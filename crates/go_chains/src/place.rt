@@ -13,9 +13,9 @@ ghost use Rattle.go_chains.specs.Sound.{IsKept, colouring_of};
 
 use crate::capture::{capture, take_one};
 use crate::cells::{Cells, WORDS};
+use crate::change::Change;
 use crate::codes::code_of;
 use crate::connect::connect;
-use crate::change::Change;
 use crate::occupy::occupy;
 use go_board::laws::{joined_by_a_path, reaches_by_a_path};
 use go_board::{Colour, MAX_POINTS, Meter, Size, Taken};

@@ -76,15 +76,17 @@ fn judging_from_stream_to_stream(rt: HostRuntime) {
     let agrees = b"moves 1\nscore B+74.5\nstated agrees\n".as_slice();
     let record = b"(;GM[1]SZ[9]KM[6.5]RE[B+74.5];B[ee])".as_slice();
     assert!(rt; comes_to(&rt, Task::Judge, record, 1_000, agrees, b"", 0));
-    assert!(rt; comes_to(
-        &rt,
-        Task::Judge,
-        b"(;SZ[2];B[ab];W[bb];W[aa];B[ab])".as_slice(),
-        1_000,
-        b"",
-        b"goref: move 4 repeats the position after 3 moves\n",
-        1,
-    ));
+    assert!(rt;
+        comes_to(
+            &rt,
+            Task::Judge,
+            b"(;SZ[2];B[ab];W[bb];W[aa];B[ab])".as_slice(),
+            1_000,
+            b"",
+            b"goref: move 4 repeats the position after 3 moves\n",
+            1,
+        )
+    );
 }
 
 #[test]
@@ -92,29 +94,33 @@ fn tidying_from_stream_to_stream(rt: HostRuntime) {
     let record = b"x(;GM[1] FF[4] ;B[aa](;W[bb])(;W[cc]C[a\\]b]))".as_slice();
     let tidy = b"(;GM[1]FF[4];B[aa](;W[bb])(;W[cc]C[a\\]b]))\n".as_slice();
     assert!(rt; comes_to(&rt, Task::Tidy, record, 1_000, tidy, b"", 0));
-    assert!(rt; comes_to(
-        &rt,
-        Task::Tidy,
-        record.split_at(44).0,
-        1_000,
-        b"",
-        b"goref: record ends inside a tree at byte 44\n",
-        1,
-    ));
+    assert!(rt;
+        comes_to(
+            &rt,
+            Task::Tidy,
+            record.split_at(44).0,
+            1_000,
+            b"",
+            b"goref: record ends inside a tree at byte 44\n",
+            1,
+        )
+    );
 }
 
 #[test]
 fn a_session_from_stream_to_stream(rt: HostRuntime) {
     let nine = Size::new(9).expect(&rt, "a size");
-    assert!(rt; comes_to(
-        &rt,
-        Task::Gtp(nine),
-        b"goref-printsgf\nplay b k10\nquit\n".as_slice(),
-        1_000,
-        b"= (;GM[1]FF[4]SZ[9]KM[0]PL[B])\n\n? illegal move\n\n=\n\n",
-        b"",
-        0,
-    ));
+    assert!(rt;
+        comes_to(
+            &rt,
+            Task::Gtp(nine),
+            b"goref-printsgf\nplay b k10\nquit\n".as_slice(),
+            1_000,
+            b"= (;GM[1]FF[4]SZ[9]KM[0]PL[B])\n\n? illegal move\n\n=\n\n",
+            b"",
+            0,
+        )
+    );
 }
 
 #[test]
@@ -128,7 +134,17 @@ fn streams_that_fail(rt: HostRuntime) {
         assert!(rt; comes_to(&rt, task, record, 0, b"", b"goref: write fault\n", 3));
     }
     let line = b"name\n".as_slice();
-    assert!(rt; comes_to(&rt, Task::Gtp(size), line, 0, b"", b"goref: write fault\n", 3));
+    assert!(rt;
+        comes_to(
+            &rt,
+            Task::Gtp(size),
+            line,
+            0,
+            b"",
+            b"goref: write fault\n",
+            3
+        )
+    );
 }
 
 /// How many bytes are written to a stream with so much room and to the errors for words that name no

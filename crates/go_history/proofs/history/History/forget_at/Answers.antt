@@ -1,5 +1,5 @@
 use Rattle.std.specs.Option.{option_eq}
-use Rattle.std.proofs.Common.{◌≡◌, ◌∙◌, nat_eq, Some, ap, refl, sym}
+use Rattle.std.proofs.Common.{◌∙◌, nat_eq, Some, ap, refl, sym}
 use Rattle.go_history.specs.Histories.{HistoryValue, later_at}
 use Rattle.go_history.proofs.Noting.{alike, as_it_was, without_it}
 use Rattle.go_history.proofs.history.History.forget_at.Goals as goal
