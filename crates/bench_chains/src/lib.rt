@@ -35,7 +35,8 @@ fn play_on<A: Allocator + Copy>(
     from: usize,
     sum: u64,
 ) -> u64
-    ensures board { board.new ≡ board.old }
+    ensures lines { board.new.lines ≡ board.old.lines }
+    ensures cells { board.new.cells ≡ board.old.cells }
     ensures log { log.new ≡ log.old }
 {
     if from >= moves.len() {

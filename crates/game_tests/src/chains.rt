@@ -104,7 +104,8 @@ fn explore<A: Allocator + Copy>(
     depth: u16,
 )
     requires { grid.now.lines ≡ board.old.lines }
-    ensures board { board.new ≡ board.old }
+    ensures lines { board.new.lines ≡ board.old.lines }
+    ensures cells { board.new.cells ≡ board.old.cells }
     ensures log { log.new ≡ log.old }
 {
     if depth == 0 || walk.left == 0 {
