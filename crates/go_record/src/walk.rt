@@ -143,12 +143,15 @@ impl<A: Allocator + Copy> Walk<A> {
         ensures err { IfErr result (λ e. e ≢ Memory → (events : List Event)
             → GoesFrom self.old self.old.game (move_met node colour value.now ∷ events) (Err e)) }
     {
-        let game = match self.game.take() {
-            Some(game) => game,
-            None => self.start()?,
-        };
-        self.game = Some(with_move(game, colour, value, node)?);
-        Ok(())
+        match &mut self.game {
+            Some(game) => play_value(game, colour, value, node),
+            None => {
+                let mut game = self.start()?;
+                play_value(&mut game, colour, value, node)?;
+                self.game = Some(game);
+                Ok(())
+            }
+        }
     }
 
     /// The game that starts from the stones set up.
@@ -183,26 +186,25 @@ impl<A: Allocator + Copy> Walk<A> {
     }
 }
 
-/// The game with the move of a value played.
-fn with_move<A: Allocator + Copy>(
-    game: Game<A>,
+/// Plays the move of a value on a game.
+fn play_value<A: Allocator + Copy>(
+    game: &mut Game<A>,
     colour: Colour,
     value: &[u8],
     node: usize,
-) -> Result<Game<A>, RecordError>
-    ensures ok { IfOk result (λ after. (events : List Event) (outcome : Outcome)
-        → Plays after.standing events outcome
-        → Plays game.standing (move_met node colour value.now ∷ events) outcome) }
+) -> Result<(), RecordError>
+    ensures ok { OnOk result ((events : List Event) (outcome : Outcome)
+        → Plays game.new.standing events outcome
+        → Plays game.old.standing (move_met node colour value.now ∷ events) outcome) }
     ensures err { IfErr result (λ e. e ≢ Memory → (events : List Event)
-        → Plays game.standing (move_met node colour value.now ∷ events) (Err e)) }
+        → Plays game.old.standing (move_met node colour value.now ∷ events) (Err e)) }
 {
     let Some(vertex) = point_of(value, game.size()) else {
         return Err(RecordError::BadValue(node));
     };
-    let mut game = game;
     let count = game.move_count();
     match game.play(Move { colour, vertex }) {
-        Ok(_) => Ok(game),
+        Ok(_) => Ok(()),
         Err(why) => Err(refusal(count, why)),
     }
 }
