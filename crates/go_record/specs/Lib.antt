@@ -6,3 +6,4 @@ pub mod Progress
 pub mod Records
 pub mod Texts
 pub mod Laws
+pub mod Reasons

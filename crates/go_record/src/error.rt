@@ -49,6 +49,11 @@ impl From<AllocError> for RecordError {
 struct Reason(PlayError);
 
 impl fmt::Display for Reason {
+    ghost use Rattle.std.specs.Prelude.{Some};
+    ghost use Rattle.go_record.specs.Reasons.{reason_text};
+
+    ghost output = { λ r. Some (reason_text r.0) };
+
     fn fmt<W: fmt::Write>(&self, f: &mut fmt::Formatter<W>) -> Result<(), fmt::Error> {
         match self.0 {
             PlayError::Occupied => f.write_str("is on a stone"),
