@@ -117,25 +117,25 @@ joined_push_space text b e =
     ∙ filter-append has_bytes (slice_split is_space text) ([] ∷ []) ∙ append-nil (words text))
 
 push_byte_at : (b : ℕ) (parts : List (List ℕ)) (s : Bool) → ends_empty parts ≡ s →
-    join_with_byte 32 (filter has_bytes (onto_last b parts)) ≡ join_with_byte 32 (filter has_bytes parts) ++ with_space (has_parts (filter has_bytes parts) && s) b
+    join_with_byte 32 (filter has_bytes (onto_last b parts)) ≡ join_with_byte 32 (filter has_bytes parts) ++ with_space (has_parts (filter has_bytes parts) && s) (b ∷ [])
 push_byte_at b parts true e = ap (join_with_byte 32) (filter_new b parts e) ∙ join_new b (filter has_bytes parts)
-    ∙ ap (λ c. join_with_byte 32 (filter has_bytes parts) ++ with_space c b) (and_true (has_parts (filter has_bytes parts)))
+    ∙ ap (λ c. join_with_byte 32 (filter has_bytes parts) ++ with_space c (b ∷ [])) (and_true (has_parts (filter has_bytes parts)))
   where
     and_true : (c : Bool) → c ≡ (c && true)
     and_true true = refl
     and_true false = refl
 push_byte_at b parts false e = ap (join_with_byte 32) (filter_last b parts e) ∙ join_last b (filter has_bytes parts)
-    ∙ ap (λ c. join_with_byte 32 (filter has_bytes parts) ++ with_space c b) (and_false (has_parts (filter has_bytes parts)))
+    ∙ ap (λ c. join_with_byte 32 (filter has_bytes parts) ++ with_space c (b ∷ [])) (and_false (has_parts (filter has_bytes parts)))
   where
     and_false : (c : Bool) → false ≡ (c && false)
     and_false true = refl
     and_false false = refl
 
-pub joined_push_byte : (text : List ℕ) (b : ℕ) → is_space b ≡ false → joined (text ++ b ∷ []) ≡ joined text ++ with_space (has_trailing_space text) b
+pub joined_push_byte : (text : List ℕ) (b : ℕ) → is_space b ≡ false → joined (text ++ b ∷ []) ≡ joined text ++ with_space (has_trailing_space text) (b ∷ [])
 joined_push_byte text b e =
     ap (λ ps. join_with_byte 32 (filter has_bytes ps)) (slice_split_push_no is_space text b e)
     ∙ push_byte_at b (slice_split is_space text) (ends_empty (slice_split is_space text)) refl
-    ∙ ap (λ c. joined text ++ with_space c b) (sym (has_trailing_space_is text))
+    ∙ ap (λ c. joined text ++ with_space c (b ∷ [])) (sym (has_trailing_space_is text))
 
 pub has_trailing_space_push_space : (text : List ℕ) (b : ℕ) → is_space b ≡ true → has_trailing_space (text ++ b ∷ []) ≡ has_bytes (joined text)
 has_trailing_space_push_space text b e =

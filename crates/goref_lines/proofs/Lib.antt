@@ -1,5 +1,6 @@
 pub mod Splits
 pub mod Joins
+pub mod Pieces
 pub mod Pushes
 pub mod Requests
 pub mod FirstWords

@@ -1,6 +1,7 @@
 -- What a line keeps as one more byte comes to its end.
-use Rattle.std.proofs.Common.{◌≡◌, ◌∙◌, ℕ, zero, suc, ◌<◌, ◌≤◌, Bool, true, false, cond, not, if◌then◌else◌, ◌&&◌, ◌||◌, List, [], ◌∷◌, ◌++◌, refl, sym, ap, take, length, nat_eq, nat_lt, map, arith, lit<, subst, length-append}
+use Rattle.std.proofs.Common.{◌≡◌, ◌∙◌, ℕ, zero, suc, ◌+◌, ◌<◌, ◌≤◌, Bool, true, false, cond, not, if◌then◌else◌, ◌&&◌, ◌||◌, List, [], ◌∷◌, ◌++◌, refl, sym, ap, take, length, nat_eq, nat_lt, map, arith, lit<, subst, length-append}
 use Rattle.std.specs.List.{list_any}
+use Rattle.std.proofs.Math.Seq.{take-append-add}
 use Rattle.std.proofs.lemmas.List.{append-nil, map-append, take_all, length-take, take-append-le}
 use Rattle.std.proofs.lemmas.List.Elements.{filter-append}
 use Rattle.std.proofs.lemmas.Bool.Decides.{nat_tests}
@@ -56,7 +57,7 @@ no_comment_here : (c : Bool) (b : ℕ) (bs xs : List ℕ) → (list_any is_hash 
 no_comment_here true b bs xs h e = cc
 no_comment_here false b bs xs h e = ap (λ ys. b ∷ ys) (h e)
 
-before_comment_none : (bs : List ℕ) → list_any is_hash bs ≡ false → before_comment bs ≡ bs
+pub before_comment_none : (bs : List ℕ) → list_any is_hash bs ≡ false → before_comment bs ≡ bs
 before_comment_none [] e = refl
 before_comment_none (b ∷ bs) e = no_comment_here (is_hash b) b bs (before_comment bs) (before_comment_none bs) e
 
@@ -88,7 +89,7 @@ push_comment_at line b true e any = push_control line b e
 push_comment_at line b false e any =
     kept_is line ∙ sym (kept_of_comment (printable line) b any) ∙ sym (ap kept_of (printable_other line b e)) ∙ sym (kept_is (line ++ b ∷ []))
 
-has_comment_is : (line : List ℕ) → (kept line).has_comment ≡ list_any is_hash (printable line)
+pub has_comment_is : (line : List ℕ) → (kept line).has_comment ≡ list_any is_hash (printable line)
 unfolding kept
 has_comment_is line = refl
 
@@ -143,7 +144,7 @@ plain text = record {
   has_space = has_trailing_space text;
 }
 
-plain_is : (line : List ℕ) → list_any is_hash (printable line) ≡ false → kept line ≡ plain (cleaned line)
+pub plain_is : (line : List ℕ) → list_any is_hash (printable line) ≡ false → kept line ≡ plain (cleaned line)
 unfolding kept
 plain_is line none =
     let f : Bool → Kept = λ found. record {
@@ -181,7 +182,7 @@ push_space line b none control hash space =
     let f : Kept → Kept = λ k. record k { has_space = has_bytes k.text } in
     ap f (plain_before line none) ∙ plain_space (cleaned line) (spaced b) space ∙ plain_after line b none control hash
 
-spaced_other : (b : ℕ) → is_space (spaced b) ≡ false → spaced b ≡ b
+pub spaced_other : (b : ℕ) → is_space (spaced b) ≡ false → spaced b ≡ b
 spaced_other b e = other (nat_eq b 9) e
   where
     other : (c : Bool) → is_space (if c then 32 else b) ≡ false → (if c then 32 else b) ≡ b
@@ -190,14 +191,14 @@ spaced_other b e = other (nat_eq b 9) e
 
 -- any other byte
 pub push_byte : (line : List ℕ) (b : ℕ) (text : List ℕ) (is_long : Bool) → (kept line).has_comment ≡ false → is_control b ≡ false → is_hash b ≡ false → is_space (spaced b) ≡ false →
-    ((whole : List ℕ) → KeepsFront (kept line).text (kept line).is_long whole → KeepsFront text is_long (whole ++ with_space (kept line).has_space b)) →
+    ((whole : List ℕ) → KeepsFront (kept line).text (kept line).is_long whole → KeepsFront text is_long (whole ++ with_space (kept line).has_space (b ∷ []))) →
     record { text = text; is_long = is_long; has_comment = false; has_space = false } ≡ kept (line ++ b ∷ [])
 push_byte line b text is_long none control hash space grows =
     let before = plain_before line none in
     let same = spaced_other b space in
     let start : KeepsFront (kept line).text (kept line).is_long (joined (cleaned line)) = record { front = ap (λ k. k.text) before; longer = ap (λ k. k.is_long) before } in
     let grown = grows (joined (cleaned line)) start in
-    let whole = ap (λ s. joined (cleaned line) ++ with_space s b) (ap (λ k. k.has_space) before) ∙ sym (ap (λ c. joined (cleaned line ++ c ∷ [])) same ∙ joined_push_byte (cleaned line) b (ap is_space (sym same) ∙ space)) in
+    let whole = ap (λ s. joined (cleaned line) ++ with_space s (b ∷ [])) (ap (λ k. k.has_space) before) ∙ sym (ap (λ c. joined (cleaned line ++ c ∷ [])) same ∙ joined_push_byte (cleaned line) b (ap is_space (sym same) ∙ space)) in
     let f : List ℕ → Bool → Bool → Kept = λ text is_long space. record { text = text; is_long = is_long; has_comment = false; has_space = space } in
     ap (λ t. f t is_long false) (grown.front ∙ ap (take LINE_LIMIT) whole)
     ∙ ap (λ l. f (take LINE_LIMIT (joined (cleaned line ++ spaced b ∷ []))) l false) (grown.longer ∙ ap (λ w. nat_lt LINE_LIMIT (length w)) whole)
@@ -232,29 +233,41 @@ module _ (line : List ℕ) (b : ℕ) (k : Kept) (seen : k ≡ kept line) where
       ∙ push_space line b (sym (ap (λ (x : Kept). x.has_comment) seen) ∙ none) control (not_hash b hash) space
 
   pub kept_byte : (text : List ℕ) (is_long : Bool) → k.has_comment ≡ false → is_control b ≡ false → ¬ (b ≡ 35) → is_space (spaced b) ≡ false →
-      ((whole : List ℕ) → KeepsFront k.text k.is_long whole → KeepsFront text is_long (whole ++ with_space k.has_space b)) →
+      ((whole : List ℕ) → KeepsFront k.text k.is_long whole → KeepsFront text is_long (whole ++ with_space k.has_space (b ∷ []))) →
       record k { text = text; is_long = is_long; has_space = false } ≡ kept (line ++ b ∷ [])
   kept_byte text is_long none control hash space grows =
-      let Grows : Kept → Type 0 = λ (x : Kept). (whole : List ℕ) → KeepsFront x.text x.is_long whole → KeepsFront text is_long (whole ++ with_space x.has_space b) in
+      let Grows : Kept → Type 0 = λ (x : Kept). (whole : List ℕ) → KeepsFront x.text x.is_long whole → KeepsFront text is_long (whole ++ with_space x.has_space (b ∷ [])) in
       let pushed : Bool → Kept = λ c. record { text = text; is_long = is_long; has_comment = c; has_space = false } in
       ap pushed none ∙ push_byte line b text is_long (sym (ap (λ (x : Kept). x.has_comment) seen) ∙ none) control (not_hash b hash) space (subst Grows seen grows)
 
--- the front of a text that a byte comes to
-module _ (limit : ℕ) where
-  pub front_full : (text whole : List ℕ) (b : ℕ) → text ≡ take limit whole → length text ≡ limit → text ≡ take limit (whole ++ b ∷ [])
-  front_full text whole b front full = front ∙ sym (take-append-le limit whole (b ∷ []) (omega (arith, length-take limit whole, ap length front)))
+-- the front of a text that more bytes come to
+module _ (limit : ℕ) (text whole : List ℕ) (front : text ≡ take limit whole) where
+  front_short : length text < limit → text ≡ whole
+  front_short room = front ∙ take_all limit whole (omega (arith, length-take limit whole, ap length front))
 
-  pub longer_full : (text whole : List ℕ) (b : ℕ) → text ≡ take limit whole → length text ≡ limit → true ≡ nat_lt limit (length (whole ++ b ∷ []))
-  longer_full text whole b front full = let l : limit < length (whole ++ b ∷ []) = simp length-append (omega (arith, length-take limit whole, ap length front)) in grind (arith, nat_tests)
+  pub front_room : (bytes : List ℕ) → length text + length bytes ≤ limit → text ++ bytes ≡ take limit (whole ++ bytes)
+  front_room [] room = append-nil text ∙ front ∙ sym (ap (take limit) (append-nil whole))
+  front_room (b ∷ bytes) room =
+      let same = front_short (omega arith) in
+      ap (λ t. t ++ b ∷ bytes) same
+      ∙ sym (take_all limit (whole ++ b ∷ bytes) (simp length-append (omega (arith, room, ap length same))))
 
-  pub front_room : (text whole : List ℕ) (b : ℕ) → text ≡ take limit whole → length text < limit → text ++ b ∷ [] ≡ take limit (whole ++ b ∷ [])
-  front_room text whole b front room =
-      let short : length whole < limit = omega (arith, length-take limit whole, ap length front) in
-      let l : length (whole ++ b ∷ []) ≤ limit = simp length-append (omega arith) in
-      ap (λ t. t ++ b ∷ []) (front ∙ take_all limit whole (omega arith)) ∙ sym (take_all limit (whole ++ b ∷ []) l)
+  pub longer_room : (bytes : List ℕ) (is_long : Bool) → length text + length bytes ≤ limit → is_long ≡ nat_lt limit (length whole) → is_long ≡ nat_lt limit (length (whole ++ bytes))
+  longer_room [] is_long room longer = longer ∙ sym (ap (λ t. nat_lt limit (length t)) (append-nil whole))
+  longer_room (b ∷ bytes) is_long room longer =
+      let same = ap length (front_short (omega arith)) in
+      let short : length whole ≤ limit = omega (arith, same, room) in
+      let l : length (whole ++ b ∷ bytes) ≤ limit = simp length-append (omega (arith, same, room)) in
+      grind (arith, nat_tests)
 
-  pub longer_room : (text whole : List ℕ) (b : ℕ) (is_long : Bool) → text ≡ take limit whole → length text < limit → is_long ≡ nat_lt limit (length whole) → is_long ≡ nat_lt limit (length (whole ++ b ∷ []))
-  longer_room text whole b is_long front room longer =
-      let short : length whole < limit = omega (arith, length-take limit whole, ap length front) in
-      let l : length (whole ++ b ∷ []) ≤ limit = simp length-append (omega arith) in
+  pub front_cut : (bytes : List ℕ) (room : ℕ) → room + length text ≡ limit → room < length bytes → text ++ take room bytes ≡ take limit (whole ++ bytes)
+  front_cut bytes zero full more = append-nil text ∙ front ∙ sym (take-append-le limit whole bytes (omega (arith, length-take limit whole, ap length front)))
+  front_cut bytes (suc room) full more =
+      let same = front_short (omega arith) in
+      let count : limit ≡ length whole + suc room = omega (arith, ap length same) in
+      ap (λ t. t ++ take (suc room) bytes) same ∙ sym (take-append-add whole bytes (suc room)) ∙ ap (λ n. take n (whole ++ bytes)) (sym count)
+
+  pub longer_cut : (bytes : List ℕ) (room : ℕ) → room + length text ≡ limit → room < length bytes → true ≡ nat_lt limit (length (whole ++ bytes))
+  longer_cut bytes room full more =
+      let l : limit < length (whole ++ bytes) = simp length-append (omega (arith, length-take limit whole, ap length front)) in
       grind (arith, nat_tests)

@@ -1,8 +1,10 @@
-ghost use Rattle.std.specs.Prelude.{◌≡◌, ◌≤◌, ℕ, List, [], ◌∷◌, ◌++◌, length};
-ghost use Rattle.goref_lines.specs.Kept.{Kept, has_bytes, kept, is_control as is_control_of, is_space, spaced};
-ghost use Rattle.goref_lines.specs.Front.{KeepsFront, with_space};
+ghost use Rattle.std.specs.Prelude.{◌≡◌, ◌+◌, ◌<◌, ◌≤◌, ℕ, List, [], ◌∷◌, ◌++◌, length, take, false, true};
+ghost use Rattle.std.specs.List.{list_any, prefix_len};
+ghost use Rattle.goref_lines.specs.Kept.{Kept, has_bytes, kept, is_control as is_control_of, is_hash, is_space, printable, spaced};
+ghost use Rattle.goref_lines.specs.Front.{AreOfWord, KeepsFront, is_of_word as is_of_word_by, last_of, with_space};
 
 use arrayvec::ArrayVec;
+use memchr::memchr;
 use std::marker::Model;
 
 /// The most bytes that the words of a line have, joined by single spaces.
@@ -80,7 +82,7 @@ impl Line {
             self.has_space = !self.text.is_empty();
             return;
         }
-        append_to_words(&mut self.text, &mut self.is_long, self.has_space, byte);
+        append_to_words(&mut self.text, &mut self.is_long, self.has_space, &[byte]);
         self.has_space = false;
     }
 
@@ -88,9 +90,76 @@ impl Line {
     pub fn extend(&mut self, bytes: &[u8])
         ensures { (line : List ℕ) → self.old ≡ kept line → self.new ≡ kept (line ++ bytes.now) }
     {
-        for byte in bytes {
-            self.push(*byte);
+        if self.is_long {
+            self.skip(bytes);
+            return;
         }
+        let mut rest = bytes;
+        while !rest.is_empty() {
+            let count = self.push_front(rest);
+            rest = rest.split_at(count).1;
+        }
+    }
+
+    /// Takes the next bytes of a line that is longer than a line may be: none of them is kept.
+    fn skip(&mut self, bytes: &[u8])
+        requires { self.old.is_long ≡ true }
+        ensures { (line : List ℕ) → self.old ≡ kept line → self.new ≡ kept (line ++ bytes.now) }
+    {
+        if self.has_comment {
+            return;
+        }
+        match memchr(b'#', bytes) {
+            Some(place) => {
+                self.skip_plain(bytes.split_at(place).0);
+                self.has_comment = true;
+            }
+            None => self.skip_plain(bytes),
+        }
+    }
+
+    /// Takes bytes without a comment in a line that is longer than a line may be.
+    fn skip_plain(&mut self, bytes: &[u8])
+        requires long { self.old.is_long ≡ true }
+        requires plain { self.old.has_comment ≡ false }
+        requires bytes { list_any is_hash bytes.now ≡ false }
+        ensures line { (line : List ℕ) → self.old ≡ kept line
+            → self.new ≡ kept (line ++ bytes.now) }
+        ensures plain { self.new.has_comment ≡ self.old.has_comment }
+    {
+        if let Some(last) = last_printable(bytes) {
+            self.has_space = is_blank(last);
+        }
+    }
+
+    /// Takes the first of bytes, those of a word or another one alone, and tells how many.
+    fn push_front(&mut self, bytes: &[u8]) -> usize
+        requires { 0 < length bytes.now }
+        ensures some { 0 < result }
+        ensures most { result ≤ length bytes.now }
+        ensures front { (line : List ℕ) → self.old ≡ kept line
+            → self.new ≡ kept (line ++ take result bytes.now) }
+    {
+        let count = word_front(bytes);
+        if count == 0 {
+            self.push(bytes[0]);
+            return 1;
+        }
+        self.push_word(bytes.split_at(count).0);
+        count
+    }
+
+    /// Takes bytes of a word.
+    fn push_word(&mut self, word: &[u8])
+        requires some { 0 < length word.now }
+        requires word { AreOfWord word.now }
+        ensures { (line : List ℕ) → self.old ≡ kept line → self.new ≡ kept (line ++ word.now) }
+    {
+        if self.has_comment {
+            return;
+        }
+        append_to_words(&mut self.text, &mut self.is_long, self.has_space, word);
+        self.has_space = false;
     }
 
     /// The words so far, joined by single spaces, and of these the first [`LINE_LIMIT`] bytes.
@@ -128,28 +197,70 @@ fn is_blank(byte: u8) -> bool
     byte == b' ' || byte == b'\t'
 }
 
+/// Whether a byte stands in words.
+fn is_of_word(byte: u8) -> bool
+    ensures { result ≡ is_of_word_by byte }
+{
+    byte > b' ' && byte != b'#' && byte != 127
+}
+
+/// How many bytes of a word stand first.
+fn word_front(bytes: &[u8]) -> usize
+    ensures value { result ≡ prefix_len is_of_word_by bytes.now }
+    ensures bound { result ≤ length bytes.now }
+{
+    bytes.iter().take_while(|byte| is_of_word(**byte)).count()
+}
+
+/// The last byte that is no control.
+fn last_printable(bytes: &[u8]) -> Option<u8>
+    ensures { result ≡ last_of (printable bytes.now) }
+{
+    let mut rest = bytes;
+    while let Some((last, front)) = rest.split_last() {
+        if !is_control(*last) {
+            return Some(*last);
+        }
+        rest = front;
+    }
+    None
+}
+
+/// Appends bytes of a word, behind a space where one is due.
 fn append_to_words(
     text: &mut ArrayVec<u8, LINE_LIMIT>,
     is_long: &mut bool,
     has_space: bool,
-    byte: u8,
+    word: &[u8],
 )
     ensures { (whole : List ℕ) → KeepsFront text.old.items is_long.old whole
-        → KeepsFront text.new.items is_long.new (whole ++ with_space has_space byte) }
+        → KeepsFront text.new.items is_long.new (whole ++ with_space has_space word.now) }
 {
     if has_space {
-        append(text, is_long, b' ');
+        append(text, is_long, b" ");
     }
-    append(text, is_long, byte);
+    append(text, is_long, word);
 }
 
-fn append(text: &mut ArrayVec<u8, LINE_LIMIT>, is_long: &mut bool, byte: u8)
+/// Appends what there is room for.
+fn append(text: &mut ArrayVec<u8, LINE_LIMIT>, is_long: &mut bool, bytes: &[u8])
     ensures { (whole : List ℕ) → KeepsFront text.old.items is_long.old whole
-        → KeepsFront text.new.items is_long.new (whole ++ byte ∷ []) }
+        → KeepsFront text.new.items is_long.new (whole ++ bytes.now) }
 {
-    if text.is_full() {
-        *is_long = true;
+    let room = text.remaining_capacity();
+    if bytes.len() <= room {
+        extend_text(text, bytes);
     } else {
-        text.push(byte);
+        extend_text(text, bytes.split_at(room).0);
+        *is_long = true;
+    }
+}
+
+fn extend_text(text: &mut ArrayVec<u8, LINE_LIMIT>, bytes: &[u8])
+    requires { length text.old.items + length bytes.now ≤ LINE_LIMIT }
+    ensures { text.new.items ≡ text.old.items ++ bytes.now }
+{
+    match text.try_extend_from_slice(bytes) {
+        Ok(()) | Err(_) => {}
     }
 }

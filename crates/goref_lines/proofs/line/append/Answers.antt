@@ -1,19 +1,25 @@
-use Rattle.std.proofs.Common.{◌≡◌, ◌∙◌, ◌<◌, length, arith}
+use Rattle.std.proofs.Common.{◌≡◌, ◌∙◌, ◌<◌, ◌≤◌, ◌+◌, ◌++◌, ap, length, take, arith}
 use Rattle.std.proofs.lemmas.Bool.Decides.{nat_tests}
 use Rattle.goref_lines.specs.declared.line.TheConstants.{LINE_LIMIT}
-use Rattle.goref_lines.proofs.Pushes.{front_full, longer_full, front_room, longer_room}
+use Rattle.goref_lines.proofs.Pushes.{front_room, longer_room, front_cut, longer_cut}
 use Rattle.goref_lines.proofs.line.append.Goals as goal
 
-pub returns-then-is_full : goal.returns-then-is_full
-returns-then-is_full c = λ whole kept.
-    let full : length c.args.text.now.items ≡ LINE_LIMIT = grind (arith, nat_tests) in record {
-      front = front_full LINE_LIMIT c.args.text.now.items whole c.args.byte kept.front full;
-      longer = longer_full LINE_LIMIT c.args.text.now.items whole c.args.byte kept.front full;
+pub returns-then-bytes-room : goal.returns-then-bytes-room
+returns-then-bytes-room c = λ whole kept.
+    let text = c.args.text.now.items in
+    let room : length text + length c.args.bytes.now ≤ LINE_LIMIT = grind (arith, nat_tests) in
+    record {
+      front = c.extend_text.ensures ∙ front_room LINE_LIMIT text whole kept.front c.args.bytes.now room;
+      longer = longer_room LINE_LIMIT text whole kept.front c.args.bytes.now c.args.is_long.now room kept.longer;
     }
 
-pub returns-else-is_full : goal.returns-else-is_full
-returns-else-is_full c = λ whole kept.
-    let room : length c.args.text.now.items < LINE_LIMIT = grind (arith, nat_tests) in record {
-      front = c.push.ensures.items ∙ front_room LINE_LIMIT c.args.text.now.items whole c.args.byte kept.front room;
-      longer = longer_room LINE_LIMIT c.args.text.now.items whole c.args.byte c.args.is_long.now kept.front room kept.longer;
+pub returns-else-bytes-room : goal.returns-else-bytes-room
+returns-else-bytes-room c = λ whole kept.
+    let text = c.args.text.now.items in
+    let room = c.remaining_capacity-room.result in
+    let full : room + length text ≡ LINE_LIMIT = c.remaining_capacity-room.ensures in
+    let more : room < length c.args.bytes.now = grind (arith, nat_tests) in
+    record {
+      front = c.extend_text-else-bytes-room.ensures ∙ ap (λ bytes. text ++ bytes) c.split_at.ensures.front ∙ front_cut LINE_LIMIT text whole kept.front c.args.bytes.now room full more;
+      longer = longer_cut LINE_LIMIT text whole kept.front c.args.bytes.now room full more;
     }
