@@ -15,3 +15,8 @@ pub mod Counted
 pub mod Equal
 pub mod Packing
 pub mod Leaving
+pub mod RowBits
+pub mod RowsBeside
+pub mod Growing
+pub mod Holding
+pub mod RowCounts

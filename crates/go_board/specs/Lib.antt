@@ -14,3 +14,4 @@ pub mod Writing
 pub mod Reading
 pub mod Packs
 pub mod PackBytes
+pub mod Rows

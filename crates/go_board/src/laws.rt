@@ -8,13 +8,15 @@ ghost use Rattle.go_board.specs.Paths.{Joined, Reaches};
 ghost use Rattle.go_board.specs.Reaching.{is_dead, is_liberty_of, joined, moved, reaches, stones, vanished};
 ghost use Rattle.go_board.specs.declared.point.Point.{Point};
 ghost use Rattle.go_board.specs.declared.pack.TheConstants.{PACK_BYTES};
+ghost use Rattle.go_board.specs.declared.rows.TheConstants.{ROWS};
 ghost use Rattle.go_board.specs.declared.size.TheConstants.{MAX_LINES, MAX_POINTS};
 ghost use Rattle.go_board.specs.Points.{IsOn, is_adjacent, number_of, point_at};
 
-/// The numbers of lines and points of the largest board.
+/// The numbers of lines, points and rows of the largest board.
 pub fn limits()
     ensures lines { MAX_LINES ≡ 25 }
     ensures points { MAX_POINTS ≡ 625 }
+    ensures rows { ROWS ≡ 25 }
 {}
 
 /// The test whether a point reaches a colour holds exactly where a path leads there.

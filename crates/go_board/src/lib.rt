@@ -13,6 +13,7 @@ mod pack;
 mod pen;
 pub mod plain;
 mod point;
+pub mod rows;
 mod seeds;
 mod size;
 mod taken;
