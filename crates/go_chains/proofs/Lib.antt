@@ -25,3 +25,4 @@ pub mod Moving
 pub mod Moved
 pub mod Taken
 pub mod Placing
+pub mod Rowing

@@ -5,8 +5,10 @@ ghost use Rattle.go_board.specs.Colours.{colour_at, other};
 ghost use Rattle.go_board.specs.PackBytes.{bytes_of};
 ghost use Rattle.go_board.specs.Packs.{byte_of, code_of, packed_of};
 ghost use Rattle.go_board.specs.Points.{IsOn, number_of};
-ghost use Rattle.go_board.specs.Reaching.{is_liberty_of, joined, moved, vanished};
+ghost use Rattle.go_board.specs.Reaching.{area, is_liberty_of, joined, moved, vanished};
+ghost use Rattle.go_board.specs.Rows.{AreStonesIn};
 ghost use Rattle.go_board.specs.Sizes.{lines_of};
+ghost use Rattle.go_board.specs.declared.colour.Colour.{Colour};
 ghost use Rattle.go_board.specs.declared.pack.TheConstants.{PACK_BYTES};
 ghost use Rattle.go_board.specs.declared.size.TheConstants.{MAX_POINTS};
 ghost use Rattle.go_chains.specs.declared.cells.TheConstants.{COUNT, WORDS};
@@ -25,9 +27,17 @@ use crate::log::{Log, reserve_play, seal};
 use crate::masks::mask_of;
 use crate::place::{ROOM, place};
 use go_board::laws::{bytes_make_a_pack, joined_by_a_path, liberty_by_a_path, points_by_number};
-use go_board::{Colour, Grid, Meter, Packed, Point, Size, Taken, packed_byte};
+use go_board::rows::{ROWS, areas_of, with_stone};
+use go_board::{Area, Colour, Grid, Meter, Packed, Point, Size, Taken, packed_byte};
 use std::alloc::Allocator;
 use std::marker::Model;
+
+/// The stones of both colours in one row, a bit for each column.
+#[derive(Clone, Copy)]
+struct RowStones {
+    black: u32,
+    white: u32,
+}
 
 /// A board that keeps its chains and their liberties, changed in place by each play.
 #[derive(Drop)]
@@ -111,6 +121,40 @@ impl Board {
             grid.set(at, self.colour_at(at));
         }
         grid
+    }
+
+    /// The stones of both colours in one row.
+    fn stones_in(&self, row: usize) -> RowStones
+        requires { row < self.now.lines }
+        ensures black { AreStonesIn self.now.lines (grid_of self.now) Colour.Black row result.black }
+        ensures white { AreStonesIn self.now.lines (grid_of self.now) Colour.White row result.white }
+    {
+        let lines = usize::from(self.size().lines());
+        let mut meter = Meter::new();
+        let mut stones = RowStones { black: 0, white: 0 };
+        for col in 0..lines {
+            let colour = colour_from(self.cells.get(row * lines + col, &mut meter));
+            stones.black = with_stone(stones.black, col, colour, Colour::Black);
+            stones.white = with_stone(stones.white, col, colour, Colour::White);
+        }
+        stones
+    }
+
+    /// How many points count for each colour: its stones, and the empty points that reach that colour
+    /// alone.
+    pub fn area(&self) -> Area
+        ensures black { result.black ≡ area self.now.lines (grid_of self.now) Colour.Black }
+        ensures white { result.white ≡ area self.now.lines (grid_of self.now) Colour.White }
+    {
+        let lines = usize::from(self.size().lines());
+        let mut black = [0u32; ROWS];
+        let mut white = [0u32; ROWS];
+        for row in 0..lines {
+            let stones = self.stones_in(row);
+            black[row] = stones.black;
+            white[row] = stones.white;
+        }
+        areas_of(&black, &white, lines)
     }
 
     /// The colours in two bits a point, as `Grid::pack` has them.

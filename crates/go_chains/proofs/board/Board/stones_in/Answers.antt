@@ -1,0 +1,23 @@
+use Rattle.std.proofs.Common.{arith, ◌≡◌, ◌+◌, ◌*◌, ◌∙◌, ℕ, Some, ap}
+use Rattle.go_board.specs.declared.colour.Colour.TheVariants.{Black, White}
+use Rattle.go_board.specs.Colours.{colour_at}
+use Rattle.go_chains.specs.Cells.{colour_of}
+use Rattle.go_chains.specs.Sound.{BoardValue, grid_of, value_of}
+use Rattle.go_chains.proofs.Rowing.{column_more, place_low, read_as}
+use Rattle.go_chains.proofs.board.Board.stones_in.Goals as goal
+
+pub loop-col-preserved : goal.loop-col-preserved
+loop-col-preserved c =
+    let n = c.args.self.now.lines in
+    let cells = c.args.self.now.cells in
+    let col = c.loop-col.col in
+    let lines : c.from-lines.result ≡ n = c.from-lines.ensures ∙ c.lines.ensures.value ∙ c.size.ensures.lines in
+    let low = place_low n c.args.row col c.requires (omega (arith, c.loop-col-test.true, lines)) in
+    let colour : c.colour_from-colour.result ≡ value_of (colour_of cells (c.args.row * n + col)) =
+    c.colour_from-colour.ensures ∙ ap value_of (c.get.ensures.value ∙ ap (λ (b : BoardValue). colour_of b.cells (c.args.row * c.from-lines.result + col)) c.self.view_is ∙ ap (λ (k : ℕ). colour_of cells (c.args.row * k + col)) lines) in
+    record {
+      black = column_more (λ k. colour_at (grid_of c.args.self.now) (c.args.row * n + k) ≡ Some Black) col c.loop-col.stones.black c.with_stone.result c.loop-col.invariant.black
+          (read_as n cells c.args.row col c.loop-col.stones.black c.with_stone.result c.colour_from-colour.result Black low colour c.with_stone.ensures);
+      white = column_more (λ k. colour_at (grid_of c.args.self.now) (c.args.row * n + k) ≡ Some White) col c.loop-col.stones.white c.with_stone-in-loop-col.result c.loop-col.invariant.white
+          (read_as n cells c.args.row col c.loop-col.stones.white c.with_stone-in-loop-col.result c.colour_from-colour.result White low colour c.with_stone-in-loop-col.ensures);
+    }
