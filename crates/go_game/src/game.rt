@@ -4,7 +4,7 @@ use crate::Superko;
 use crate::prisoners::Prisoners;
 use crate::step::Step;
 use go_board::laws::packs_tell_colourings_apart;
-use go_board::plain::{areas, is_liberty, same_chain};
+use go_board::plain::{is_liberty, same_chain};
 use go_board::{Area, Colour, Grid, Meter, Move, Point, Size};
 use go_chains::{Board, Log};
 use go_history::History;
@@ -270,7 +270,7 @@ impl<A: Allocator + Copy> Game<A> {
         ensures black { result.black ≡ area_of self.now.standing Colour.Black }
         ensures white { result.white ≡ area_of self.now.standing Colour.White }
     {
-        areas(&self.present())
+        self.board.area()
     }
 
     /// By how many hundredths of a point Black is ahead, komi counted.
