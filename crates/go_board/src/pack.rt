@@ -1,4 +1,4 @@
-ghost use Rattle.std.specs.Prelude.{◌≡◌, ◌<◌, ◌≤◌, ◌+◌, ◌*◌, replicate, slice_set};
+ghost use Rattle.std.specs.Prelude.{◌≡◌, ◌<◌, ◌≤◌, ◌+◌, ◌*◌, replicate, slice_index, slice_set};
 ghost use Rattle.go_board.specs.declared.pack.TheConstants.{PACK_BYTES};
 ghost use Rattle.go_board.specs.PackBytes.{bytes_of};
 ghost use Rattle.go_board.specs.Packs.{byte_of, code_of, packed_of};
@@ -39,6 +39,15 @@ impl Packed {
         Packed {
             bytes: [0; PACK_BYTES],
         }
+    }
+
+    /// The byte of four points: the first has four times the place's number, and the others follow it in
+    /// point order.
+    pub fn byte(&self, place: usize) -> u8
+        requires { place < PACK_BYTES }
+        ensures { result ≡ slice_index (bytes_of self.now) place }
+    {
+        self.bytes[place]
     }
 
     /// Writes the byte of four points: the first has four times the place's number, and the others

@@ -26,3 +26,4 @@ pub mod Moved
 pub mod Taken
 pub mod Placing
 pub mod Rowing
+pub mod Packing

@@ -177,13 +177,7 @@ impl Board {
         requires within { 4 * place + 3 < self.now.lines * self.now.lines }
         ensures { result ≡ byte_of (grid_of self.now) place }
     {
-        let first = 4 * place;
-        packed_byte(
-            self.code_at(first),
-            self.code_at(first + 1),
-            self.code_at(first + 2),
-            self.code_at(first + 3),
-        )
+        self.cells.packed_byte(place)
     }
 
     /// The byte of the points that four don't go into, of which there are three at most.

@@ -1,12 +1,17 @@
 ghost use Rattle.std.specs.Prelude.{◌≡◌, ◌<◌, ◌≤◌, ◌+◌, ◌*◌, ◌++◌, ◌∷◌, [], slice_index, slice_set};
+ghost use Rattle.go_board.specs.Colours.{colour_at};
+ghost use Rattle.go_board.specs.Packs.{byte_of, code_of};
 ghost use Rattle.go_board.specs.Sizes.{lines_of};
-ghost use Rattle.go_board.specs.declared.size.TheConstants.{MAX_POINTS};
+ghost use Rattle.go_board.specs.declared.pack.TheConstants.{PACK_BYTES};
+ghost use Rattle.go_board.specs.declared.size.TheConstants.{MAX_LINES, MAX_POINTS};
 ghost use Rattle.go_chains.specs.declared.cells.TheConstants.{COUNT, LIBERTIES, WORDS};
 ghost use Rattle.go_chains.specs.Cells.{words_for};
+ghost use Rattle.go_chains.specs.Sound.{colouring_of};
 
 use crate::change::Change;
+use crate::codes::colour_from;
 use crate::trace::Trace;
-use go_board::{MAX_POINTS, Meter, Size};
+use go_board::{Colour, MAX_POINTS, Meter, Packed, Size, packed_byte};
 use std::marker::Model;
 
 /// How many words hold a bit for each point of the largest board.
@@ -29,23 +34,29 @@ pub const COUNT: usize = LIBERTIES + WORDS * MAX_POINTS;
 
 /// The cells of a board: the colour, the label and the ring link of each point, and the size and
 /// the words of liberties of each label. Nothing else reads or writes them, and each write is in their
-/// trace.
+/// trace. Beside them is the pack of the colours, as if the board had the most lines.
 #[derive(Drop)]
 pub struct Cells {
     numbers: [u64; COUNT],
+    pack: Packed,
     trace: Trace,
 }
 
 impl Model for Cells {
     ghost use Rattle.std.specs.Prelude.{◌≡◌, length};
+    ghost use Rattle.go_board.specs.PackBytes.{bytes_of};
+    ghost use Rattle.go_board.specs.Packs.{packed_of};
+    ghost use Rattle.go_board.specs.declared.size.TheConstants.{MAX_LINES};
     ghost use Rattle.go_chains.specs.Cells.{CellsValue};
+    ghost use Rattle.go_chains.specs.Sound.{colouring_of};
     ghost use Rattle.go_chains.specs.declared.cells.TheConstants.{COUNT};
 
     ghost Value = { CellsValue };
 
     ghost view = { λ c. record { numbers = c.numbers; trace = c.trace } };
 
-    ghost invariant = { λ c. length c.numbers ≡ COUNT };
+    ghost invariant = { λ c. (length c.numbers ≡ COUNT)
+        × (bytes_of c.pack ≡ packed_of (colouring_of MAX_LINES c.numbers)) };
 }
 
 impl Cells {
@@ -59,6 +70,7 @@ impl Cells {
     {
         Cells {
             numbers: [0; COUNT],
+            pack: Packed::empty(),
             trace: Trace::new(),
         }
     }
@@ -86,6 +98,46 @@ impl Cells {
         let old = self.numbers[place];
         self.trace.add(Change { place, old });
         self.numbers[place] = number;
+        if place < MAX_POINTS {
+            self.pack.set(place / 4, byte_of_four(&self.numbers, place / 4));
+        }
+    }
+
+    /// The byte of four points, as if the board had the most lines.
+    pub fn packed_byte(&self, place: usize) -> u8
+        requires { place < PACK_BYTES }
+        ensures { result ≡ byte_of (colouring_of MAX_LINES self.now.numbers) place }
+    {
+        self.pack.byte(place)
+    }
+}
+
+/// The byte of four points that numbers say.
+fn byte_of_four(numbers: &[u64; COUNT], place: usize) -> u8
+    requires { place < PACK_BYTES }
+    ensures { result ≡ byte_of (colouring_of MAX_LINES numbers.now) place }
+{
+    let first = 4 * place;
+    packed_byte(
+        code_in(numbers, first),
+        code_in(numbers, first + 1),
+        code_in(numbers, first + 2),
+        code_in(numbers, first + 3),
+    )
+}
+
+/// The code of a point's colour; a point past the largest board counts as empty.
+fn code_in(numbers: &[u64; COUNT], number: usize) -> u8
+    ensures value { result ≡ code_of (colour_at (colouring_of MAX_LINES numbers.now) number) }
+    ensures few { result ≤ 2 }
+{
+    if number >= MAX_POINTS {
+        return 0;
+    }
+    match colour_from(numbers[number]) {
+        None => 0,
+        Some(Colour::Black) => 1,
+        Some(Colour::White) => 2,
     }
 }
 
