@@ -1,4 +1,5 @@
-ghost use Rattle.std.specs.Prelude.{◌≡◌, ◌<◌, ◌≤◌, ◌*◌, ◌↔◌, ℕ, None, IsTrue, length, replicate, slice_set, take};
+ghost use Rattle.std.specs.Prelude.{◌≡◌, ◌<◌, ◌≤◌, ◌*◌, ◌↔◌, ℕ, None, IsTrue, is_some, length, not, replicate, slice_set, take};
+ghost use Rattle.std.specs.List.{list_any};
 
 use crate::colour::is_same;
 use crate::{Colour, MAX_POINTS, Point, Size};
@@ -79,6 +80,18 @@ impl Grid {
         } else {
             None
         }
+    }
+
+    /// Whether no stone stands.
+    pub fn is_vacant(&self) -> bool
+        ensures { result ≡ not (list_any is_some self.now.colours) }
+    {
+        for number in 0..usize::from(self.size().points()) {
+            if self.colour_of(number).is_some() {
+                return false;
+            }
+        }
+        true
     }
 
     /// Gives a point of the board a colour, or empties it.

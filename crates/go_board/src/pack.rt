@@ -41,13 +41,12 @@ impl Packed {
         }
     }
 
-    /// The byte of four points: the first has four times the place's number, and the others follow it in
-    /// point order.
-    pub fn byte(&self, place: usize) -> u8
-        requires { place < PACK_BYTES }
-        ensures { result ≡ slice_index (bytes_of self.now) place }
+    /// The byte at a place: of four points, the first of which has four times the place's number.
+    pub fn byte(&self, at: usize) -> u8
+        requires { at < PACK_BYTES }
+        ensures { result ≡ slice_index (bytes_of self.now) at }
     {
-        self.bytes[place]
+        self.bytes[at]
     }
 
     /// Writes the byte of four points: the first has four times the place's number, and the others

@@ -99,7 +99,8 @@ impl Cells {
         self.trace.add(Change { place, old });
         self.numbers[place] = number;
         if place < MAX_POINTS {
-            self.pack.set(place / 4, byte_of_four(&self.numbers, place / 4));
+            self.pack
+                .set(place / 4, byte_of_four(&self.numbers, place / 4));
         }
     }
 

@@ -4,6 +4,7 @@ pub mod Taken
 pub mod Margins
 pub mod Stones
 pub mod Vacant
+pub mod Apart
 pub mod HandicapPlaces
 pub mod Legal
 pub mod Choosing

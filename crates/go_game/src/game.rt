@@ -3,7 +3,7 @@ ghost use Rattle.std.specs.Prelude.{◌≡◌, ◌<◌, ◌+◌, ◌++◌, ◌�
 use crate::Superko;
 use crate::prisoners::Prisoners;
 use crate::step::Step;
-use go_board::laws::packs_tell_colourings_apart;
+use go_board::laws::{joined_by_a_path, packs_tell_colourings_apart, points_by_number};
 use go_board::plain::{is_liberty, same_chain};
 use go_board::{Area, Colour, Grid, Meter, Move, Point, Size};
 use go_chains::{Board, Log};
@@ -176,7 +176,7 @@ impl<A: Allocator + Copy> Game<A> {
     pub fn is_vacant(&self) -> bool
         ensures { result ≡ is_vacant_in self.now.standing }
     {
-        self.move_count() == 0 && self.start.is_same_as(&Grid::new(self.size()))
+        self.move_count() == 0 && self.start.is_vacant()
     }
 
     /// Back to the empty board, Black to move. The komi and the superko rule stay.
@@ -234,7 +234,13 @@ impl<A: Allocator + Copy> Game<A> {
         ensures { result ≡ joined self.now.standing.lines (board_of self.now.standing)
             (number_of self.now.standing.lines p) (number_of self.now.standing.lines q) }
     {
-        if self.colour_at(p).is_none() || self.colour_at(q).is_none() {
+        joined_by_a_path();
+        points_by_number();
+        let colour = self.colour_at(p);
+        if colour != self.colour_at(q) {
+            return false;
+        }
+        if colour.is_none() {
             return same_chain(&self.present(), p, q);
         }
         self.board.same_chain(p, q)

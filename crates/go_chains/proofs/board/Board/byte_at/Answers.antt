@@ -1,4 +1,4 @@
-use Rattle.std.proofs.Common.{arith, ◌≡◌, ◌*◌, ◌<◌, ◌+◌, ◌∙◌, ap, subst, sym, ℕ}
+use Rattle.std.proofs.Common.{◌≡◌, ◌*◌, ◌<◌, ◌+◌, ◌∙◌, ap, subst, sym, ℕ}
 use Rattle.go_board.specs.Packs.{byte_of}
 use Rattle.go_board.specs.Sizes.{lines_of}
 use Rattle.go_chains.specs.Sound.{BoardValue, grid_of}
@@ -12,5 +12,5 @@ returns c =
     let lines : n ≡ c.args.self.now.lines = ap (λ (b : BoardValue). b.lines) c.self.view_is in
     c.packed_byte.ensures
     ∙ byte_within n c.self.inside.cells.numbers c.args.place c.self.invariant.small (square-le n c.self.invariant.small)
-      (subst (λ (k : ℕ). 4 * c.args.place + 3 < k * k) (sym lines) c.requires.within)
+    (subst (λ (k : ℕ). 4 * c.args.place + 3 < k * k) (sym lines) c.requires.within)
     ∙ ap (λ (b : BoardValue). byte_of (grid_of b) c.args.place) c.self.view_is
