@@ -1,4 +1,4 @@
-ghost use Rattle.std.specs.Prelude.{◌≡◌, ◌≢◌, [], ◌∷◌, Err, IfErr, IfOk, List, Ok, OnOk, ◌+◌, ◌↔◌, IsTrue, map, false, true};
+ghost use Rattle.std.specs.Prelude.{◌≡◌, ◌≢◌, [], ◌∷◌, Err, IfErr, IfOk, List, Ok, OnOk, ◌+◌, ◌↔◌, IsTrue, map, None, false, true};
 ghost use Rattle.go_sgf.specs.View.{node_of, property_of, values_of};
 ghost use Rattle.go_record.specs.declared.error.RecordError.{RecordError};
 ghost use Rattle.go_record.specs.declared.error.RecordError.TheVariants.{Memory};
@@ -145,13 +145,25 @@ impl<A: Allocator + Copy> Walk<A> {
     {
         match &mut self.game {
             Some(game) => play_value(game, colour, value, node),
-            None => {
-                let mut game = self.start()?;
-                play_value(&mut game, colour, value, node)?;
-                self.game = Some(game);
-                Ok(())
-            }
+            None => self.play_first(colour, value, node),
         }
+    }
+
+    /// Plays the move of a value on the game that starts from the stones set up. It stands apart so that
+    /// no later move makes room for a game.
+    fn play_first(&mut self, colour: Colour, value: &[u8], node: usize) -> Result<(), RecordError>
+        requires { self.old.game ≡ None }
+        ensures left { self.new.left ≡ self.old.left }
+        ensures ok { OnOk result ((events : List Event) (outcome : Outcome)
+            → GoesFrom self.new self.new.game events outcome
+            → GoesFrom self.old self.old.game (move_met node colour value.now ∷ events) outcome) }
+        ensures err { IfErr result (λ e. e ≢ Memory → (events : List Event)
+            → GoesFrom self.old self.old.game (move_met node colour value.now ∷ events) (Err e)) }
+    {
+        let mut game = self.start()?;
+        play_value(&mut game, colour, value, node)?;
+        self.game = Some(game);
+        Ok(())
     }
 
     /// The game that starts from the stones set up.
