@@ -1,4 +1,4 @@
-use Rattle.std.proofs.Common.{◌≡◌, ◌∙◌, sym, ap}
+use Rattle.std.proofs.Common.{◌∙◌, sym, ap}
 use Rattle.goref_lines.specs.Front.{last_of}
 use Rattle.goref_lines.specs.Kept.{printable}
 use Rattle.goref_lines.proofs.Pieces.{last_is}
