@@ -2,6 +2,5 @@ pub mod Splits
 pub mod Joins
 pub mod Pieces
 pub mod Pushes
-pub mod Requests
 pub mod FirstWords
 pub mod Gathering

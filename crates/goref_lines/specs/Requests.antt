@@ -1,5 +1,5 @@
 -- What the words of a line ask for: a command with an id and arguments.
-use Rattle.std.specs.Prelude.{ℕ, if◌then◌else◌, List, [], ◌∷◌, Option, Some, None, option_and_then, position, take, drop}
+use Rattle.std.specs.Prelude.{ℕ, if◌then◌else◌, List, [], ◌∷◌, Option, Some, None, option_and_then, position, take}
 use Rattle.goref_lines.specs.Kept.{is_space}
 use Rattle.goref_lines.specs.Words.{is_int, value_of, int_of}
 
@@ -17,16 +17,6 @@ asked id (word ∷ words) = record { id = id; name = Some word; arguments = word
 abbrev pub asked_by : List (List ℕ) → Asked
 asked_by [] = asked None []
 asked_by (word ∷ words) = if is_int word then asked (Some (value_of word)) words else asked None (word ∷ words)
-
--- what the words ask for, where it is known whether the first is an id
-abbrev pub asked_with : Option ℕ → List (List ℕ) → Asked
-asked_with (Some id) words = asked (Some id) (drop 1 words)
-asked_with None words = asked None words
-
--- how many words stand before the command's name
-abbrev pub words_before_name : Option ℕ → ℕ
-words_before_name (Some id) = 1
-words_before_name None = 0
 
 -- the id of a text that was cut: what stands before its first space, where that is a number
 abbrev pub id_of_cut : List ℕ → Option ℕ

@@ -1,7 +1,8 @@
-ghost use Rattle.std.specs.Prelude.{◌≡◌, ◌≤◌, ◌∷◌, [], IfNone, IfSome, drop, length, not};
+ghost use Rattle.std.specs.Prelude.{◌≡◌, ◌≤◌, ◌∷◌, [], IfNone, IfSome, length, not, option_copied, slice_get};
 ghost use Rattle.std.specs.List.{prefix_len};
 ghost use Rattle.goref_lines.specs.Kept.{is_space, words};
 
+use crate::words::word;
 use std::marker::Model;
 
 /// The words of a text that are still to come.
@@ -41,11 +42,18 @@ impl<'a> Words<'a> {
         Some(word)
     }
 
-    /// Leaves out the next word.
-    pub(crate) fn skip_word(&mut self)
-        ensures { self.new ≡ drop 1 self.old }
+    /// The word at this place among those that are still to come, the first at 0.
+    pub(crate) fn word(&self, place: usize) -> Option<&'a [u8]>
+        ensures { option_copied result ≡ slice_get self.now place }
     {
-        self.next_word();
+        word(self.text, place)
+    }
+
+    /// The same words, to be taken again.
+    pub(crate) fn again(&self) -> Words<'a>
+        ensures { result ≡ self.now }
+    {
+        Words { text: self.text }
     }
 }
 

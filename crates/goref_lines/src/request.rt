@@ -1,22 +1,23 @@
 ghost use Rattle.std.specs.Prelude.{◌≡◌, ◌<◌, IfSome, length, option_copied, position, slice_get};
 ghost use Rattle.goref_lines.specs.Kept.{is_space, words};
-ghost use Rattle.goref_lines.specs.Requests.{Asked, asked_by, asked_with, words_before_name as words_before, id_of_cut as id_before_space};
+ghost use Rattle.goref_lines.specs.Requests.{Asked, asked_by, id_of_cut as id_before_space};
 
 use crate::cursor::Words;
-use crate::words::{read_int, word};
+use crate::words::read_int;
 use std::marker::Model;
 
 /// What the words of a line ask for: a command with an id and arguments.
 #[derive(Drop)]
 pub struct Request<'a> {
     id: Option<u32>,
-    text: &'a [u8],
+    name: Option<&'a [u8]>,
+    arguments: Words<'a>,
 }
 
 impl<'a> Model for Request<'a> {
     ghost Value = { Asked };
 
-    ghost view = { λ r. asked_with r.id (words r.text.now) };
+    ghost view = { λ r. record { id = r.id; name = option_copied r.name; arguments = r.arguments } };
 }
 
 impl<'a> Request<'a> {
@@ -24,12 +25,17 @@ impl<'a> Request<'a> {
     pub fn of(text: &'a [u8]) -> Request<'a>
         ensures { result ≡ asked_by (words text.entry.now) }
     {
-        match word(text, 0) {
-            Some(first) => Request {
-                id: read_int(first),
-                text,
-            },
-            None => Request { id: None, text },
+        let mut arguments = Words::of(text);
+        let first = arguments.next_word();
+        let id = first.and_then(read_int);
+        let name = match id {
+            Some(_) => arguments.next_word(),
+            None => first,
+        };
+        Request {
+            id,
+            name,
+            arguments,
         }
     }
 
@@ -44,38 +50,21 @@ impl<'a> Request<'a> {
     pub fn name(&self) -> Option<&'a [u8]>
         ensures { option_copied result ≡ self.now.name }
     {
-        word(self.text, words_before_name(self.id))
+        self.name
     }
 
     /// The argument at this place, the first at 0.
     pub fn argument(&self, place: u16) -> Option<&'a [u8]>
         ensures { option_copied result ≡ slice_get self.now.arguments place }
     {
-        word(
-            self.text,
-            words_before_name(self.id) + 1 + usize::from(place),
-        )
+        self.arguments.word(usize::from(place))
     }
 
     /// All the arguments.
     pub fn arguments(&self) -> Words<'a>
         ensures { result ≡ self.now.arguments }
     {
-        let mut words = Words::of(self.text);
-        if self.id.is_some() {
-            words.skip_word();
-        }
-        words.skip_word();
-        words
-    }
-}
-
-fn words_before_name(id: Option<u32>) -> usize
-    ensures { result ≡ words_before id }
-{
-    match id {
-        Some(_) => 1,
-        None => 0,
+        self.arguments.again()
     }
 }
 
