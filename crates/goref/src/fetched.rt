@@ -1,8 +1,7 @@
 ghost use Rattle.std.specs.Prelude.{◌≡◌, option_copied};
 ghost use Rattle.goref.specs.Answers.{wants as wants_of};
 
-use crate::command::Command;
-use crate::load::{command_asked, load_asked};
+use crate::load::{asks_to_load, load_asked};
 use goref_lines::{Line, Request};
 use std::alloc::Allocator;
 
@@ -30,11 +29,11 @@ pub fn wants(line: &Line) -> Option<&[u8]>
         return None;
     }
     let request = Request::of(line.text());
-    match command_asked(&request) {
-        Some(Command::Loadsgf) => match load_asked(&request) {
-            Some(load) => Some(load.name),
-            None => None,
-        },
-        _ => None,
+    if !asks_to_load(&request) {
+        return None;
+    }
+    match load_asked(&request) {
+        Some(load) => Some(load.name),
+        None => None,
     }
 }

@@ -1,4 +1,5 @@
-ghost use Rattle.std.specs.Prelude.{◌≡◌, IfOk, IsErrOf, option_map, slice_get};
+ghost use Rattle.std.specs.Prelude.{◌≡◌, IfOk, IsErrOf, Some, option_map, slice_get};
+ghost use Rattle.std.specs.Bool.{Decides};
 ghost use Rattle.std.specs.Option.{option_and_then};
 ghost use Rattle.goref.specs.Commands.{command_of};
 ghost use Rattle.goref.specs.Loads.{Loads, LoadsNone, load_of, number_asked, of_record, of_sgf};
@@ -24,6 +25,16 @@ pub fn command_asked(request: &Request) -> Option<Command>
     match request.name() {
         Some(name) => command_named(name),
         None => None,
+    }
+}
+
+/// Whether a request names `loadsgf`. Its name is compared with that of no other command.
+pub fn asks_to_load(request: &Request) -> bool
+    ensures { Decides result (option_and_then command_of request.now.name ≡ Some Command.Loadsgf) }
+{
+    match request.name() {
+        Some(name) => name == b"loadsgf".as_slice(),
+        None => false,
     }
 }
 

@@ -80,23 +80,26 @@ impl<A: Allocator + Copy> Session<A> {
         if !line.has_words() {
             return Ok(Flow::More);
         }
-        let decision = self.decide_line(line, fetched);
-        match write_answer(self, id_of(line), &decision, writer) {
+        let (id, decision) = self.decide_line(line, fetched);
+        match write_answer(self, id, &decision, writer) {
             Ok(()) => Ok(flow_after(&decision)),
             Err(WriteFault) => Err(WriteFault),
         }
     }
 
-    /// Does what a line with words asks.
-    fn decide_line(&mut self, line: &Line, fetched: Fetched<A>) -> Decision
-        ensures { DecidesLine self.old line.now (content_of fetched)
-            (record { decision = result; standing = self.new }) }
+    /// Does what a line with words asks, and tells the line's id, also of one that is too long.
+    fn decide_line(&mut self, line: &Line, fetched: Fetched<A>) -> (Option<u32>, Decision)
+        ensures id { result.0 ≡ line_id line.now }
+        ensures decision { DecidesLine self.old line.now (content_of fetched)
+            (record { decision = result.1; standing = self.new }) }
     {
+        let text = line.text();
         if line.is_long() {
-            return Decision::Refused(Refusal::LineTooLong);
+            return (id_of_cut(text), Decision::Refused(Refusal::LineTooLong));
         }
-        let request = Request::of(line.text());
-        self.decide(&request, fetched)
+        let request = Request::of(text);
+        let decision = self.decide(&request, fetched);
+        (request.id(), decision)
     }
 
     /// Does what is asked.
@@ -416,16 +419,6 @@ impl<A: Allocator + Copy> Session<A> {
             Err(error) => Err(error),
         }
     }
-}
-
-/// The id of a line, also of one that is too long.
-fn id_of(line: &Line) -> Option<u32>
-    ensures { result ≡ line_id line.now }
-{
-    if line.is_long() {
-        return id_of_cut(line.text());
-    }
-    Request::of(line.text()).id()
 }
 
 fn flow_after(decision: &Decision) -> Flow
