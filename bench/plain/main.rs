@@ -1,9 +1,11 @@
 //! A plain program to compare `goref gtp` with: it reads `boardsize` with the lines that it is built for,
-//! `play`, `undo`, `genmove` and `quit`, and answers as goref does. `plain script ROUNDS` writes lines for both: so many times the
-//! same 300 random plays, all of them legal, and 300 undos. Nothing of it is proved.
+//! `play`, `undo`, `genmove`, `loadsgf` and `quit`, and answers as goref does. `plain script ROUNDS` writes lines for
+//! both: so many times the same 300 random plays, all of them legal, and 300 undos. `plain records FOLDER COUNT MOVES`
+//! writes records of so many random games of so many moves into a folder. Nothing of it is proved.
 
 mod board;
 mod game;
+mod record;
 
 use board::{LINES, POINTS};
 use game::Game;
@@ -65,6 +67,16 @@ fn answer(game: &mut Game, line: &str, out: &mut impl Write) -> io::Result<bool>
         ("play" | "genmove", None) => write!(out, "?{id} syntax error\n\n")?,
         ("undo", _) if game.undo() => write!(out, "={id}\n\n")?,
         ("undo", _) => write!(out, "?{id} cannot undo\n\n")?,
+        ("loadsgf", _) => {
+            let text = words.next().and_then(|name| std::fs::read(name).ok());
+            match text.and_then(|text| record::game_of(&text)) {
+                Some(loaded) => {
+                    *game = loaded;
+                    write!(out, "={id}\n\n")?;
+                }
+                None => write!(out, "?{id} cannot load file\n\n")?,
+            }
+        }
         ("quit", _) => write!(out, "={id}\n\n")?,
         _ => write!(out, "?{id} unknown command\n\n")?,
     }
@@ -115,11 +127,24 @@ fn script(rounds: usize) -> io::Result<()> {
     out.flush()
 }
 
+fn records(folder: &str, count: u64, moves: usize) -> io::Result<()> {
+    for number in 0..count {
+        let name = format!("{folder}/{number}.sgf");
+        std::fs::write(name, record::random_record(number, moves))?;
+    }
+    Ok(())
+}
+
 fn main() -> io::Result<()> {
     let words: Vec<String> = std::env::args().skip(1).collect();
     match words.as_slice() {
         [] => gtp(),
         [word, rounds] if word == "script" => script(rounds.parse().expect("a number")),
-        _ => panic!("no words, or: script ROUNDS"),
+        [word, folder, count, moves] if word == "records" => records(
+            folder,
+            count.parse().expect("a number"),
+            moves.parse().expect("a number"),
+        ),
+        _ => panic!("no words, or: script ROUNDS, or: records FOLDER COUNT MOVES"),
     }
 }
