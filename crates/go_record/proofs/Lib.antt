@@ -5,6 +5,7 @@ pub mod Lines
 pub mod Unique
 pub mod Spelled
 pub mod Painting
+pub mod Setting
 pub mod Recorded
 pub mod Fitting
 pub mod SoundGames

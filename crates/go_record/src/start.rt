@@ -1,20 +1,49 @@
-ghost use Rattle.std.specs.Prelude.{◌≡◌, Some, All};
+ghost use Rattle.std.specs.Prelude.{◌≡◌, All, IfNone, List, None, OnSome, Some};
+ghost use Rattle.go_board.specs.declared.point.Point.{Point};
 ghost use Rattle.go_board.specs.Points.{IsOn};
 ghost use Rattle.go_board.specs.Reaching.{is_same};
+ghost use Rattle.go_sgf.specs.BoardValues.{points_of};
+ghost use Rattle.go_sgf.specs.Rectangles.{listed};
+ghost use Rattle.go_sgf.specs.View.{values_of};
 ghost use Rattle.go_record.specs.Walks.{colour_named, colour_of as colour_by, first_mover as mover_first, has_stones as has_stones_of, is_colour_word, with_points};
 
 use go_board::{Colour, Grid, Point};
-use go_sgf::trim;
+use go_sgf::{Rectangle, Row, points_in, trim};
 
-/// Gives points a colour, or empties them.
-pub(crate) fn set_points(grid: &mut Grid, colour: Option<Colour>, points: &[Point])
-    requires { All (IsOn grid.old.lines) points.now }
+/// Gives the points of values a colour, or empties them, value by value. None at the first that is
+/// malformed: the points of those before it are set then.
+pub(crate) fn set_points(grid: &mut Grid, colour: Option<Colour>, values: &[&[u8]]) -> Option<()>
+    ensures lines { grid.new.lines ≡ grid.old.lines }
+    ensures set { OnSome result ((ps : List Point)
+        × (points_of grid.old.lines (values_of values.now) ≡ Some ps)
+        × (grid.new.colours ≡ with_points grid.old.lines colour grid.old.colours ps)) }
+    ensures bad { IfNone result (points_of grid.old.lines (values_of values.now) ≡ None) }
+{
+    let size = grid.size();
+    for value in values {
+        set_rows(grid, colour, points_in(value, size)?);
+    }
+    Some(())
+}
+
+fn set_rows(grid: &mut Grid, colour: Option<Colour>, rectangle: Rectangle)
+    requires { All (IsOn grid.old.lines) (listed rectangle) }
     ensures lines { grid.new.lines ≡ grid.old.lines }
     ensures colours { grid.new.colours
-        ≡ with_points grid.old.lines colour grid.old.colours points.now }
+        ≡ with_points grid.old.lines colour grid.old.colours (listed rectangle) }
 {
-    for point in points {
-        grid.set(*point, colour);
+    for number in 0..rectangle.rows() {
+        set_row(grid, colour, rectangle.row(number));
+    }
+}
+
+fn set_row(grid: &mut Grid, colour: Option<Colour>, row: Row)
+    requires { All (IsOn grid.old.lines) row }
+    ensures lines { grid.new.lines ≡ grid.old.lines }
+    ensures colours { grid.new.colours ≡ with_points grid.old.lines colour grid.old.colours row }
+{
+    for point in row {
+        grid.set(point, colour);
     }
 }
 

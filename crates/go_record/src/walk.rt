@@ -13,7 +13,7 @@ use crate::start::{colour_of, first_mover, set_points};
 use crate::state::{Left, Walk};
 use go_board::{Colour, Grid, Move, Vertex};
 use go_game::{Game, PlayError, SetupError};
-use go_sgf::{Node, Property, point_of, points_of};
+use go_sgf::{Node, Property, point_of};
 use std::alloc::Allocator;
 
 impl<A: Allocator + Copy> Walk<A> {
@@ -83,13 +83,9 @@ impl<A: Allocator + Copy> Walk<A> {
         if self.game.is_some() {
             return Err(RecordError::SetupAfterMove(node));
         }
-        match points_of(self.alloc, values, self.grid.size()) {
-            Ok(Some(points)) => {
-                set_points(&mut self.grid, colour, &points);
-                Ok(())
-            }
-            Ok(None) => Err(RecordError::BadValue(node)),
-            Err(_) => Err(RecordError::Memory),
+        match set_points(&mut self.grid, colour, values) {
+            Some(()) => Ok(()),
+            None => Err(RecordError::BadValue(node)),
         }
     }
 

@@ -12,4 +12,4 @@ pub mod Canonical
 pub mod Unambiguous
 pub mod Fronts
 pub mod Fronted
-pub mod Listing
+pub mod Rectangles

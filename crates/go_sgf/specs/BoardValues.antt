@@ -1,5 +1,5 @@
 -- Values that are points: one of them or a pass, and lists of them with rectangles.
-use Rattle.std.specs.Prelude.{◌≡◌, ℕ, ◌-◌, ◌==◌, ◌&&◌, ◌||◌, nat_le, nat_lt, Bool, true, false, if◌then◌else◌, List, [], ◌∷◌, ◌++◌, Option, Some, None, drop, filter, map, option_map, position, take}
+use Rattle.std.specs.Prelude.{ℕ, ◌-◌, ◌==◌, ◌&&◌, ◌||◌, nat_le, nat_lt, Bool, true, false, if◌then◌else◌, List, [], ◌∷◌, ◌++◌, Option, Some, None, drop, filter, map, option_map, position, take}
 use Rattle.go_board.specs.declared.point.Point.{Point}
 use Rattle.go_board.specs.declared.vertex.Vertex.{Vertex}
 use Rattle.go_board.specs.declared.vertex.Vertex.TheVariants.{Pass, At}
@@ -70,8 +70,3 @@ both _ _ = None
 abbrev pub points_of : ℕ → List (List ℕ) → Option (List Point)
 points_of n [] = Some []
 points_of n (v ∷ vs) = both (points_in n v) (points_of n vs)
-
--- a list with these points behind it, or a test that says there are none
-abbrev pub Pushed : List Point → List Point → Option (List Point) → Bool → Type 0
-Pushed old new (Some ps) done = (done ≡ true) × (new ≡ old ++ ps)
-Pushed old new None done = done ≡ false

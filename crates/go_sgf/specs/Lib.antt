@@ -10,3 +10,4 @@ pub mod Laws
 pub mod Cooked
 pub mod Numbers
 pub mod BoardValues
+pub mod Rectangles

@@ -11,6 +11,7 @@ mod numbers;
 mod points;
 mod reader;
 mod record;
+mod rectangle;
 mod scan;
 mod writer;
 
@@ -19,7 +20,8 @@ pub use error::SgfError;
 pub use hundredths::{MOST_HUNDREDTHS, hundredths_of};
 pub use limits::{MAX_DEPTH, MAX_RECORD};
 pub use numbers::{MAX_NUMBER, number_of, trim};
-pub use points::{point_of, points_of};
+pub use points::{point_of, points_in};
 pub use reader::read;
 pub use record::{Collection, Node, Property, Tree};
+pub use rectangle::{Rectangle, Row};
 pub use writer::write;

@@ -1,13 +1,13 @@
-ghost use Rattle.std.specs.Prelude.{◌≡◌, ◌++◌, ◌∷◌, ◌<◌, ◌==◌, [], All, filter, IfOk, IfSome, OnOk, length, option_map, position};
+ghost use Rattle.std.specs.Prelude.{◌≡◌, ◌<◌, ◌==◌, All, IfSome, length, option_map, position};
 ghost use Rattle.go_board.specs.Points.{IsOn};
 ghost use Rattle.go_board.specs.Sizes.{lines_of};
 ghost use Rattle.go_board.specs.Vertices.{IsOnBoard};
-ghost use Rattle.go_sgf.specs.BoardValues.{Pushed, is_between as is_between_lines, is_in, is_pass as is_pass_word, names_line, point_in, point_of as point_by, points_alone, points_in, points_of as points_by, rectangle, rectangle_by};
-ghost use Rattle.go_sgf.specs.View.{values_of};
+ghost use Rattle.go_sgf.specs.BoardValues.{is_pass as is_pass_word, names_line, point_in, point_of as point_by, points_alone, points_in as points_by};
+ghost use Rattle.go_sgf.specs.Rectangles.{listed};
 
 use crate::numbers::trim;
+use crate::rectangle::Rectangle;
 use go_board::{Point, Size, Vertex};
-use std::alloc::{AllocError, Allocator};
 
 /// The point of a move, by two lower-case letters: the column from the left and the row from the
 /// top, `a` the first. An empty value is a pass, and so is `tt` on boards where it is no point.
@@ -53,46 +53,21 @@ fn is_line(letter: u8, size: Size) -> bool
     b'a' <= letter && letter <= b'z' && letter - b'a' < size.lines()
 }
 
-/// The points that values list, one value after the other: each a point, two opposite corners of a
-/// rectangle with `:` between them, whose points come in point order, or nothing, for no point.
-/// White space at both ends of a value or of a corner is skipped. None where a value is malformed.
-pub fn points_of<A: Allocator + Copy>(
-    alloc: A,
-    values: &[&[u8]],
-    size: Size,
-) -> Result<Option<Vec<Point, A>>, AllocError>
-    ensures value { IfOk result (λ listed. option_map (λ v. v.items) listed
-        ≡ points_by (lines_of size) (values_of values.now)) }
-    ensures on { IfOk result (λ listed. IfSome listed (λ v. All (IsOn (lines_of size)) v.items)) }
-{
-    let mut listed = Vec::new(alloc);
-    for value in values {
-        if !push_points(&mut listed, value, size)? {
-            return Ok(None);
-        }
-    }
-    Ok(Some(listed))
-}
-
-/// Adds the points of one value, and tells whether it has some.
-fn push_points<A: Allocator + Copy>(
-    listed: &mut Vec<Point, A>,
-    value: &[u8],
-    size: Size,
-) -> Result<bool, AllocError>
-    requires { All (IsOn (lines_of size)) listed.old.items }
-    ensures pushed { IfOk result (Pushed listed.old.items listed.new.items
-        (points_in (lines_of size) value.now)) }
-    ensures on { IfOk result (λ _. All (IsOn (lines_of size)) listed.new.items) }
+/// The points that one value names: a point, or two opposite corners of a rectangle with `:` between
+/// them, or nothing, for no point. White space at both ends of the value or of a corner is skipped.
+/// None where the value is malformed.
+pub fn points_in(value: &[u8], size: Size) -> Option<Rectangle>
+    ensures value { option_map listed result ≡ points_by (lines_of size) value.now }
+    ensures on { IfSome result (λ r. All (IsOn (lines_of size)) (listed r)) }
 {
     match colon_in(value) {
         Some(place) => {
             let (first, rest) = value.split_at(place);
-            let from = read_point(trim(first), size);
-            let to = read_point(trim(rest.split_at(1).1), size);
-            push_corners(listed, from, to, size)
+            let from = read_point(trim(first), size)?;
+            let to = read_point(trim(rest.split_at(1).1), size)?;
+            Some(Rectangle::between(from, to))
         }
-        None => push_alone(listed, trim(value), size),
+        None => point_alone(trim(value), size),
     }
 }
 
@@ -103,90 +78,14 @@ fn colon_in(value: &[u8]) -> Option<usize>
     value.iter().position(|byte| *byte == b':')
 }
 
-fn push_alone<A: Allocator + Copy>(
-    listed: &mut Vec<Point, A>,
-    word: &[u8],
-    size: Size,
-) -> Result<bool, AllocError>
-    requires { All (IsOn (lines_of size)) listed.old.items }
-    ensures pushed { IfOk result (Pushed listed.old.items listed.new.items
-        (points_alone (lines_of size) word.now)) }
-    ensures on { IfOk result (λ _. All (IsOn (lines_of size)) listed.new.items) }
+/// The point of a word, or no point where the word is empty.
+fn point_alone(word: &[u8], size: Size) -> Option<Rectangle>
+    ensures value { option_map listed result ≡ points_alone (lines_of size) word.now }
+    ensures on { IfSome result (λ r. All (IsOn (lines_of size)) (listed r)) }
 {
     if word.is_empty() {
-        return Ok(true);
+        return Some(Rectangle::empty());
     }
-    match read_point(word, size) {
-        Some(point) => {
-            listed.push(point)?;
-            Ok(true)
-        }
-        None => Ok(false),
-    }
-}
-
-fn push_corners<A: Allocator + Copy>(
-    listed: &mut Vec<Point, A>,
-    from: Option<Point>,
-    to: Option<Point>,
-    size: Size,
-) -> Result<bool, AllocError>
-    requires { All (IsOn (lines_of size)) listed.old.items }
-    ensures pushed { IfOk result (Pushed listed.old.items listed.new.items
-        (rectangle_by (lines_of size) from to)) }
-    ensures on { IfOk result (λ _. All (IsOn (lines_of size)) listed.new.items) }
-{
-    match (from, to) {
-        (Some(from), Some(to)) => {
-            push_rectangle(listed, from, to, size)?;
-            Ok(true)
-        }
-        _ => Ok(false),
-    }
-}
-
-fn push_rectangle<A: Allocator + Copy>(
-    listed: &mut Vec<Point, A>,
-    from: Point,
-    to: Point,
-    size: Size,
-) -> Result<(), AllocError>
-    requires { All (IsOn (lines_of size)) listed.old.items }
-    ensures pushed { OnOk result (listed.new.items
-        ≡ listed.old.items ++ rectangle (lines_of size) from to) }
-    ensures on { OnOk result (All (IsOn (lines_of size)) listed.new.items) }
-{
-    for number in 0..size.points() {
-        push_inside(listed, from, to, Point::numbered(size, number))?;
-    }
-    Ok(())
-}
-
-/// Adds a point where it is in the rectangle with these opposite corners.
-fn push_inside<A: Allocator + Copy>(
-    listed: &mut Vec<Point, A>,
-    from: Point,
-    to: Point,
-    point: Point,
-) -> Result<(), AllocError>
-    ensures { OnOk result
-        (listed.new.items ≡ listed.old.items ++ filter (is_in from to) (point ∷ [])) }
-{
-    if is_inside(from, to, point) {
-        listed.push(point)?;
-    }
-    Ok(())
-}
-
-/// Whether a point is in the rectangle with these opposite corners.
-fn is_inside(from: Point, to: Point, point: Point) -> bool
-    ensures { result ≡ is_in from to point }
-{
-    is_between(from.col, to.col, point.col) && is_between(from.row, to.row, point.row)
-}
-
-fn is_between(from: u8, to: u8, line: u8) -> bool
-    ensures { result ≡ is_between_lines from to line }
-{
-    (from <= line && line <= to) || (to <= line && line <= from)
+    let point = read_point(word, size)?;
+    Some(Rectangle::of(point))
 }

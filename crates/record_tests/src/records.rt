@@ -4,8 +4,8 @@ ghost use Rattle.go_board.specs.Sizes.{lines_of};
 use failing::Failing;
 use go_board::{Point, Size, Vertex, WriteFault, read_vertex};
 use go_sgf::{
-    Collection, SgfError, cook_simple, cook_text, escape, hundredths_of, number_of, point_of,
-    points_of, read, write,
+    Collection, Rectangle, Row, SgfError, cook_simple, cook_text, escape, hundredths_of, number_of,
+    point_of, points_in, read, write,
 };
 use memory_devices::Writer;
 use std::alloc::{AllocError, Allocator, Global};
@@ -205,10 +205,27 @@ fn cooked_and_escaped_at_length(rt: HostRuntime) -> Result<(), Fail> {
     Ok(())
 }
 
-/// Asserts the points that values list on nine lines, by their words.
-fn lists(rt: &impl Abort, alloc: Global, values: &[&[u8]], words: &[&[u8]]) {
-    let listed = points_of(alloc, values, nine(rt)).expect(rt, "memory");
-    let points = listed.expect(rt, "points");
+/// Adds the points of a row.
+fn push_row(points: &mut Vec<Point>, row: Row) -> Result<(), AllocError> {
+    for point in row {
+        points.push(point)?;
+    }
+    Ok(())
+}
+
+/// The points of a rectangle, row by row.
+fn listed(alloc: Global, rectangle: Rectangle) -> Result<Vec<Point>, AllocError> {
+    let mut points = Vec::new(alloc);
+    for number in 0..rectangle.rows() {
+        push_row(&mut points, rectangle.row(number))?;
+    }
+    Ok(points)
+}
+
+/// Asserts the points that a value names on nine lines, by their words.
+fn names(rt: &impl Abort, alloc: Global, value: &[u8], words: &[&[u8]]) {
+    let rectangle = points_in(value, nine(rt)).expect(rt, "points");
+    let points = listed(alloc, rectangle).expect(rt, "memory");
     assert_eq!(rt; points.len(), words.len());
     for (point, word) in points.iter().zip(words) {
         assert!(rt; read_vertex(word, nine(rt)) == Ok(Vertex::At(*point)));
@@ -216,8 +233,7 @@ fn lists(rt: &impl Abort, alloc: Global, values: &[&[u8]], words: &[&[u8]]) {
 }
 
 #[test]
-fn points_and_lists(rt: HostRuntime) {
-    let alloc = rt.alloc();
+fn the_point_of_a_move(rt: HostRuntime) {
     let size = nine(&rt);
     assert!(rt; point_of(b"aa", size) == Some(Vertex::At(Point { col: 0, row: 8 })));
     assert!(rt; point_of(b" cc ", size) == Some(Vertex::At(Point { col: 2, row: 6 })));
@@ -226,63 +242,72 @@ fn points_and_lists(rt: HostRuntime) {
     for word in [b"jj".as_slice(), b"a", b"aaa", b"AA", b"a a", b"ja"] {
         assert!(rt; point_of(word, size).is_none());
     }
-    lists(
+}
+
+#[test]
+fn points_of_a_value(rt: HostRuntime) {
+    let alloc = rt.alloc();
+    names(&rt, alloc, b"aa", &[b"a9".as_slice()]);
+    names(&rt, alloc, b"\tcc\n", &[b"c7".as_slice()]);
+    names(&rt, alloc, b"", &[]);
+    names(&rt, alloc, b" \n", &[]);
+    let square = [b"a8".as_slice(), b"b8", b"a9", b"b9"];
+    for value in [b"aa:bb".as_slice(), b"bb:aa", b"ba:ab", b"ab:ba"] {
+        names(&rt, alloc, value, &square);
+    }
+    names(
         &rt,
         alloc,
-        &[b"bb:aa".as_slice(), b"aa".as_slice()],
-        &[
-            b"a8".as_slice(),
-            b"b8".as_slice(),
-            b"a9".as_slice(),
-            b"b9".as_slice(),
-            b"a9".as_slice(),
-        ],
-    );
-    lists(
-        &rt,
-        alloc,
-        &[b" aa : ba ".as_slice()],
+        b" aa : ba ",
         &[b"a9".as_slice(), b"b9".as_slice()],
     );
-    lists(&rt, alloc, &[b"".as_slice()], &[]);
-    lists(&rt, alloc, &[], &[]);
-    for word in [b"tt".as_slice(), b"aa:", b":aa", b"aa:bb:cc", b"aa:jj"] {
-        let listed = points_of(alloc, &[word], size).expect(&rt, "memory");
-        assert!(rt; listed.is_none());
+    let column = [b"j1".as_slice(), b"j2", b"j3"];
+    names(&rt, alloc, b"ig:ii", &column);
+    names(&rt, alloc, b"ii:ig", &column);
+    names(&rt, alloc, b"ee:ee", &[b"e5".as_slice()]);
+    for value in [
+        b"tt".as_slice(),
+        b"aa:",
+        b":aa",
+        b":",
+        b"aa:bb:cc",
+        b"aa:jj",
+        b"jj:aa",
+        b"a",
+        b"AA",
+    ] {
+        assert!(rt; points_in(value, nine(&rt)).is_none());
     }
 }
 
 #[test]
-fn points_at_length(rt: HostRuntime) -> Result<(), Fail> {
+fn points_of_long_values(rt: HostRuntime) -> Result<(), Fail> {
     let alloc = rt.alloc();
-    let largest = Size::new(25).expect(&rt, "a size");
-    let corner = Point { col: 0, row: 24 };
-    let values = vec![in alloc; b"aa".as_slice(); 1_500]?;
-    let listed = points_of(alloc, values.as_slice(), largest)?;
-    let points = vec![in alloc; corner; 1_500]?;
-    assert!(rt; listed.expect(&rt, "points").as_slice() == points.as_slice());
     let padded = copies(alloc, b" ", 1_500, b"aa")?;
-    let listed = points_of(alloc, &[padded.as_slice()], largest)?;
-    assert!(rt; listed.expect(&rt, "points").as_slice() == [corner].as_slice());
-    let listed = points_of(alloc, &[b"aa:yy".as_slice()], largest)?;
-    assert!(rt; listed.expect(&rt, "points").len() == 625);
+    names(&rt, alloc, padded.as_slice(), &[b"a9".as_slice()]);
+    let largest = Size::new(25).expect(&rt, "a size");
+    let rectangle = points_in(b"ya:ay", largest).expect(&rt, "points");
+    assert_eq!(rt; rectangle.rows(), 25);
+    let points = listed(alloc, rectangle)?;
+    assert_eq!(rt; points.len(), 625);
+    assert!(rt; points[0] == Point { col: 0, row: 0 });
+    assert!(rt; points[26] == Point { col: 1, row: 1 });
+    assert!(rt; points[624] == Point { col: 24, row: 24 });
     Ok(())
 }
 
 #[test]
 fn two_letters_t(rt: HostRuntime) {
-    let alloc = rt.alloc();
     let nineteen = Size::new(19).expect(&rt, "a size");
     assert!(rt; point_of(b"tt", nineteen) == Some(Vertex::Pass));
-    let listed = points_of(alloc, &[b"tt".as_slice()], nineteen).expect(&rt, "memory");
-    assert!(rt; listed.is_none());
+    assert!(rt; points_in(b"tt", nineteen).is_none());
     for (lines, row) in [(20u8, 0u8), (25, 5)] {
         let size = Size::new(lines).expect(&rt, "a size");
         let point = Point { col: 19, row };
         assert!(rt; point_of(b"tt", size) == Some(Vertex::At(point)));
-        let listed = points_of(alloc, &[b"tt".as_slice()], size).expect(&rt, "memory");
-        let points = listed.expect(&rt, "points");
-        assert!(rt; points.as_slice() == [point].as_slice());
+        let rectangle = points_in(b"tt", size).expect(&rt, "points");
+        assert_eq!(rt; rectangle.rows(), 1);
+        assert!(rt; rectangle.row(0).next() == Some(point));
     }
 }
 
@@ -343,8 +368,7 @@ fn each_refused(rt: &impl Abort, alloc: Global, call: u8) -> u64 {
             0 => reads(rt, &failing),
             1 => cook_text(&failing, b"a\\]b").is_ok(),
             2 => cook_simple(&failing, b"a\nb").is_ok(),
-            3 => escape(&failing, b"]]]]").is_ok(),
-            _ => points_of(&failing, &[b"aa:ii".as_slice()], nine(rt)).is_ok(),
+            _ => escape(&failing, b"]]]]").is_ok(),
         };
         assert!(rt; done == failing.waits(), "request {number} of call {call}");
         if done {
@@ -356,7 +380,7 @@ fn each_refused(rt: &impl Abort, alloc: Global, call: u8) -> u64 {
 
 #[test]
 fn each_request_for_memory_refused(rt: HostRuntime) {
-    for call in 0..5u8 {
+    for call in 0..4u8 {
         let requests = each_refused(&rt, rt.alloc(), call);
         assert!(rt;
             requests > 0 && requests < 50,

@@ -262,6 +262,42 @@ fn print_the_record(rt: HostRuntime) {
     is_written_as(&rt, rt.alloc(), text, text);
 }
 
+#[test]
+fn set_up_by_rectangles(rt: HostRuntime) {
+    let alloc = rt.alloc();
+    is_written_as(
+        &rt,
+        alloc,
+        b"(;SZ[3]AB[cc:aa]AE[ bb ][])",
+        b"(;GM[1]FF[4]SZ[3]KM[0]PL[W]AB[ac][bc][cc][ab][cb][aa][ba][ca])\n",
+    );
+    is_written_as(
+        &rt,
+        alloc,
+        b"(;SZ[4]AW[][ ]AB[da:aa]AW[ab:\tad])",
+        b"(;GM[1]FF[4]SZ[4]KM[0]PL[B]AB[aa][ba][ca][da]AW[ad][ac][ab])\n",
+    );
+    is_written_as(
+        &rt,
+        alloc,
+        b"(;SZ[3]AB[aa:ca][ac:ac]AE[ca:ac]AW[ba][bb]AE[bb:bb])",
+        b"(;GM[1]FF[4]SZ[3]KM[0]PL[B]AW[ba])\n",
+    );
+}
+
+#[test]
+fn set_up_by_malformed_values(rt: HostRuntime) {
+    let alloc = rt.alloc();
+    for source in [
+        b"(;SZ[3];AB[aa:cc][]AE[aa][ba][dd][ca])".as_slice(),
+        b"(;SZ[3];AE[aa:cc][aa:])".as_slice(),
+        b"(;SZ[3]AB[bb];AW[aa:ab][a];B[])".as_slice(),
+    ] {
+        let refusal = replayed(&rt, alloc, source, None).err();
+        assert!(rt; refusal == Some(RecordError::BadValue(1)));
+    }
+}
+
 fn judged(rt: &impl Abort, alloc: Global, source: &[u8]) -> Result<Verdict, RecordError> {
     let collection = read(alloc, source).expect(rt, "a record");
     judge(alloc, &collection)

@@ -1,10 +1,10 @@
 use Rattle.std.proofs.Common.{◌≡◌, drop}
-use Rattle.go_record.specs.Walks.{with_points}
+use Rattle.go_sgf.specs.View.{values_of}
+use Rattle.go_record.proofs.Setting.{SetSoFar}
 use Rattle.go_record.proofs.start.set_points.Given as goal
 
-abbrev pub invariant-loop-point : goal.invariant-loop-point
-invariant-loop-point l = record {
+abbrev pub invariant-loop-value : goal.invariant-loop-value
+invariant-loop-value l = record {
   lines : l.grid.lines ≡ l.initial.grid.lines;
-  colours : with_points l.initial.grid.lines l.colour l.grid.colours (drop l.point-index l.points)
-      ≡ with_points l.initial.grid.lines l.colour l.initial.grid.colours l.points;
+  set : SetSoFar l.initial.grid.lines l.colour l.initial.grid.colours (values_of l.values) (values_of (drop l.value-index l.values)) l.grid.colours;
 }

@@ -15,23 +15,22 @@ returns-then-is_some g c =
     stops_event (Some some.0) w.left (stones c.args.node c.args.colour vs) some.1 (seen_stones w.left live c.args.node c.args.colour vs)
     (λ other events. plays_stones some.0.standing c.args.node c.args.colour vs events)
 
-pub returns-in-Ok-None : goal.returns-in-Ok-None
-returns-in-Ok-None g c =
+pub returns-in-None : goal.returns-in-None
+returns-in-None g c =
     let w = c.args.self.now in
     let vs = values_of c.args.values.now in
     let none : w.game ≡ None = none_of w.game (sym c.is_some.ensures ∙ c.if-is_some.false) in
     let live : is_nothing w.left ≡ false = sym c.is_over.ensures ∙ c.if-is_over.false in
     stops_event None w.left (stones c.args.node c.args.colour vs) none (seen_stones w.left live c.args.node c.args.colour vs)
-    (λ other events. sets_stones_bad w.grid.lines w.komi w.grid.colours w.turn c.args.node c.args.colour vs events
-    (sym (rw (c.in-Ok-None.field-0-is, c.size.ensures.lines) at c.in-Ok-None.ensures.value)))
+    (λ other events. sets_stones_bad w.grid.lines w.komi w.grid.colours w.turn c.args.node c.args.colour vs events c.in-None.ensures.bad)
 
-pub returns-in-Ok-Some : goal.returns-in-Ok-Some
-returns-in-Ok-Some g c =
+pub returns-in-Some : goal.returns-in-Some
+returns-in-Some g c =
     let w = c.args.self.now in
     let vs = values_of c.args.values.now in
     let none : w.game ≡ None = none_of w.game (sym c.is_some.ensures ∙ c.if-is_some.false) in
     let live : is_nothing w.left ≡ false = sym c.is_over.ensures ∙ c.if-is_over.false in
+    let set = c.in-Some.ensures.set in
     passes_event {w = w} None None (stones c.args.node c.args.colour vs) none none (seen_stones w.left live c.args.node c.args.colour vs)
-    (λ events outcome h. sets_stones w.grid.lines w.komi w.grid.colours w.turn c.args.node c.args.colour vs c.in-Ok-Some.points.items events outcome
-    (sym (rw (c.in-Ok-Some.field-0-is, c.size.ensures.lines) at c.in-Ok-Some.ensures.value))
-    (rw (c.set_points.ensures.lines, c.set_points.ensures.colours, c.deref.ensures.value) at h))
+    (λ events outcome h. sets_stones w.grid.lines w.komi w.grid.colours w.turn c.args.node c.args.colour vs set.0 events outcome set.1
+    (rw (c.set_points.ensures.lines, set.2) at h))
