@@ -1,7 +1,8 @@
 //! A plain program to compare `goref gtp` with: it reads `boardsize` with the lines that it is built for,
-//! `play`, `undo`, `genmove`, `loadsgf` and `quit`, and answers as goref does. `plain script ROUNDS` writes lines for
-//! both: so many times the same 300 random plays, all of them legal, and 300 undos. `plain records FOLDER COUNT MOVES`
-//! writes records of so many random games of so many moves into a folder. Nothing of it is proved.
+//! `play`, `undo`, `genmove`, `loadsgf` and `quit`, and answers as goref does, a line that is too long too.
+//! `plain script ROUNDS` writes lines for both: so many times the same 300 random plays, all of them legal,
+//! and 300 undos. `plain records FOLDER COUNT MOVES` writes records of so many random games of so many moves
+//! into a folder. Nothing of it is proved.
 
 mod board;
 mod game;
@@ -10,6 +11,9 @@ mod record;
 use board::{LINES, POINTS};
 use game::Game;
 use std::io::{self, BufRead, BufWriter, Write};
+
+/// The most bytes that a line may have.
+const LIMIT: usize = 8192;
 
 const LETTERS: &[u8] = b"ABCDEFGHJKLMNOPQRSTUVWXYZ";
 
@@ -42,6 +46,11 @@ fn point_of(word: &str) -> Option<Option<usize>> {
 
 /// Writes the answer to a line; whether the session goes on.
 fn answer(game: &mut Game, line: &str, out: &mut impl Write) -> io::Result<bool> {
+    if line.len() > LIMIT {
+        out.write_all(b"? line too long\n\n")?;
+        out.flush()?;
+        return Ok(true);
+    }
     let line = line.split('#').next().unwrap_or_default();
     let mut words = line.split_whitespace().peekable();
     let id = words.next_if(|word| word.bytes().all(|byte| byte.is_ascii_digit()));
