@@ -27,3 +27,4 @@ pub mod Taken
 pub mod Placing
 pub mod Rowing
 pub mod Packing
+pub mod PartPoints

@@ -1,5 +1,5 @@
 -- What the cells of a kept board answer.
-use Rattle.std.specs.Prelude.{None, replicate, IsTrue}
+use Rattle.std.specs.Prelude.{Option, None, Some, replicate, IsTrue}
 use Rattle.std.specs.Int.{bit_at}
 use Rattle.std.proofs.Common.{zero, suc, ℕ, ◌+◌, ◌*◌, ◌/◌, ◌%◌, ◌^◌, ◌<◌, ◌≤◌, ◌≡◌, ◌↔◌, ◌++◌, ◌∷◌, [], refl, sym, ap, ◌∙◌, arith, inl, inr, Bool, true, false, List, length, nat_eq, bit_and, get_or}
 use Rattle.std.proofs.lemmas.Bool.{cases_lt, eq-eqb, eqb-true, false_from_ne_true}
@@ -7,6 +7,7 @@ use Rattle.std.proofs.lemmas.List.{ext_get_or, get_or-replicate, get_or_past, le
 use Rattle.std.proofs.lemmas.List.FromFn.{length-range_with_len}
 use Rattle.std.proofs.lemmas.List.Sums.{count_by-le-length, length-filter}
 use Rattle.std.proofs.lemmas.Nat.Bits.{shr_and_one}
+use Rattle.go_board.specs.declared.colour.Colour.{Colour}
 use Rattle.go_board.specs.declared.size.TheConstants.{MAX_LINES, MAX_POINTS}
 use Rattle.go_board.specs.Chains.{members}
 use Rattle.go_board.specs.Colours.{Colouring, colour_at}
@@ -15,10 +16,11 @@ use Rattle.go_board.specs.Paths.{Joined}
 use Rattle.go_board.specs.Points.{is_adjacent}
 use Rattle.go_board.specs.Reaching.{is_liberty_of, joined, points}
 use Rattle.go_chains.specs.Cells.{colour_of, label_of, lib_of, next_of, size_of, tables_of, word_of}
+use Rattle.go_chains.specs.Parts.{is_labelled}
 use Rattle.go_chains.specs.Rings.{ring_from}
 use Rattle.go_chains.specs.Sound.{IsKept, IsStoneOf, colouring_of, value_of}
 use Rattle.go_chains.specs.Tables.{IsStone}
-use Rattle.go_chains.proofs.Bridge.{IsKept-tidy, colouring-at, far_stone, length-colouring, length-ring_from, stone-kept, tidy-kept, colouring-inside}
+use Rattle.go_chains.proofs.Bridge.{IsKept-tidy, colouring-at, far_stone, length-colouring, length-ring_from, of_stone, stone-kept, tidy-kept, colouring-inside}
 use Rattle.go_chains.proofs.Counted.{counted}
 use Rattle.go_chains.proofs.Neighbours.{square-le}
 
@@ -26,6 +28,9 @@ use Rattle.go_chains.proofs.Neighbours.{square-le}
 pub same_answer : (a b : Bool) → (a ≡ true → b ≡ true) → (b ≡ true → a ≡ true) → a ≡ b
 same_answer true b there back = sym (there refl)
 same_answer false b there back = sym (false_from_ne_true b (λ t. (let e : false ≡ true = back t in absurd (cc))))
+
+none-some : (v : Option Colour) (c : Colour) → v ≡ None → v ≡ Some c → ⊥
+none-some v c e f = cc
 
 -- the law of the crate below on chains
 pub record JoinedByPath : Type 0 where
@@ -60,6 +65,22 @@ module _ (n : ℕ) (cells : List ℕ) (kept : IsKept n cells) where
       same_answer (nat_eq a b) (joined n (colouring_of n cells) p q)
       (λ e. path.1 (same.0 (sym a_is ∙ eqb-true a b e ∙ b_is)))
       (λ t. eq-eqb a b (a_is ∙ same.1 (path.0 t) ∙ sym b_is))
+
+  labelled : JoinedByPath → (p q l : ℕ) → IsStoneOf (colouring_of n cells) p → q < n * n → l ≡ label_of cells p
+      → (v : Option Colour) → value_of (colour_of cells q) ≡ v → is_labelled v (label_of cells q) l ≡ joined n (colouring_of n cells) p q
+  labelled by p q l stone q_in l_is None e =
+      sym (false_from_ne_true (joined n (colouring_of n cells) p q) (λ t. (
+      let j = (by.law n (colouring_of n cells) p q (stone-kept n cells kept p stone).0).0 t in
+      let far = far_stone n (colouring_of n cells) cells (colouring-inside n cells) kept.sound.colours kept.sound.coded p q (stone-kept n cells kept p stone) j in
+      let held = of_stone n (colouring_of n cells) cells (colouring-inside n cells) kept.sound.colours kept.sound.coded q far.0 in
+      none-some (value_of (colour_of cells q)) held.0 e (sym (colouring-at n cells q q_in) ∙ held.1))))
+  labelled by p q l stone q_in l_is (Some c) e =
+      labels_joined by p q l (label_of cells q) stone (c, colouring-at n cells q q_in ∙ e) l_is refl
+
+  -- a point with the label of a stone is in its chain
+  pub stone_answers : JoinedByPath → (p q l : ℕ) → IsStoneOf (colouring_of n cells) p → q < n * n → l ≡ label_of cells p
+      → is_labelled (value_of (colour_of cells q)) (label_of cells q) l ≡ joined n (colouring_of n cells) p q
+  stone_answers by p q l stone q_in l_is = labelled by p q l stone q_in l_is (value_of (colour_of cells q)) refl
 
   pub size_counts : JoinedByPath → (p l : ℕ) → IsStoneOf (colouring_of n cells) p → l ≡ label_of cells p
       → size_of cells l ≡ length (members n (colouring_of n cells) p)

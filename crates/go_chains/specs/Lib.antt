@@ -8,4 +8,5 @@ pub mod Sound
 pub mod Rewound
 pub mod Beside
 pub mod Words
+pub mod Parts
 pub mod Playing

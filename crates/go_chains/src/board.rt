@@ -1,10 +1,10 @@
-ghost use Rattle.std.specs.Prelude.{◌≡◌, ◌<◌, ◌≤◌, ◌+◌, ◌*◌, ◌/◌, ◌++◌, ◌∷◌, ◌↔◌, ℕ, [], List, None, Some, IfOk, IsErrOf, OnErr, OnOk, length, replicate, slice_set};
+ghost use Rattle.std.specs.Prelude.{◌≡◌, ◌<◌, ◌≤◌, ◌+◌, ◌*◌, ◌/◌, ◌++◌, ◌∷◌, ◌↔◌, ℕ, [], List, None, Some, IfNone, IfOk, IfSome, IsErrOf, OnErr, OnOk, length, map, nat_eq, replicate, slice_set};
 ghost use Rattle.std.specs.Int.{bit_at};
 ghost use Rattle.go_board.specs.Chains.{liberties, members};
 ghost use Rattle.go_board.specs.Colours.{colour_at, other};
 ghost use Rattle.go_board.specs.PackBytes.{bytes_of};
 ghost use Rattle.go_board.specs.Packs.{byte_of, code_of, packed_of};
-ghost use Rattle.go_board.specs.Points.{IsOn, number_of};
+ghost use Rattle.go_board.specs.Points.{IsOn, number_of, point_at};
 ghost use Rattle.go_board.specs.Reaching.{area, is_liberty_of, joined, moved, vanished};
 ghost use Rattle.go_board.specs.Rows.{AreStonesIn};
 ghost use Rattle.go_board.specs.Sizes.{lines_of};
@@ -13,14 +13,16 @@ ghost use Rattle.go_board.specs.declared.pack.TheConstants.{PACK_BYTES};
 ghost use Rattle.go_board.specs.declared.size.TheConstants.{MAX_POINTS};
 ghost use Rattle.go_chains.specs.declared.cells.TheConstants.{COUNT, WORDS};
 ghost use Rattle.go_chains.specs.declared.change.Change.{Change};
-ghost use Rattle.go_chains.specs.Cells.{colour_of, label_of};
+ghost use Rattle.go_chains.specs.Cells.{colour_of, label_of, lib_of};
+ghost use Rattle.go_chains.specs.Parts.{is_in_part, is_labelled, points_left};
 ghost use Rattle.go_chains.specs.Playing.{most_of};
 ghost use Rattle.go_chains.specs.Rewound.{IsRewound, NamesCells, PlayLogged, rewound};
-ghost use Rattle.go_chains.specs.Sound.{IsKept, IsStoneOf, grid_of};
+ghost use Rattle.go_chains.specs.Sound.{IsKept, IsStoneOf, grid_of, value_of};
 ghost use Rattle.go_chains.specs.Words.{free_in_word};
 
 use crate::beside::beside;
 use crate::cells::{Cells, LABELS, SIZES, word_place};
+use crate::chain_points::{ChainPoints, Part};
 use crate::codes::colour_from;
 use crate::errors::PlaceError;
 use crate::log::{Log, reserve_play, seal};
@@ -257,6 +259,85 @@ impl Board {
         let point = usize::from(q.index(self.size));
         let word = self.cells.get(word_place(label, point / 64), &mut meter);
         word >> (point % 64) & 1 == 1
+    }
+
+    /// The first point of a part of the chain with this label, from a number on.
+    pub(crate) fn next_in_part(&self, part: Part, label: usize, first: u16) -> Option<u16>
+        requires { label < MAX_POINTS }
+        ensures none { IfNone result (points_left self.now part label first ≡ []) }
+        ensures some { IfSome result (λ q. points_left self.now part label first
+            ≡ point_at self.now.lines q ∷ points_left self.now part label (q + 1)) }
+        ensures on { IfSome result (λ q. q < self.now.lines * self.now.lines) }
+        ensures few { IfSome result (λ q. q < MAX_POINTS) }
+    {
+        for number in first..self.size().points() {
+            if self.has_in_part(part, label, number) {
+                return Some(number);
+            }
+        }
+        None
+    }
+
+    /// Whether a point is in this part of the chain with this label.
+    fn has_in_part(&self, part: Part, label: usize, number: u16) -> bool
+        requires label { label < MAX_POINTS }
+        requires number { number < MAX_POINTS }
+        ensures { result ≡ is_in_part self.now.cells part label number }
+    {
+        match part {
+            Part::Stones => self.has_label(usize::from(number), label),
+            Part::Liberties => self.has_liberty(label, usize::from(number)),
+        }
+    }
+
+    /// Whether a point holds a stone with this label.
+    fn has_label(&self, number: usize, label: usize) -> bool
+        requires { number < MAX_POINTS }
+        ensures { result ≡ is_labelled (value_of (colour_of self.now.cells number))
+            (label_of self.now.cells number) label }
+    {
+        let mut meter = Meter::new();
+        match colour_from(self.cells.get(number, &mut meter)) {
+            Some(_) => label == self.cells.get(LABELS + number, &mut meter) as usize,
+            None => false,
+        }
+    }
+
+    /// Whether a label's liberties have a point.
+    fn has_liberty(&self, label: usize, number: usize) -> bool
+        requires label { label < MAX_POINTS }
+        requires number { number < MAX_POINTS }
+        ensures { result ≡ nat_eq (lib_of self.now.cells label number) 1 }
+    {
+        let place = word_place(label, number / 64);
+        let word = self.cells.get(place, &mut Meter::new());
+        word >> (number % 64) & 1 == 1
+    }
+
+    /// The stones of the chain of a stone, in point order.
+    pub fn chain_points(&self, p: Point) -> ChainPoints<'_>
+        requires on { IsOn self.now.lines p }
+        requires stone { IsStoneOf (grid_of self.now) (number_of self.now.lines p) }
+        ensures { result ≡ map (point_at self.now.lines)
+            (members self.now.lines (grid_of self.now) (number_of self.now.lines p)) }
+    {
+        points_by_number();
+        joined_by_a_path();
+        let label = self.label_at(p, &mut Meter::new());
+        ChainPoints::new(self, Part::Stones, label)
+    }
+
+    /// The liberties of the chain of a stone, in point order.
+    pub fn liberty_points(&self, p: Point) -> ChainPoints<'_>
+        requires on { IsOn self.now.lines p }
+        requires stone { IsStoneOf (grid_of self.now) (number_of self.now.lines p) }
+        ensures { result ≡ map (point_at self.now.lines)
+            (liberties self.now.lines (grid_of self.now) (number_of self.now.lines p)) }
+    {
+        points_by_number();
+        liberty_by_a_path();
+        let label = self.label_at(p, &mut Meter::new());
+        ChainPoints::new(self, Part::Liberties, label)
     }
 
     /// How many stones the chain of a stone has.

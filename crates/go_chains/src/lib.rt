@@ -6,6 +6,7 @@ mod beside;
 mod board;
 mod capture;
 mod cells;
+mod chain_points;
 mod change;
 mod codes;
 mod connect;
@@ -24,6 +25,7 @@ mod trace;
 
 pub use board::Board;
 pub use cells::COUNT;
+pub use chain_points::ChainPoints;
 pub use change::Change;
 pub use errors::PlaceError;
 pub use log::Log;

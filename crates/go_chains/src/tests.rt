@@ -1,7 +1,7 @@
 ghost use Rattle.std.specs.Prelude.{◌≡◌};
 ghost use Rattle.go_board.specs.Points.{IsOn};
 
-use crate::{Board, Log, PlaceError};
+use crate::{Board, ChainPoints, Log, PlaceError};
 use go_board::{Colour, Meter, Point, Size, Taken, Vertex, read_vertex};
 use std::alloc::Allocator;
 use std::process::Abort;
@@ -64,6 +64,17 @@ fn same_chain(rt: &impl Abort, board: &Board, first: &[u8], second: &[u8]) -> bo
     board.same_chain(p, q)
 }
 
+/// Whether points are those that words name, in this order.
+fn are(rt: &impl Abort, board: &Board, points: ChainPoints<'_>, words: &[&[u8]]) -> bool {
+    let mut points = points;
+    for word in words {
+        if points.next() != Some(point(rt, board, word)) {
+            return false;
+        }
+    }
+    points.next().is_none()
+}
+
 #[test]
 fn empty_board(rt: HostRuntime) {
     let size = Size::new(9).expect(&rt, "a size");
@@ -107,6 +118,33 @@ fn suicide_of_several(rt: HostRuntime) {
     assert!(rt; !same_chain(&rt, &board, b"A2", b"C1"));
     assert!(rt; is_liberty(&rt, &board, b"A1", b"B1"));
     assert_eq!(rt; log.plays(), 4);
+}
+
+/// Asserts the stones and the liberties of the chain of a stone.
+fn has_chain(rt: &impl Abort, board: &Board, at: &[u8], stones: &[&[u8]], free: &[&[u8]]) {
+    let at = point(rt, board, at);
+    assert!(rt; board.colour_at(at).is_some());
+    assert!(rt; are(rt, board, board.chain_points(at), stones));
+    assert!(rt; are(rt, board, board.liberty_points(at), free));
+}
+
+#[test]
+fn points_of_chains(rt: HostRuntime) {
+    let mut board = board_of(&rt, 3);
+    let mut log = Log::new(rt.alloc());
+    let none = Taken { theirs: 0, own: 0 };
+    assert!(rt; play(&rt, &mut board, &mut log, Colour::Black, b"A1") == Ok(none));
+    assert!(rt; play(&rt, &mut board, &mut log, Colour::White, b"B2") == Ok(none));
+    assert!(rt; play(&rt, &mut board, &mut log, Colour::White, b"A2") == Ok(none));
+    assert!(rt; play(&rt, &mut board, &mut log, Colour::White, b"C1") == Ok(none));
+    has_chain(
+        &rt,
+        &board,
+        b"B2",
+        &[b"A2", b"B2"],
+        &[b"B1", b"C2", b"A3", b"B3"],
+    );
+    has_chain(&rt, &board, b"C1", &[b"C1"], &[b"B1", b"C2"]);
 }
 
 #[test]

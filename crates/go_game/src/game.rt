@@ -1,4 +1,4 @@
-ghost use Rattle.std.specs.Prelude.{◌≡◌, ◌<◌, ◌+◌, ◌++◌, ◌∷◌, ◌*◌, ◌^◌, [], ◌↔◌, ℕ, pos, false, Err, IfOk, IfErr, IfNone, IfSome, OnErr, OnOk, Contains, length, slice_get};
+ghost use Rattle.std.specs.Prelude.{◌≡◌, ◌<◌, ◌+◌, ◌++◌, ◌∷◌, ◌*◌, ◌^◌, [], ◌↔◌, ℕ, pos, false, Err, IfOk, IfErr, IfNone, IfSome, IsSome, OnErr, OnOk, Contains, length, map, slice_get};
 
 use crate::Superko;
 use crate::prisoners::Prisoners;
@@ -6,7 +6,7 @@ use crate::step::Step;
 use go_board::laws::{joined_by_a_path, packs_tell_colourings_apart, points_by_number};
 use go_board::plain::{is_liberty, same_chain};
 use go_board::{Area, Colour, Grid, Meter, Move, Point, Size};
-use go_chains::{Board, Log};
+use go_chains::{Board, ChainPoints, Log};
 use go_history::History;
 use std::alloc::Allocator;
 use std::marker::Model;
@@ -53,7 +53,8 @@ impl<A: Allocator + Copy> Model for Game<A> {
 impl<A: Allocator + Copy> Game<A> {
     ghost use Rattle.go_board.specs.Sizes.{lines_of};
     ghost use Rattle.go_board.specs.Colours.{colour_at};
-    ghost use Rattle.go_board.specs.Points.{IsOn, number_of};
+    ghost use Rattle.go_board.specs.Chains.{liberties, members};
+    ghost use Rattle.go_board.specs.Points.{IsOn, number_of, point_at};
     ghost use Rattle.go_board.specs.Clearing.{IsFirstDead};
     ghost use Rattle.go_board.specs.Reaching.{is_dead, is_liberty_of, joined};
     ghost use Rattle.go_board.specs.declared.colour.Colour.{Colour};
@@ -257,6 +258,30 @@ impl<A: Allocator + Copy> Game<A> {
             return is_liberty(&self.present(), p, q);
         }
         self.board.is_liberty(p, q)
+    }
+
+    /// The stones of the chain of the stone on a point, in point order.
+    pub fn chain_points(&self, p: Point) -> ChainPoints<'_>
+        requires on { IsOn self.now.standing.lines p }
+        requires stone { IsSome (colour_at (board_of self.now.standing)
+            (number_of self.now.standing.lines p)) }
+        ensures { result ≡ map (point_at self.now.standing.lines)
+            (members self.now.standing.lines (board_of self.now.standing)
+            (number_of self.now.standing.lines p)) }
+    {
+        self.board.chain_points(p)
+    }
+
+    /// The liberties of the chain of the stone on a point, in point order.
+    pub fn liberty_points(&self, p: Point) -> ChainPoints<'_>
+        requires on { IsOn self.now.standing.lines p }
+        requires stone { IsSome (colour_at (board_of self.now.standing)
+            (number_of self.now.standing.lines p)) }
+        ensures { result ≡ map (point_at self.now.standing.lines)
+            (liberties self.now.standing.lines (board_of self.now.standing)
+            (number_of self.now.standing.lines p)) }
+    {
+        self.board.liberty_points(p)
     }
 
     /// How many liberties the chain of the stone on a point has, and 0 where none is there.

@@ -9,6 +9,8 @@ use Rattle.std.proofs.lemmas.Grind.{flat_map-append}
 use Rattle.go_game.specs.Scores.{score_word, size_text}
 use Rattle.go_board.specs.Colours.{Colouring, colour_at}
 use Rattle.go_board.specs.Chains.{members, liberties}
+use Rattle.go_board.specs.Points.{point_at}
+use Rattle.goref_results.specs.Places.{spaced_point}
 use Rattle.goref_results.specs.Results.{result_text}
 use Rattle.goref_results.specs.ChainLines.{chain_line, spaced_vertex, stone_text}
 
@@ -128,6 +130,11 @@ pub taken_more : {X : Type 0} (f : X → List ℕ) (xs : List X) (i : ℕ) (d : 
 taken_more f xs i d low =
     ap (λ ys. flat_map f (take i xs) ++ ys) (sym (append-nil (f (get_or xs i d))))
     ∙ sym (flat_map-append f (take i xs) (get_or xs i d ∷ [])) ∙ ap (flat_map f) (sym (take_more xs i d low))
+
+-- the vertices of points by their numbers
+pub spaced_points : (n : ℕ) (ps : List ℕ) → flat_map spaced_point (map (point_at n) ps) ≡ flat_map (spaced_vertex n) ps
+spaced_points n [] = refl
+spaced_points n (p ∷ ps) = ap (λ t. spaced_vertex n p ++ t) (spaced_points n ps)
 
 text_behind : (first : List ℕ) (b : ℕ) (rest : List ℕ) → IsText (first ++ b ∷ rest)
 text_behind [] b rest = (b, rest, refl)
