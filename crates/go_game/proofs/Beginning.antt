@@ -1,7 +1,8 @@
 -- What a game keeps before its first move.
 use Rattle.go_game.specs.declared.superko.Superko.{Superko}
+use Rattle.go_game.specs.declared.superko.Superko.TheVariants.{Positional}
 use Rattle.std.specs.Prelude.{pos, replicate}
-use Rattle.std.proofs.Common.{arith, rules, ◌≡◌, ◌≢◌, ◌<◌, ◌≤◌, ◌*◌, ◌∙◌, ◌&&◌, true, false, not, inl, inr, ℕ, ℤ, IsTrue, List, [], Option, Some, None, length, map, refl, sym, ap, subst}
+use Rattle.std.proofs.Common.{arith, rules, ◌≡◌, ◌≢◌, ◌<◌, ◌≤◌, ◌*◌, ◌∙◌, ◌&&◌, true, false, not, inl, inr, ℕ, ℤ, IsTrue, List, [], ◌∷◌, Option, Some, None, length, map, refl, sym, ap, subst}
 use Rattle.std.proofs.lemmas.Bool.{cases_Bool, false≢true}
 use Rattle.std.proofs.lemmas.List.{get_or-replicate, length-replicate}
 use Rattle.go_board.specs.declared.colour.Colour.{Colour}
@@ -106,3 +107,17 @@ keeping_by law rule other_rule start komi first steps b log history history' p b
   told = subst (λ (moves : List Move). StandsFor (start.lines * start.lines) history' (stood other_rule start.lines start.colours first moves)) (sym none)
       (history_begun law (start.lines * start.lines) (square-le start.lines k.held.sound.size.1) history' p (seen_by other_rule (start.colours, first)) begun packs k.held.sound.whole);
 }
+
+-- another start, while no move stands
+pub keeping_anew : TellApart → (rule : Superko) (old : GridValue) (komi : ℤ) (mover : Colour) (steps : List Step) (was : BoardValue) (log : List (List Change)) (known : HistoryValue) (black white : ℕ)
+    → IsKeeping rule old komi mover steps was log known black white → map made_of steps ≡ []
+    → (start : GridValue) (first : Colour) (b : BoardValue) (history : HistoryValue) (p : Key)
+    → (0 < start.lines) × (start.lines ≤ MAX_LINES) → length start.colours ≡ start.lines * start.lines → AreAlive start.lines start.colours
+    → b.lines ≡ start.lines → grid_of b ≡ start.colours → IsKept b.lines b.cells → IsBegun history p → IsKeyOf p (seen_by Positional (start.colours, first))
+    → IsKeeping Positional start (pos 0) first steps b log history black white
+keeping_anew law rule old komi mover [] was log known black white k none start first b history p size whole alive lines colours kept begun packs =
+    let held = held_begun Positional start (pos 0) first size whole komi_none alive in
+    let at_none = keeping_begun law Positional start (pos 0) first b log history p held lines colours kept k.tracked.went.0 begun packs in
+    subst (λ (w : ℕ). IsKeeping Positional start (pos 0) first [] b log history black w) (sym k.held.white_taken)
+    (subst (λ (x : ℕ). IsKeeping Positional start (pos 0) first [] b log history x 0) (sym k.held.black_taken) at_none)
+keeping_anew law rule old komi mover (s ∷ steps) was log known black white k none start first b history p size whole alive lines colours kept begun packs = absurd (cc)

@@ -1,5 +1,5 @@
 //! Games that start from a grid.
-ghost use Rattle.std.specs.Prelude.{◌≡◌, ◌<◌, ◌≤◌, ◌+◌, ◌*◌, ℕ, Err, IfOk, OnOk, false, length};
+ghost use Rattle.std.specs.Prelude.{◌≡◌, ◌<◌, ◌≤◌, ◌+◌, ◌*◌, ℕ, Err, IfOk, IsErrOf, None, OnOk, false, length, replicate};
 ghost use Rattle.go_board.specs.Clearing.{IsFirstDead};
 ghost use Rattle.go_board.specs.Reaching.{is_dead};
 ghost use Rattle.go_board.specs.Points.{number_of};
@@ -8,15 +8,13 @@ ghost use Rattle.go_board.specs.declared.point.Point.{Point};
 ghost use Rattle.go_board.specs.declared.size.TheConstants.{MAX_LINES};
 ghost use Rattle.go_chains.specs.Sound.{IsKept, grid_of};
 ghost use Rattle.go_game.specs.Building.{AreAlive, IsFront};
-ghost use Rattle.go_game.specs.Standings.{started};
+ghost use Rattle.go_game.specs.Standings.{IsEmptyStart, started};
 
-use crate::prisoners::Prisoners;
 use crate::{Game, SetupError, Superko};
 use go_board::laws::{packs_tell_colourings_apart, points_by_number, reaches_by_a_path};
 use go_board::plain::first_dead;
 use go_board::{Colour, Grid, Meter, Point};
 use go_chains::{Board, Log};
-use go_history::History;
 use std::alloc::{AllocError, Allocator};
 
 impl<A: Allocator + Copy> Game<A> {
@@ -29,46 +27,70 @@ impl<A: Allocator + Copy> Game<A> {
         ensures alive { OnOk result ((k : ℕ) → k < grid.now.lines * grid.now.lines
             → is_dead grid.now.lines grid.now.colours k ≡ false) }
     {
+        let mut game = Game::new(alloc, grid.size());
+        match game.begin_from(grid, first) {
+            Ok(()) => Ok(game),
+            Err(why) => Err(why),
+        }
+    }
+
+    /// Begins anew from this grid, with komi 0, positional superko and this colour to move. Where a
+    /// stone doesn't reach empty, the game stays as it was. Where there is no memory for the plays that
+    /// put the stones, its board is empty, as after `resize`.
+    pub fn begin_from(&mut self, grid: &Grid, first: Colour) -> Result<(), SetupError>
+        ensures ok { OnOk result (self.new.standing ≡ started grid.now first) }
+        ensures count { self.new.count ≡ self.old.count }
+        ensures no_liberty { (p : Point) → result ≡ Err (SetupError.NoLiberty p)
+            → IsFirstDead grid.now.lines grid.now.colours p × (self.new ≡ self.old) }
+        ensures memory { IsErrOf result SetupError.Memory
+            → IsEmptyStart self.new.standing grid.now.lines self.old.standing.komi
+            self.old.standing.rule }
+        ensures alive { OnOk result ((k : ℕ) → k < grid.now.lines * grid.now.lines
+            → is_dead grid.now.lines grid.now.colours k ≡ false) }
+    {
         packs_tell_colourings_apart();
         if let Some(p) = first_dead(grid) {
             return Err(SetupError::NoLiberty(p));
         }
-        let board = built(alloc, grid)?;
-        let superko = Superko::Positional;
-        let history = History::new(alloc, superko.key(grid.pack(), first));
-        Ok(Game {
-            start: grid.copy(),
-            komi: 0,
-            superko,
-            first,
-            board,
-            log: Log::new(alloc),
-            meter: Meter::new(),
-            steps: Vec::new(alloc),
-            history,
-            prisoners: Prisoners { black: 0, white: 0 },
-        })
+        let size = grid.size();
+        self.resize(size);
+        let mut log = Log::new(*self.steps.allocator());
+        let Ok(()) = fill(&mut self.board, grid, &mut log) else {
+            self.board.clear(size);
+            return Err(SetupError::Memory);
+        };
+        self.start = grid.copy();
+        self.komi = 0;
+        self.superko = Superko::Positional;
+        self.first = first;
+        let key = self.superko.key(grid.pack(), first);
+        self.history.restart(key);
+        Ok(())
     }
 }
 
-/// A board with the stones of a grid, each of which reaches an empty point. They are played one
-/// after the other, and none of these plays takes a stone.
-fn built<A: Allocator + Copy>(alloc: A, grid: &Grid) -> Result<Board, AllocError>
-    requires { AreAlive grid.now.lines grid.now.colours }
+/// Puts the stones of a grid, each of which reaches an empty point, on an empty board. They are
+/// played one after the other, and none of these plays takes a stone.
+fn fill<A: Allocator + Copy>(
+    board: &mut Board,
+    grid: &Grid,
+    log: &mut Log<A>,
+) -> Result<(), AllocError>
+    requires alive { AreAlive grid.now.lines grid.now.colours }
+    requires lines { board.old.lines ≡ grid.now.lines }
+    requires empty { grid_of board.old ≡ replicate (grid.now.lines * grid.now.lines) None }
+    requires kept { IsKept board.old.lines board.old.cells }
     ensures size { (0 < grid.now.lines) × (grid.now.lines ≤ MAX_LINES) }
     ensures whole { length grid.now.colours ≡ grid.now.lines * grid.now.lines }
-    ensures lines { IfOk result (λ board. board.lines ≡ grid.now.lines) }
-    ensures kept { IfOk result (λ board. IsKept board.lines board.cells) }
-    ensures colours { IfOk result (λ board. grid_of board ≡ grid.now.colours) }
+    ensures lines { board.new.lines ≡ grid.now.lines }
+    ensures kept { IsKept board.new.lines board.new.cells }
+    ensures colours { OnOk result (grid_of board.new ≡ grid.now.colours) }
 {
-    let size = grid.size();
-    let mut board = Board::new(size);
-    let mut log = Log::new(alloc);
     let mut meter = Meter::new();
-    for number in 0..size.points() {
-        put_stone(grid, number, &mut board, &mut log, &mut meter)?;
+    for number in 0..grid.size().points() {
+        put_stone(grid, number, board, log, &mut meter)?;
     }
-    Ok(board)
+    Ok(())
 }
 
 /// Puts the stone of a point on the board, if there is one.

@@ -10,3 +10,4 @@ pub mod Recorded
 pub mod Fitting
 pub mod SoundGames
 pub mod Decided
+pub mod Vacant

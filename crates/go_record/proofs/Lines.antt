@@ -1,20 +1,18 @@
 -- The events of a main line, node by node, and the game that they come to.
 use Rattle.std.proofs.Common.{◌≡◌, ◌∙◌, ◌<◌, ◌+◌, ◌*◌, ℕ, ℤ, true, false, List, [], ◌∷◌, ◌++◌, refl, sym, ap, subst, append_assoc, arith, length, get_or, take, drop, map}
-use Rattle.std.specs.Prelude.{Option, Some, None, Result, Ok, Err, IfOk, IfErr, ◌≢◌, codes, option_copied, replicate, slice_get, unwrap_or}
+use Rattle.std.specs.Prelude.{Option, Some, None, Err, codes, option_copied, replicate, slice_get, unwrap_or}
 use Rattle.std.specs.Borrow.{Bor}
 use Rattle.go_sgf.specs.View.{tree_of, trees_of}
 use Rattle.go_sgf.specs.declared.record.Tree.{Tree}
-use Rattle.go_game.specs.Standings.{GameValue}
-use Rattle.go_record.specs.declared.error.RecordError.{RecordError}
 use Rattle.std.proofs.lemmas.List.{append-nil, map-append, take-append-drop, take_more}
 use Rattle.std.proofs.lemmas.Grind.{common_steps}
 use Rattle.go_board.specs.Colours.{Colouring}
 use Rattle.go_sgf.specs.Record.{Property, Trees}
-use Rattle.go_record.specs.declared.error.RecordError.TheVariants.{BadKomi, BadSize, Memory, NotGo}
+use Rattle.go_record.specs.declared.error.RecordError.TheVariants.{BadKomi, BadSize, NotGo}
 use Rattle.go_record.specs.declared.state.Left.{Left}
 use Rattle.go_record.specs.Games.{IsGameOf, is_go, komi_in, lines_in, root_value}
 use Rattle.go_record.specs.MainLine.{Event, events_from, events_of, looked_at, main_line}
-use Rattle.go_record.specs.Progress.{left_by, line_from, seen}
+use Rattle.go_record.specs.Progress.{Says, left_by, line_from, seen}
 use Rattle.go_record.specs.Walks.{Outcome, SetsUp}
 
 pub events_append : (first : ℕ) (xs ys : List (List Property)) → events_from first (xs ++ ys) ≡ events_from first xs ++ events_from (first + length xs) ys
@@ -70,25 +68,13 @@ module _ (c : Trees) (number : Option ℕ) where
   game_walks n komi outcome e f h walk = rw (e, f, h) walk
 
   -- the game of a walk from its begin
-  pub game_walked : (n m : ℕ) (komi komi' : ℤ) (g : Colouring) (left : Left) (outcome : Outcome) → is_go (root_value (codes "GM") c) ≡ true → lines_in (root_value (codes "SZ") c) ≡ Some n →
-      komi_in (root_value (codes "KM") c) ≡ Some komi → m ≡ n → komi' ≡ komi → g ≡ replicate (n * n) None → left ≡ left_by number →
+  pub game_walked : (n m : ℕ) (komi komi' : ℤ) (g : Colouring) (left : Left) (outcome : Outcome) → Says c n komi → m ≡ n → komi' ≡ komi → g ≡ replicate (n * n) None → left ≡ left_by number →
       SetsUp m komi' g None (seen left (events_from 0 (main_line c) ++ [])) outcome → IsGameOf c number outcome
-  game_walked n m komi komi' g left outcome e f h is same empty by walk =
-      game_walks n komi outcome e f h
+  game_walked n m komi komi' g left outcome says is same empty by walk =
+      game_walks n komi outcome says.go says.size says.komi_said
       (subst (λ (es : List Event). SetsUp n komi (replicate (n * n) None) None es outcome)
       (ap (λ l. seen l (events_from 0 (main_line c) ++ [])) by ∙ seen_by number (events_from 0 (main_line c) ++ []) ∙ ap (looked_at number) (append-nil (events_from 0 (main_line c))))
       (rw (is, same, empty) at walk))
-
-  -- what is found at the end of a walk
-  pub game_found : {P : GameValue → Type 0} (r : Result GameValue RecordError) → ((game : GameValue) → P game → IsGameOf c number (Ok game.standing)) →
-      IfOk r P → IfOk r (λ game. IsGameOf c number (Ok game.standing))
-  game_found (Ok game) f h = f game h
-  game_found (Err e) f h = h
-
-  pub game_refused : {P : RecordError → Type 0} (r : Result GameValue RecordError) → ((e : RecordError) → P e → IsGameOf c number (Err e)) →
-      IfErr r (λ e. e ≢ Memory → P e) → IfErr r (λ e. e ≢ Memory → IsGameOf c number (Err e))
-  game_refused (Ok game) f h = h
-  game_refused (Err e) f h = λ some. f e (h some)
 
 module _ {A : Type 0} where
   -- the line from the first of trees on

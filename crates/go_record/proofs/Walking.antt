@@ -3,7 +3,7 @@ use Rattle.std.proofs.Common.{◌≡◌, ◌≢◌, ◌∙◌, ℕ, ℤ, zero, s
 use Rattle.std.specs.List.{flat_map}
 use Rattle.std.proofs.lemmas.List.{take_more, take-append-drop, map-append, append-nil}
 use Rattle.std.proofs.lemmas.Grind.{flat_map-append}
-use Rattle.std.specs.Prelude.{Option, Some, None, Result, Ok, Err, IfOk, IfErr, is_some, ◌↔◌}
+use Rattle.std.specs.Prelude.{Option, Some, None, Result, Ok, Err, IfErr, OnOk, ◌↔◌}
 use Rattle.std.proofs.lemmas.Bool.{cases_Bool}
 use Rattle.go_board.specs.declared.taken.Taken.{Taken}
 use Rattle.go_board.specs.declared.colour.Colour.{Colour}
@@ -19,9 +19,8 @@ use Rattle.go_record.specs.declared.error.RecordError.{RecordError}
 use Rattle.go_record.specs.declared.error.RecordError.TheVariants.{BadValue, Memory, SetupAfterMove}
 use Rattle.go_record.specs.declared.state.Left.{Left}
 use Rattle.go_record.specs.declared.state.Left.TheVariants.{All, Moves, Nothing}
-use Rattle.go_record.specs.declared.state.Walk.{Walk}
 use Rattle.go_record.specs.MainLine.{Event, stones, turn, move}
-use Rattle.go_record.specs.Progress.{Goes, GoesFrom, Passes, Stops, Walked, is_nothing, seen}
+use Rattle.go_record.specs.Progress.{Goes, GoesFrom, Passes, Place, Stops, Walked, is_nothing, playing, seen}
 use Rattle.go_record.specs.Walks.{Begins, IsAlive, IsDeadSetup, IsReason, IsRefused, Outcome, Plays, SetsUp, colour_of, start_of, with_points}
 
 -- ---- what is looked at
@@ -50,13 +49,12 @@ seen_none (Moves zero) = refl
 seen_none (Moves (suc k)) = refl
 seen_none Nothing = refl
 
-pub none_of : {X : Type 0} (o : Option X) → is_some o ≡ false → o ≡ None
-none_of None e = refl
-none_of (Some x) e = absurd (true≢false e)
+-- whether a move was met
+pub met : (w : Place) → w.0.is_playing ≡ true → playing w ≡ Some w.1
+met w e = rw e refl
 
-pub some_of : {X : Type 0} (o : Option X) → is_some o ≡ true → (x : X) × (o ≡ Some x)
-some_of None e = absurd (true≢false (sym e))
-some_of (Some x) e = (x, refl)
+pub none_met : (w : Place) → w.0.is_playing ≡ false → playing w ≡ None
+none_met w e = rw e refl
 
 -- ---- single events
 
@@ -117,86 +115,84 @@ module _ (n : ℕ) (komi : ℤ) (g : Colouring) (given : Option Colour) where
 
 -- ---- events one after the other
 
-module _ {A : Type 0} where
-  pub passes_nothing : (w : Walk A) → Passes w [] w
-  passes_nothing w = record { passed = λ later outcome h. h }
+pub passes_nothing : (w : Place) → Passes w [] w
+passes_nothing w = record { passed = λ later outcome h. h }
 
-  pub passes_over : (w : Walk A) → is_nothing w.left ≡ true → (events : List Event) → Passes w events w
-  passes_over w e events = record {
-    passed = λ later outcome h. subst (λ (xs : List Event). GoesFrom w w.game xs outcome) (seen_over w.left e later (events ++ later)) h;
-  }
+pub passes_over : (w : Place) → is_nothing w.0.left ≡ true → (events : List Event) → Passes w events w
+passes_over w e events = record {
+  passed = λ later outcome h. subst (λ (xs : List Event). GoesFrom w.0 (playing w) xs outcome) (seen_over w.0.left e later (events ++ later)) h;
+}
 
-  pub passes_passes : {a b c : Walk A} {xs ys : List Event} → Passes a xs b → Passes b ys c → Passes a (xs ++ ys) c
-  passes_passes {a} {b} {c} {xs} {ys} p q = record {
-    passed = λ later outcome h. subst (λ (es : List Event). Goes a es outcome) (sym (append_assoc xs ys later)) (p.passed (ys ++ later) outcome (q.passed later outcome h));
-  }
+pub passes_passes : {a b c : Place} {xs ys : List Event} → Passes a xs b → Passes b ys c → Passes a (xs ++ ys) c
+passes_passes {a} {b} {c} {xs} {ys} p q = record {
+  passed = λ later outcome h. subst (λ (es : List Event). Goes a es outcome) (sym (append_assoc xs ys later)) (p.passed (ys ++ later) outcome (q.passed later outcome h));
+}
 
-  pub passes_then : {a b c : Walk A} {xs ys : List Event} (zs : List Event) → Passes a xs b → Passes b ys c → xs ++ ys ≡ zs → Passes a zs c
-  passes_then {a} {b} {c} zs p q e = subst (λ (es : List Event). Passes a es c) e (passes_passes p q)
+pub passes_then : {a b c : Place} {xs ys : List Event} (zs : List Event) → Passes a xs b → Passes b ys c → xs ++ ys ≡ zs → Passes a zs c
+passes_then {a} {b} {c} zs p q e = subst (λ (es : List Event). Passes a es c) e (passes_passes p q)
 
-  pub passes_stops : {a b : Walk A} {xs ys : List Event} {e : RecordError} → Passes a xs b → Stops b ys e → Stops a (xs ++ ys) e
-  passes_stops {a} {b} {xs} {ys} {e} p q = record {
-    stopped = λ some later. subst (λ (es : List Event). Goes a es (Err e)) (sym (append_assoc xs ys later)) (p.passed (ys ++ later) (Err e) (q.stopped some later));
-  }
+pub passes_stops : {a b : Place} {xs ys : List Event} {e : RecordError} → Passes a xs b → Stops b ys e → Stops a (xs ++ ys) e
+passes_stops {a} {b} {xs} {ys} {e} p q = record {
+  stopped = λ some later. subst (λ (es : List Event). Goes a es (Err e)) (sym (append_assoc xs ys later)) (p.passed (ys ++ later) (Err e) (q.stopped some later));
+}
 
-  pub stops_longer : {a : Walk A} {xs : List Event} {e : RecordError} → Stops a xs e → (ys : List Event) → Stops a (xs ++ ys) e
-  stops_longer {a} {xs} {e} q ys = record {
-    stopped = λ some later. subst (λ (es : List Event). Goes a es (Err e)) (sym (append_assoc xs ys later)) (q.stopped some (ys ++ later));
-  }
+pub stops_longer : {a : Place} {xs : List Event} {e : RecordError} → Stops a xs e → (ys : List Event) → Stops a (xs ++ ys) e
+stops_longer {a} {xs} {e} q ys = record {
+  stopped = λ some later. subst (λ (es : List Event). Goes a es (Err e)) (sym (append_assoc xs ys later)) (q.stopped some (ys ++ later));
+}
 
-  pub stops_memory : (a : Walk A) (xs : List Event) → Stops a xs Memory
-  stops_memory a xs = record { stopped = λ some later. absurd (some refl) }
+pub stops_memory : (a : Place) (xs : List Event) → Stops a xs Memory
+stops_memory a xs = record { stopped = λ some later. absurd (some refl) }
 
-  -- a walk whose game and events are known
-  pub goes_by : (w : Walk A) (o : Option GameValue) (xs ys : List Event) (outcome : Outcome) → w.game ≡ o → seen w.left xs ≡ ys → GoesFrom w o ys outcome → Goes w xs outcome
-  goes_by w o xs ys outcome e f h =
-      subst (λ (p : Option GameValue). GoesFrom w p (seen w.left xs) outcome) (sym e) (subst (λ (zs : List Event). GoesFrom w o zs outcome) (sym f) h)
+-- a walk whose game and events are known
+pub goes_by : (w : Place) (o : Option GameValue) (xs ys : List Event) (outcome : Outcome) → playing w ≡ o → seen w.0.left xs ≡ ys → GoesFrom w.0 o ys outcome → Goes w xs outcome
+goes_by w o xs ys outcome e f h =
+    subst (λ (p : Option GameValue). GoesFrom w.0 p (seen w.0.left xs) outcome) (sym e) (subst (λ (zs : List Event). GoesFrom w.0 o zs outcome) (sym f) h)
 
-  pub goes_from : (w : Walk A) (o : Option GameValue) (xs : List Event) (outcome : Outcome) → w.game ≡ o → Goes w xs outcome → GoesFrom w o (seen w.left xs) outcome
-  goes_from w o xs outcome e h = subst (λ (p : Option GameValue). GoesFrom w p (seen w.left xs) outcome) e h
+pub goes_from : (w : Place) (o : Option GameValue) (xs : List Event) (outcome : Outcome) → playing w ≡ o → Goes w xs outcome → GoesFrom w.0 o (seen w.0.left xs) outcome
+goes_from w o xs outcome e h = subst (λ (p : Option GameValue). GoesFrom w.0 p (seen w.0.left xs) outcome) e h
 
-  -- one event
-  pub passes_event : {w new : Walk A} (o p : Option GameValue) (event : Event) → w.game ≡ o → new.game ≡ p →
-      ((later : List Event) → seen w.left (event ∷ later) ≡ event ∷ seen new.left later) →
-      ((events : List Event) (outcome : Outcome) → GoesFrom new p events outcome → GoesFrom w o (event ∷ events) outcome) → Passes w (event ∷ []) new
-  passes_event {w} {new} o p event e f split step = record {
-    passed = λ later outcome h.
-        goes_by w o (event ∷ later) (event ∷ seen new.left later) outcome e (split later) (step (seen new.left later) outcome (goes_from new p later outcome f h));
-  }
+-- one event
+pub passes_event : {w new : Place} (o p : Option GameValue) (event : Event) → playing w ≡ o → playing new ≡ p →
+    ((later : List Event) → seen w.0.left (event ∷ later) ≡ event ∷ seen new.0.left later) →
+    ((events : List Event) (outcome : Outcome) → GoesFrom new.0 p events outcome → GoesFrom w.0 o (event ∷ events) outcome) → Passes w (event ∷ []) new
+passes_event {w} {new} o p event e f split step = record {
+  passed = λ later outcome h.
+      goes_by w o (event ∷ later) (event ∷ seen new.0.left later) outcome e (split later) (step (seen new.0.left later) outcome (goes_from new p later outcome f h));
+}
 
-  pub stops_event : {w : Walk A} {error : RecordError} (o : Option GameValue) (left : Left) (event : Event) → w.game ≡ o →
-      ((later : List Event) → seen w.left (event ∷ later) ≡ event ∷ seen left later) →
-      (error ≢ Memory → (events : List Event) → GoesFrom w o (event ∷ events) (Err error)) → Stops w (event ∷ []) error
-  stops_event {w} {error} o left event e split step = record {
-    stopped = λ some later. goes_by w o (event ∷ later) (event ∷ seen left later) (Err error) e (split later) (step some (seen left later));
-  }
+pub stops_event : {w : Place} {error : RecordError} (o : Option GameValue) (left : Left) (event : Event) → playing w ≡ o →
+    ((later : List Event) → seen w.0.left (event ∷ later) ≡ event ∷ seen left later) →
+    (error ≢ Memory → (events : List Event) → GoesFrom w.0 o (event ∷ events) (Err error)) → Stops w (event ∷ []) error
+stops_event {w} {error} o left event e split step = record {
+  stopped = λ some later. goes_by w o (event ∷ later) (event ∷ seen left later) (Err error) e (split later) (step some (seen left later));
+}
 
-  pub passes_turn_playing : (w : Walk A) (game : GameValue) → w.game ≡ Some game → (node : ℕ) (value : List ℕ) → Passes w (turn node value ∷ []) w
-  passes_turn_playing w game e node value = elim (cases_Bool (is_nothing w.left)) [
-    | inl over ↦ passes_over w over (turn node value ∷ [])
-    | inr live ↦ passes_event (Some game) (Some game) (turn node value) e e (seen_turn w.left live node value) (plays_turn game.standing node value)
-  ]
+pub passes_turn_playing : (w : Place) (game : GameValue) → playing w ≡ Some game → (node : ℕ) (value : List ℕ) → Passes w (turn node value ∷ []) w
+passes_turn_playing w game e node value = elim (cases_Bool (is_nothing w.0.left)) [
+  | inl over ↦ passes_over w over (turn node value ∷ [])
+  | inr live ↦ passes_event (Some game) (Some game) (turn node value) e e (seen_turn w.0.left live node value) (plays_turn game.standing node value)
+]
 
-  -- ---- the end
+-- ---- the end
 
-  pub end_playing : (w : Walk A) (game : GameValue) → w.game ≡ Some game → Goes w [] (Ok game.standing)
-  end_playing w game e = goes_by w (Some game) [] [] (Ok game.standing) e (seen_none w.left) (plays_end game.standing)
+pub end_playing : (w : Place) (game : GameValue) → playing w ≡ Some game → Goes w [] (Ok game.standing)
+end_playing w game e = goes_by w (Some game) [] [] (Ok game.standing) e (seen_none w.0.left) (plays_end game.standing)
 
-  pub end_started : (w : Walk A) (r : Result GameValue RecordError) → w.game ≡ None →
-      IfOk r (λ game. IsAlive w.grid.lines w.grid.colours × (game.standing ≡ start_of w.grid.lines w.komi w.grid.colours w.turn)) →
-      IfOk r (λ game. Goes w [] (Ok game.standing))
-  end_started w (Ok game) e h =
-      let start : Standing = start_of w.grid.lines w.komi w.grid.colours w.turn in
-      goes_by w None [] [] (Ok game.standing) e (seen_none w.left) (sets_end w.grid.lines w.komi w.grid.colours w.turn (Ok game.standing)
-      (inl (h.0, subst (λ (s : Standing). Plays start [] (Ok s)) (sym h.1) (plays_end start))))
-  end_started w (Err error) e h = h
+pub end_started : {T : Type 0} (w : Place) (r : Result T RecordError) (s : Standing) → playing w ≡ None →
+    OnOk r (IsAlive w.0.grid.lines w.0.grid.colours × (s ≡ start_of w.0.grid.lines w.0.komi w.0.grid.colours w.0.turn)) → OnOk r (Goes w [] (Ok s))
+end_started w (Ok x) s e h =
+    let start : Standing = start_of w.0.grid.lines w.0.komi w.0.grid.colours w.0.turn in
+    goes_by w None [] [] (Ok s) e (seen_none w.0.left) (sets_end w.0.grid.lines w.0.komi w.0.grid.colours w.0.turn (Ok s)
+    (inl (h.0, subst (λ (t : Standing). Plays start [] (Ok t)) (sym h.1) (plays_end start))))
+end_started w (Err error) s e h = h
 
-  pub end_dead : (w : Walk A) (r : Result GameValue RecordError) → w.game ≡ None →
-      IfErr r (λ error. error ≢ Memory → IsDeadSetup w.grid.lines w.grid.colours (Err error)) →
-      IfErr r (λ error. error ≢ Memory → Goes w [] (Err error))
-  end_dead w (Ok game) e h = h
-  end_dead w (Err error) e h = λ some.
-      goes_by w None [] [] (Err error) e (seen_none w.left) (sets_end w.grid.lines w.komi w.grid.colours w.turn (Err error) (inr (h some)))
+pub end_dead : {T : Type 0} (w : Place) (r : Result T RecordError) → playing w ≡ None →
+    IfErr r (λ error. error ≢ Memory → IsDeadSetup w.0.grid.lines w.0.grid.colours (Err error)) →
+    IfErr r (λ error. error ≢ Memory → Goes w [] (Err error))
+end_dead w (Ok x) e h = h
+end_dead w (Err error) e h = λ some.
+    goes_by w None [] [] (Err error) e (seen_none w.0.left) (sets_end w.0.grid.lines w.0.komi w.0.grid.colours w.0.turn (Err error) (inr (h some)))
 
 pub reason_of : (s : Standing) (c : Colour) (v : Vertex) (why : PlayError) (r : Result Taken PlayError) → r ≡ Err why → why ≢ play.Memory →
     (r ≡ Err play.OffBoard) ↔ IsOffBoard s v → (r ≡ Err play.Occupied) ↔ IsOccupied s v → ((k : ℕ) → r ≡ Err (play.Repeats k) → IsRepeat s c v k) → IsReason s c v why
@@ -205,40 +201,52 @@ reason_of s c v play.OffBoard r e some off occupied repeats = off.0 e
 reason_of s c v (play.Repeats k) r e some off occupied repeats = (λ h. cc (e, off.1 h), λ h. cc (e, occupied.1 h), repeats k e)
 reason_of s c v play.Memory r e some off occupied repeats = some refl
 
-module _ {A T : Type 0} where
-  -- a call that is refused
-  pub walked_stops : (r : Result T RecordError) (e : RecordError) (old new : Walk A) (events : List Event) → r ≡ Err e → Stops old events e → Walked r old events new
-  walked_stops r e old new events is h = subst (λ (q : Result T RecordError). Walked q old events new) (sym is) h
+-- a call that is refused
+pub walked_stops : {T : Type 0} (r : Result T RecordError) (e : RecordError) (old new : Place) (events : List Event) → r ≡ Err e → Stops old events e → Walked r old events new
+walked_stops {T} r e old new events is h = subst (λ (q : Result T RecordError). Walked q old events new) (sym is) h
 
-module _ {A : Type 0} where
-  -- the game that a turn begins with
-  pub began_playing : (w : Walk A) (game : GameValue) → w.game ≡ Some game → (events : List Event) (outcome : Outcome) → Plays game.standing events outcome → GoesFrom w w.game events outcome
-  began_playing w game e events outcome h = subst (λ (o : Option GameValue). GoesFrom w o events outcome) (sym e) h
+-- a call after others
+pub walked_after : {T : Type 0} (r : Result T RecordError) (a b c : Place) (xs ys : List Event) → Passes a xs b → Walked r b ys c → Walked r a (xs ++ ys) c
+walked_after (Ok x) a b c xs ys p q = passes_passes p q
+walked_after (Err e) a b c xs ys p q = passes_stops p q
 
-  pub began_setting : (w : Walk A) (game : GameValue) → w.game ≡ None →
-      IsAlive w.grid.lines w.grid.colours → game.standing ≡ start_of w.grid.lines w.komi w.grid.colours w.turn →
-      (node : ℕ) (c : Colour) (value : List ℕ) (events : List Event) (outcome : Outcome) → Plays game.standing (move node c value ∷ events) outcome →
-      GoesFrom w w.game (move node c value ∷ events) outcome
-  began_setting w game e alive is node c value events outcome h =
-      subst (λ (o : Option GameValue). GoesFrom w o (move node c value ∷ events) outcome) (sym e)
-      (sets_move w.grid.lines w.komi w.grid.colours w.turn node c value events outcome
-      (inl (alive, subst (λ (s : Standing). Plays s (move node c value ∷ events) outcome) is h)))
+-- what follows from what a result tells
+pub on_ok : {T E : Type 0} {P Q : Type 0} (r : Result T E) → (P → Q) → OnOk r P → OnOk r Q
+on_ok (Ok x) f h = f h
+on_ok (Err e) f h = h
 
-  pub began_dead : (w : Walk A) → w.game ≡ None → (error : RecordError) → IsDeadSetup w.grid.lines w.grid.colours (Err error) →
-      (node : ℕ) (c : Colour) (value : List ℕ) (events : List Event) → GoesFrom w w.game (move node c value ∷ events) (Err error)
-  began_dead w e error dead node c value events =
-      subst (λ (o : Option GameValue). GoesFrom w o (move node c value ∷ events) (Err error)) (sym e)
-      (sets_move w.grid.lines w.komi w.grid.colours w.turn node c value events (Err error) (inr dead))
+pub if_err : {T E : Type 0} {P Q : E → Type 0} (r : Result T E) → ((e : E) → P e → Q e) → IfErr r P → IfErr r Q
+if_err (Ok x) f h = h
+if_err (Err e) f h = f e h
 
--- the events of elements: those before one, its own, and those behind it
+-- the game that the first move begins
+pub began_setting : (w : Place) (s : Standing) → playing w ≡ None → IsAlive w.0.grid.lines w.0.grid.colours → s ≡ start_of w.0.grid.lines w.0.komi w.0.grid.colours w.0.turn →
+    (node : ℕ) (c : Colour) (value : List ℕ) (events : List Event) (outcome : Outcome) → Plays s (move node c value ∷ events) outcome →
+    GoesFrom w.0 (playing w) (move node c value ∷ events) outcome
+began_setting w s e alive is node c value events outcome h =
+    subst (λ (o : Option GameValue). GoesFrom w.0 o (move node c value ∷ events) outcome) (sym e)
+    (sets_move w.0.grid.lines w.0.komi w.0.grid.colours w.0.turn node c value events outcome
+    (inl (alive, subst (λ (t : Standing). Plays t (move node c value ∷ events) outcome) is h)))
+
+pub began_dead : (w : Place) → playing w ≡ None → (error : RecordError) → IsDeadSetup w.0.grid.lines w.0.grid.colours (Err error) →
+    (node : ℕ) (c : Colour) (value : List ℕ) (events : List Event) → GoesFrom w.0 (playing w) (move node c value ∷ events) (Err error)
+began_dead w e error dead node c value events =
+    subst (λ (o : Option GameValue). GoesFrom w.0 o (move node c value ∷ events) (Err error)) (sym e)
+    (sets_move w.0.grid.lines w.0.komi w.0.grid.colours w.0.turn node c value events (Err error) (inr dead))
+
+-- the events of elements: those before one and its own
+pub one_more : {X Y Z : Type 0} (f : Y → List Z) (v : X → Y) (xs : List X) (i : ℕ) (x : X) → i < length xs → x ≡ get_or xs i x →
+    flat_map f (map v (take i xs)) ++ f (v x) ≡ flat_map f (map v (take (i + 1) xs))
+one_more f v xs i x low is =
+    let split : take (i + 1) xs ≡ take i xs ++ x ∷ [] = take_more xs i x low ∙ ap (λ y. take i xs ++ y ∷ []) (sym is) in
+    ap (λ ys. flat_map f (map v (take i xs)) ++ ys) (sym (append-nil (f (v x))))
+    ∙ sym (ap (λ ys. flat_map f (map v ys)) split ∙ ap (flat_map f) (map-append v (take i xs) (x ∷ [])) ∙ flat_map-append f (map v (take i xs)) (v x ∷ []))
+
+-- and those behind it
 pub around : {X Y Z : Type 0} (f : Y → List Z) (v : X → Y) (xs : List X) (i : ℕ) (x : X) → i < length xs → x ≡ get_or xs i x →
     (flat_map f (map v (take i xs)) ++ f (v x)) ++ flat_map f (map v (drop (i + 1) xs)) ≡ flat_map f (map v xs)
 around f v xs i x low is =
-    let split : take (i + 1) xs ≡ take i xs ++ x ∷ [] = take_more xs i x low ∙ ap (λ y. take i xs ++ y ∷ []) (sym is) in
-    let front : flat_map f (map v (take i xs)) ++ f (v x) ≡ flat_map f (map v (take (i + 1) xs)) =
-    ap (λ ys. flat_map f (map v (take i xs)) ++ ys) (sym (append-nil (f (v x))))
-    ∙ sym (ap (λ ys. flat_map f (map v ys)) split ∙ ap (flat_map f) (map-append v (take i xs) (x ∷ [])) ∙ flat_map-append f (map v (take i xs)) (v x ∷ [])) in
-    ap (λ ys. ys ++ flat_map f (map v (drop (i + 1) xs))) front
+    ap (λ ys. ys ++ flat_map f (map v (drop (i + 1) xs))) (one_more f v xs i x low is)
     ∙ sym (flat_map-append f (map v (take (i + 1) xs)) (map v (drop (i + 1) xs)))
     ∙ ap (flat_map f) (sym (map-append v (take (i + 1) xs) (drop (i + 1) xs)))
     ∙ ap (λ ys. flat_map f (map v ys)) (take-append-drop (i + 1) xs)

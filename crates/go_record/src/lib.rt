@@ -15,7 +15,7 @@ mod writer;
 
 pub use error::RecordError;
 pub use judging::judge;
-pub use replaying::replay;
+pub use replaying::{replay, replay_on};
 pub use root::USUAL_LINES;
 pub use verdict::{Stated, Verdict};
 pub use writer::{put_record, write_record};

@@ -1,12 +1,14 @@
-ghost use Rattle.std.specs.Prelude.{◌≡◌, ◌≢◌, ◌+◌, Err, IfErr, IfOk, Ok, length, map};
+ghost use Rattle.std.specs.Prelude.{◌≡◌, ◌≢◌, ◌+◌, Err, IfErr, IfOk, Ok, OnErr, OnOk, length, map, true};
 ghost use Rattle.go_sgf.specs.View.{collection_of, node_of};
 ghost use Rattle.go_record.specs.declared.error.RecordError.TheVariants.{Memory};
+ghost use Rattle.go_board.specs.Sizes.{lines_of};
+ghost use Rattle.go_game.specs.Standings.{is_vacant};
 ghost use Rattle.go_record.specs.Games.{IsGameOf};
 ghost use Rattle.go_record.specs.MainLine.{events_from, main_line};
-ghost use Rattle.go_record.specs.Progress.{Walked, left_by};
+ghost use Rattle.go_record.specs.Progress.{Says, Walked, left_by};
 
 use crate::error::RecordError;
-use crate::root::{is_go, komi_of, root_value, size_of};
+use crate::root::{Root, root_of};
 use crate::state::{Left, Walk};
 use crate::walk::next;
 use go_board::Grid;
@@ -28,25 +30,70 @@ pub fn replay<A: Allocator + Copy>(
     ensures err { IfErr result
         (λ e. e ≢ Memory → IsGameOf (collection_of collection.now) number (Err e)) }
 {
-    if !is_go(root_value(collection, b"GM")) {
-        return Err(RecordError::NotGo);
+    let root = root_of(collection)?;
+    let mut game = Game::new(alloc, root.size);
+    walk_on(&mut game, &root, collection, number)?;
+    Ok(game)
+}
+
+/// Brings a game to where [`replay`] does, in place. Where that refuses, the game is vacant.
+pub fn replay_on<A: Allocator + Copy>(
+    game: &mut Game<A>,
+    collection: &Collection<'_, A>,
+    number: Option<u32>,
+) -> Result<(), RecordError>
+    ensures ok { OnOk result
+        (IsGameOf (collection_of collection.now) number (Ok game.new.standing)) }
+    ensures err { IfErr result
+        (λ e. e ≢ Memory → IsGameOf (collection_of collection.now) number (Err e)) }
+    ensures vacant { OnErr result (is_vacant game.new.standing ≡ true) }
+{
+    match bring(game, collection, number) {
+        Ok(()) => Ok(()),
+        Err(why) => {
+            game.clear();
+            Err(why)
+        }
     }
-    let Some(size) = size_of(root_value(collection, b"SZ")) else {
-        return Err(RecordError::BadSize);
-    };
-    let Some(komi) = komi_of(root_value(collection, b"KM")) else {
-        return Err(RecordError::BadKomi);
-    };
+}
+
+/// Brings a game to where a record's game stands, or to where the walk along it was refused.
+fn bring<A: Allocator + Copy>(
+    game: &mut Game<A>,
+    collection: &Collection<'_, A>,
+    number: Option<u32>,
+) -> Result<(), RecordError>
+    ensures ok { OnOk result
+        (IsGameOf (collection_of collection.now) number (Ok game.new.standing)) }
+    ensures err { IfErr result
+        (λ e. e ≢ Memory → IsGameOf (collection_of collection.now) number (Err e)) }
+{
+    let root = root_of(collection)?;
+    walk_on(game, &root, collection, number)
+}
+
+/// Walks along a record whose root says this.
+fn walk_on<A: Allocator + Copy>(
+    game: &mut Game<A>,
+    root: &Root,
+    collection: &Collection<'_, A>,
+    number: Option<u32>,
+) -> Result<(), RecordError>
+    requires { Says (collection_of collection.now) (lines_of root.now.size) root.now.komi }
+    ensures ok { OnOk result
+        (IsGameOf (collection_of collection.now) number (Ok game.new.standing)) }
+    ensures err { IfErr result
+        (λ e. e ≢ Memory → IsGameOf (collection_of collection.now) number (Err e)) }
+{
     let mut walk = Walk {
-        alloc,
-        komi,
-        grid: Grid::new(size),
+        komi: root.komi,
+        grid: Grid::new(root.size),
         turn: None,
-        game: None,
+        is_playing: false,
         left: left_of(number),
     };
-    pass_line(&mut walk, collection)?;
-    walk.finish()
+    pass_line(&mut walk, game, collection)?;
+    walk.finish(game)
 }
 
 /// What a walk looks at that ends before the move of this number.
@@ -62,16 +109,17 @@ fn left_of(number: Option<u32>) -> Left
 
 /// Passes the main line of the first tree.
 fn pass_line<A: Allocator + Copy>(
-    walk: &mut Walk<A>,
+    walk: &mut Walk,
+    game: &mut Game<A>,
     collection: &Collection<'_, A>,
 ) -> Result<(), RecordError>
-    ensures { Walked result walk.old (events_from 0 (main_line (collection_of collection.now)))
-        walk.new }
+    ensures { Walked result (walk.old, game.old)
+        (events_from 0 (main_line (collection_of collection.now))) (walk.new, game.new) }
 {
     let mut count = 0;
     let mut current = collection.trees().first();
     while let Some(tree) = current {
-        count = pass_nodes(walk, tree.nodes(), count)?;
+        count = pass_nodes(walk, game, tree.nodes(), count)?;
         current = tree.children().first();
     }
     Ok(())
@@ -79,16 +127,18 @@ fn pass_line<A: Allocator + Copy>(
 
 /// Passes nodes, the first of which has this number, and gives the number of the next.
 fn pass_nodes<A: Allocator + Copy>(
-    walk: &mut Walk<A>,
+    walk: &mut Walk,
+    game: &mut Game<A>,
     nodes: &[Node<'_, A>],
     first: usize,
 ) -> Result<usize, RecordError>
-    ensures walked { Walked result walk.old (events_from first (map node_of nodes.now)) walk.new }
+    ensures walked { Walked result (walk.old, game.old)
+        (events_from first (map node_of nodes.now)) (walk.new, game.new) }
     ensures count { IfOk result (λ count. count ≡ first + length nodes.now) }
 {
     let mut count = first;
     for node in nodes {
-        walk.pass_node(node.properties(), count)?;
+        walk.pass_node(game, node.properties(), count)?;
         count = next(count)?;
     }
     Ok(count)

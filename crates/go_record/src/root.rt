@@ -1,9 +1,11 @@
-ghost use Rattle.std.specs.Prelude.{◌≡◌, ◌==◌, ◌<◌, ◌≤ℤ◌, IfSome, length, map, negsuc, option_map, pos, position};
+ghost use Rattle.std.specs.Prelude.{◌≡◌, ◌==◌, ◌<◌, ◌≤ℤ◌, Err, IfErr, IfOk, IfSome, ℕ, Option, length, map, negsuc, option_map, pos, position};
 ghost use Rattle.go_board.specs.Sizes.{lines_of};
 ghost use Rattle.go_game.specs.Standings.{IsKomi};
 ghost use Rattle.go_sgf.specs.View.{collection_of, property_of};
-ghost use Rattle.go_record.specs.Games.{is_blank as is_white, is_go as is_go_by, is_one as is_one_of, komi_in, lines_in, lines_within, number_by, root_value as value_by, same_number as number_same, value_in as value_by_name};
+ghost use Rattle.go_record.specs.Progress.{Says};
+ghost use Rattle.go_record.specs.Games.{IsGameOf, is_blank as is_white, is_go as is_go_by, is_one as is_one_of, komi_in, lines_in, lines_within, number_by, root_value as value_by, same_number as number_same, value_in as value_by_name};
 
+use crate::error::RecordError;
 use crate::kind::first_value;
 use go_board::Size;
 use go_sgf::{Collection, Property, hundredths_of, number_of};
@@ -11,6 +13,35 @@ use std::alloc::Allocator;
 
 /// The lines of a board whose record says nothing of them.
 pub const USUAL_LINES: u8 = 19;
+
+/// What a record's first node says of its game before any event.
+#[derive(Clone, Copy)]
+pub(crate) struct Root {
+    pub(crate) size: Size,
+    pub(crate) komi: i64,
+    pub ghost in_range: { IsKomi komi },
+}
+
+/// The size and the komi of a record. The first refusal that is met: the game, the size, the komi.
+pub(crate) fn root_of<A: Allocator + Copy>(
+    collection: &Collection<'_, A>,
+) -> Result<Root, RecordError>
+    ensures ok { IfOk result
+        (λ root. Says (collection_of collection.now) (lines_of root.size) root.komi) }
+    ensures err { IfErr result (λ e. (number : Option ℕ)
+        → IsGameOf (collection_of collection.now) number (Err e)) }
+{
+    if !is_go(root_value(collection, b"GM")) {
+        return Err(RecordError::NotGo);
+    }
+    let Some(size) = size_of(root_value(collection, b"SZ")) else {
+        return Err(RecordError::BadSize);
+    };
+    match komi_of(root_value(collection, b"KM")) {
+        Some(komi) => Ok(Root { size, komi }),
+        None => Err(RecordError::BadKomi),
+    }
+}
 
 /// The first value of the first property with this name in the first node, or an empty one.
 pub(crate) fn root_value<'a, A: Allocator + Copy>(

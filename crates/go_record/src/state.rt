@@ -1,8 +1,6 @@
 ghost use Rattle.go_game.specs.Standings.{IsKomi};
 
 use go_board::{Colour, Grid};
-use go_game::Game;
-use std::alloc::Allocator;
 
 /// What of the events that are still to come is looked at.
 #[derive(Clone, Copy)]
@@ -13,15 +11,14 @@ pub(crate) enum Left {
     Nothing,
 }
 
-/// A walk along a main line: the stones set up and the colour given to move, and the game once a
-/// move was met.
+/// A walk along a main line: the stones set up and the colour given to move, until a move is met and
+/// the game is played on.
 #[derive(Drop)]
-pub(crate) struct Walk<A: Allocator + Copy> {
-    pub(crate) alloc: A,
+pub(crate) struct Walk {
     pub(crate) komi: i64,
     pub(crate) grid: Grid,
     pub(crate) turn: Option<Colour>,
-    pub(crate) game: Option<Game<A>>,
+    pub(crate) is_playing: bool,
     pub(crate) left: Left,
     pub ghost in_range: { IsKomi komi },
 }

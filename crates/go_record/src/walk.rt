@@ -1,9 +1,10 @@
-ghost use Rattle.std.specs.Prelude.{◌≡◌, ◌≢◌, [], ◌∷◌, Err, IfErr, IfOk, List, Ok, OnOk, ◌+◌, ◌↔◌, IsTrue, map, None, false, true};
+ghost use Rattle.std.specs.Prelude.{◌≡◌, ◌≢◌, [], ◌∷◌, Err, IfErr, IfOk, List, Ok, OnOk, ◌+◌, ◌↔◌, IsTrue, map, Some, false, true};
 ghost use Rattle.go_sgf.specs.View.{node_of, property_of, values_of};
 ghost use Rattle.go_record.specs.declared.error.RecordError.{RecordError};
 ghost use Rattle.go_record.specs.declared.error.RecordError.TheVariants.{Memory};
 ghost use Rattle.go_record.specs.MainLine.{events_from, events_of, Event, move as move_met, move_event, setup_event, stones, turn};
-ghost use Rattle.go_record.specs.Progress.{Goes, GoesFrom, Walked, is_nothing};
+ghost use Rattle.go_record.specs.Progress.{Goes, GoesFrom, Walked, is_nothing, playing};
+ghost use Rattle.go_game.specs.Standings.{GameValue};
 ghost use Rattle.go_record.specs.Walks.{IsAlive, IsDeadSetup, Outcome, Plays, start_of};
 ghost use Rattle.std.specs.List.{flat_map};
 
@@ -16,22 +17,29 @@ use go_game::{Game, PlayError, SetupError};
 use go_sgf::{Node, Property, point_of};
 use std::alloc::Allocator;
 
-impl<A: Allocator + Copy> Walk<A> {
+impl Walk {
     /// Passes the properties of a node.
-    pub(crate) fn pass_node(
+    pub(crate) fn pass_node<A: Allocator + Copy>(
+        &mut self,
+        game: &mut Game<A>,
+        properties: &[Property<'_, A>],
+        node: usize,
+    ) -> Result<(), RecordError>
+        ensures { Walked result (self.old, game.old)
+            (events_of node (map property_of properties.now)) (self.new, game.new) }
+    {
+        self.set_up(properties, node)?;
+        self.play_moves(game, properties, node)
+    }
+
+    /// Sets up what the properties of a node say. No game is touched.
+    fn set_up<A: Allocator + Copy>(
         &mut self,
         properties: &[Property<'_, A>],
         node: usize,
     ) -> Result<(), RecordError>
-        ensures { Walked result self.old (events_of node (map property_of properties.now)) self.new }
-    {
-        self.set_up(properties, node)?;
-        self.play_moves(properties, node)
-    }
-
-    fn set_up(&mut self, properties: &[Property<'_, A>], node: usize) -> Result<(), RecordError>
-        ensures { Walked result self.old
-            (flat_map (setup_event node) (map property_of properties.now)) self.new }
+        ensures { (game : GameValue) → Walked result (self.old, game)
+            (flat_map (setup_event node) (map property_of properties.now)) (self.new, game) }
     {
         for property in properties {
             self.pass_setup(property, node)?;
@@ -39,18 +47,28 @@ impl<A: Allocator + Copy> Walk<A> {
         Ok(())
     }
 
-    fn play_moves(&mut self, properties: &[Property<'_, A>], node: usize) -> Result<(), RecordError>
-        ensures { Walked result self.old
-            (flat_map (move_event node) (map property_of properties.now)) self.new }
+    fn play_moves<A: Allocator + Copy>(
+        &mut self,
+        game: &mut Game<A>,
+        properties: &[Property<'_, A>],
+        node: usize,
+    ) -> Result<(), RecordError>
+        ensures { Walked result (self.old, game.old)
+            (flat_map (move_event node) (map property_of properties.now)) (self.new, game.new) }
     {
         for property in properties {
-            self.pass_move(property, node)?;
+            self.pass_move(game, property, node)?;
         }
         Ok(())
     }
 
-    fn pass_setup(&mut self, property: &Property<'_, A>, node: usize) -> Result<(), RecordError>
-        ensures { Walked result self.old (setup_event node (property_of property.now)) self.new }
+    fn pass_setup<A: Allocator + Copy>(
+        &mut self,
+        property: &Property<'_, A>,
+        node: usize,
+    ) -> Result<(), RecordError>
+        ensures { (game : GameValue) → Walked result (self.old, game)
+            (setup_event node (property_of property.now)) (self.new, game) }
     {
         match kind_of(property) {
             Kind::Stones(colour) => self.set_stones(colour, property.values(), node),
@@ -59,11 +77,17 @@ impl<A: Allocator + Copy> Walk<A> {
         }
     }
 
-    fn pass_move(&mut self, property: &Property<'_, A>, node: usize) -> Result<(), RecordError>
-        ensures { Walked result self.old (move_event node (property_of property.now)) self.new }
+    fn pass_move<A: Allocator + Copy>(
+        &mut self,
+        game: &mut Game<A>,
+        property: &Property<'_, A>,
+        node: usize,
+    ) -> Result<(), RecordError>
+        ensures { Walked result (self.old, game.old) (move_event node (property_of property.now))
+            (self.new, game.new) }
     {
         match kind_of(property) {
-            Kind::Move(colour) => self.take_turn(colour, first_value(property), node),
+            Kind::Move(colour) => self.take_turn(game, colour, first_value(property), node),
             Kind::Stones(_) | Kind::Turn | Kind::Other => Ok(()),
         }
     }
@@ -75,12 +99,13 @@ impl<A: Allocator + Copy> Walk<A> {
         values: &[&[u8]],
         node: usize,
     ) -> Result<(), RecordError>
-        ensures { Walked result self.old (stones node colour (values_of values.now) ∷ []) self.new }
+        ensures { (game : GameValue) → Walked result (self.old, game)
+            (stones node colour (values_of values.now) ∷ []) (self.new, game) }
     {
         if self.is_over() {
             return Ok(());
         }
-        if self.game.is_some() {
+        if self.is_playing {
             return Err(RecordError::SetupAfterMove(node));
         }
         match set_points(&mut self.grid, colour, values) {
@@ -91,9 +116,10 @@ impl<A: Allocator + Copy> Walk<A> {
 
     /// Gives the turn to the colour that a value names. After a move that is skipped.
     fn set_turn(&mut self, value: &[u8], node: usize) -> Result<(), RecordError>
-        ensures { Walked result self.old (turn node value.now ∷ []) self.new }
+        ensures { (game : GameValue) → Walked result (self.old, game) (turn node value.now ∷ [])
+            (self.new, game) }
     {
-        if self.is_over() || self.game.is_some() {
+        if self.is_over() || self.is_playing {
             return Ok(());
         }
         match colour_of(value) {
@@ -113,84 +139,82 @@ impl<A: Allocator + Copy> Walk<A> {
     }
 
     /// Plays the move of a value, unless the walk ends before it.
-    fn take_turn(&mut self, colour: Colour, value: &[u8], node: usize) -> Result<(), RecordError>
-        ensures { Walked result self.old (move_met node colour value.now ∷ []) self.new }
+    fn take_turn<A: Allocator + Copy>(
+        &mut self,
+        game: &mut Game<A>,
+        colour: Colour,
+        value: &[u8],
+        node: usize,
+    ) -> Result<(), RecordError>
+        ensures { Walked result (self.old, game.old) (move_met node colour value.now ∷ [])
+            (self.new, game.new) }
     {
         match self.left {
-            Left::All => self.play(colour, value, node),
+            Left::All => self.play(game, colour, value, node),
             Left::Moves(left) => {
                 if left == 0 {
                     self.left = Left::Nothing;
                     return Ok(());
                 }
                 self.left = Left::Moves(left - 1);
-                self.play(colour, value, node)
+                self.play(game, colour, value, node)
             }
             Left::Nothing => Ok(()),
         }
     }
 
-    /// Plays the move of a value.
-    fn play(&mut self, colour: Colour, value: &[u8], node: usize) -> Result<(), RecordError>
+    /// Plays the move of a value, the first on the stones set up.
+    fn play<A: Allocator + Copy>(
+        &mut self,
+        game: &mut Game<A>,
+        colour: Colour,
+        value: &[u8],
+        node: usize,
+    ) -> Result<(), RecordError>
         ensures left { self.new.left ≡ self.old.left }
         ensures ok { OnOk result ((events : List Event) (outcome : Outcome)
-            → GoesFrom self.new self.new.game events outcome
-            → GoesFrom self.old self.old.game (move_met node colour value.now ∷ events) outcome) }
+            → GoesFrom self.new (playing (self.new, game.new)) events outcome
+            → GoesFrom self.old (playing (self.old, game.old))
+            (move_met node colour value.now ∷ events) outcome) }
         ensures err { IfErr result (λ e. e ≢ Memory → (events : List Event)
-            → GoesFrom self.old self.old.game (move_met node colour value.now ∷ events) (Err e)) }
+            → GoesFrom self.old (playing (self.old, game.old))
+            (move_met node colour value.now ∷ events) (Err e)) }
     {
-        match &mut self.game {
-            Some(game) => play_value(game, colour, value, node),
-            None => self.play_first(colour, value, node),
+        if self.is_playing {
+            return play_value(game, colour, value, node);
         }
+        self.begin(game)?;
+        self.is_playing = true;
+        play_value(game, colour, value, node)
     }
 
-    /// Plays the move of a value on the game that starts from the stones set up. It stands apart so that
-    /// no later move makes room for a game.
-    fn play_first(&mut self, colour: Colour, value: &[u8], node: usize) -> Result<(), RecordError>
-        requires { self.old.game ≡ None }
-        ensures left { self.new.left ≡ self.old.left }
-        ensures ok { OnOk result ((events : List Event) (outcome : Outcome)
-            → GoesFrom self.new self.new.game events outcome
-            → GoesFrom self.old self.old.game (move_met node colour value.now ∷ events) outcome) }
-        ensures err { IfErr result (λ e. e ≢ Memory → (events : List Event)
-            → GoesFrom self.old self.old.game (move_met node colour value.now ∷ events) (Err e)) }
-    {
-        let mut game = self.start()?;
-        play_value(&mut game, colour, value, node)?;
-        self.game = Some(game);
-        Ok(())
-    }
-
-    /// The game that starts from the stones set up.
-    fn start(&self) -> Result<Game<A>, RecordError>
-        ensures ok { IfOk result (λ game. IsAlive self.now.grid.lines self.now.grid.colours
-            × (game.standing
+    /// Begins the game from the stones set up.
+    fn begin<A: Allocator + Copy>(&self, game: &mut Game<A>) -> Result<(), RecordError>
+        ensures ok { OnOk result (IsAlive self.now.grid.lines self.now.grid.colours
+            × (game.new.standing
             ≡ start_of self.now.grid.lines self.now.komi self.now.grid.colours self.now.turn)) }
         ensures err { IfErr result (λ e. e ≢ Memory
             → IsDeadSetup self.now.grid.lines self.now.grid.colours (Err e)) }
     {
-        let first = first_mover(&self.grid, self.turn);
-        match Game::start_from(self.alloc, &self.grid, first) {
-            Ok(game) => {
-                let mut game = game;
+        match game.begin_from(&self.grid, first_mover(&self.grid, self.turn)) {
+            Ok(()) => {
                 game.set_komi(self.komi);
-                Ok(game)
+                Ok(())
             }
             Err(SetupError::NoLiberty(p)) => Err(RecordError::DeadSetup(p)),
             Err(SetupError::Memory) => Err(RecordError::Memory),
         }
     }
 
-    /// The game at the end of the walk.
-    pub(crate) fn finish(&mut self) -> Result<Game<A>, RecordError>
-        ensures ok { IfOk result (λ game. Goes self.old [] (Ok game.standing)) }
-        ensures err { IfErr result (λ e. e ≢ Memory → Goes self.old [] (Err e)) }
+    /// Brings the game to the end of the walk, where no move was met.
+    pub(crate) fn finish<A: Allocator + Copy>(&self, game: &mut Game<A>) -> Result<(), RecordError>
+        ensures ok { OnOk result (Goes (self.now, game.old) [] (Ok game.new.standing)) }
+        ensures err { IfErr result (λ e. e ≢ Memory → Goes (self.now, game.old) [] (Err e)) }
     {
-        match self.game.take() {
-            Some(game) => Ok(game),
-            None => self.start(),
+        if self.is_playing {
+            return Ok(());
         }
+        self.begin(game)
     }
 }
 

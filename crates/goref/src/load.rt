@@ -1,4 +1,4 @@
-ghost use Rattle.std.specs.Prelude.{◌≡◌, IfOk, IsErrOf, Some, option_map, slice_get};
+ghost use Rattle.std.specs.Prelude.{◌≡◌, IsErrOf, OnOk, Some, option_map, slice_get};
 ghost use Rattle.std.specs.Bool.{Decides};
 ghost use Rattle.std.specs.Option.{option_and_then};
 ghost use Rattle.goref.specs.Commands.{command_of};
@@ -6,7 +6,7 @@ ghost use Rattle.goref.specs.Loads.{Loads, LoadsNone, load_of, number_asked, of_
 
 use crate::command::{Command, command_named};
 use go_game::Game;
-use go_record::{RecordError, replay};
+use go_record::{RecordError, replay_on};
 use go_sgf::{SgfError, read};
 use goref_lines::{Request, read_int};
 use std::alloc::Allocator;
@@ -92,15 +92,18 @@ impl From<RecordError> for LoadError {
     }
 }
 
-/// The game of a record, up to the move of a number where one is given.
-pub fn loaded<A: Allocator + Copy>(
+/// Brings a game to where a record's stands, up to the move of a number where one is given. A
+/// refusal leaves it at no standing that was asked for.
+pub fn load_on<A: Allocator + Copy>(
+    game: &mut Game<A>,
     alloc: A,
     bytes: &[u8],
     number: Option<u32>,
-) -> Result<Game<A>, LoadError>
-    ensures ok { IfOk result (λ game. Loads bytes.now number game.standing) }
+) -> Result<(), LoadError>
+    ensures ok { OnOk result (Loads bytes.now number game.new.standing) }
     ensures cannot { IsErrOf result LoadError.Cannot → LoadsNone bytes.now number }
 {
     let collection = read(alloc, bytes)?;
-    Ok(replay(alloc, &collection, number)?)
+    replay_on(game, &collection, number)?;
+    Ok(())
 }

@@ -24,7 +24,7 @@ use crate::command::{Command, command_named};
 use crate::decision::{Decision, Fact, Refusal};
 use crate::fetched::Fetched;
 use crate::flow::Flow;
-use crate::load::{LoadError, command_asked, load_asked, loaded};
+use crate::load::{LoadError, command_asked, load_asked, load_on};
 use go_board::{Colour, Move, Point, Sink, Size, Vertex, VertexError, WriteFault, read_vertex};
 use go_game::laws::legal_by_the_rules;
 use go_game::{Game, PlayError, SetupError, Superko, fixed_points, greatest_handicap, stones_on};
@@ -33,11 +33,14 @@ use goref_lines::{Line, ListError, Request, id_of_cut, read_colour, read_int, re
 use goref_results::legal_plays;
 use std::alloc::Allocator;
 use std::marker::Model;
+use std::mem;
 
 /// A game that is played by lines.
 #[derive(Drop)]
 pub struct Session<A: Allocator + Copy> {
     game: Game<A>,
+    /// Where records are loaded, so that a refused one leaves the game as it is.
+    spare: Game<A>,
     alloc: A,
 }
 
@@ -54,6 +57,7 @@ impl<A: Allocator + Copy> Session<A> {
     {
         Session {
             game: Game::new(alloc, size),
+            spare: Game::new(alloc, size),
             alloc,
         }
     }
@@ -282,9 +286,9 @@ impl<A: Allocator + Copy> Session<A> {
         ensures { DecidesBytes self.old bytes.now number
             (record { decision = result; standing = self.new }) }
     {
-        match loaded(self.alloc, bytes, number) {
-            Ok(next) => {
-                self.game = next;
+        match load_on(&mut self.spare, self.alloc, bytes, number) {
+            Ok(()) => {
+                mem::swap(&mut self.game, &mut self.spare);
                 Decision::Done
             }
             Err(LoadError::Cannot) => Decision::Refused(Refusal::CannotLoad),

@@ -1,5 +1,5 @@
 -- What a run did, from what was read of the input.
-use Rattle.std.proofs.Common.{◌≡◌, ℕ, List, [], Option, Result, Ok, refl}
+use Rattle.std.proofs.Common.{◌≡◌, ◌∙◌, ◌++◌, ℕ, List, [], IfSome, Option, None, Some, Result, Ok, refl, ap, subst, sym}
 use Rattle.std.proofs.lemmas.Bool.{ne_eqb}
 use Rattle.std.proofs.lemmas.List.{append-nil}
 use Rattle.go_board.specs.Device.{after_bytes, ends_after}
@@ -30,6 +30,14 @@ answers_complete {s} {now} {read} e p = record {
 pub answers_front : {s : Standing} {left left' : Option (List ℕ)} {given given' : Option (List Pair)} {taken taken' : Option (List ℕ)} (read : List ℕ) →
     left ≡ after_bytes read left' → BreaksOff s (lines read) given given' taken taken' → AnswersFront s left left' given given' taken taken'
 answers_front read e b = record { read = read; has_read = e; breaks_off = b }
+
+-- what holds of what was read holds of the input, where that has ended
+pub of_ended : (P : List ℕ → Type 0) (read : List ℕ) {left : Option (List ℕ)} (left' : Option (List ℕ)) → left ≡ after_bytes read left' →
+    IfSome left' (λ xs. xs ≡ []) → P read → IfSome left P
+of_ended P read {left} None e f h = let Q : Option (List ℕ) → Type 0 = λ o. IfSome o P in subst Q (sym e) tt
+of_ended P read {left} (Some more) e f h =
+    let Q : Option (List ℕ) → Type 0 = λ o. IfSome o P in
+    subst Q (sym e) (subst P (sym (append-nil read) ∙ ap (λ xs. read ++ xs) (sym f)) h)
 
 -- a read that gave some bytes found no end
 pub no_end_found : (E : Type 0) (n len old : ℕ) → (n ≡ 0 → ⊥) → (let given : Result ℕ E = Ok n in ends_after given len old ≡ old)

@@ -1,7 +1,7 @@
 use failing::Failing;
 use go_board::{Colour, Move, Pen, Point, Vertex, WriteFault, read_vertex};
 use go_game::{Game, PlayError, Superko, hundredths_text, score_text};
-use go_record::{RecordError, Stated, Verdict, judge, put_record, replay, write_record};
+use go_record::{RecordError, Stated, Verdict, judge, put_record, replay, replay_on, write_record};
 use go_sgf::{Collection, read, trim};
 use memory_devices::Writer;
 use std::alloc::{Allocator, Global};
@@ -236,6 +236,21 @@ fn the_rule_of_a_record(rt: HostRuntime) {
 }
 
 /// Writes the record of a game.
+#[test]
+fn replay_in_place(rt: HostRuntime) {
+    let alloc = rt.alloc();
+    let mut game = game_of(&rt, alloc, SET_UP, None);
+    let short = read(alloc, REPEATING).expect(&rt, "a record");
+    assert!(rt; replay_on(&mut game, &short, Some(3)).is_ok());
+    assert!(rt; game.size().lines() == 2 && game.move_count() == 2 && game.komi() == 0);
+    assert!(rt; stone(&rt, &game, b"a2") == Some(Colour::Black));
+    let why = replay_on(&mut game, &short, None)
+        .err()
+        .expect(&rt, "a refusal");
+    assert!(rt; why == RecordError::Illegal(4, PlayError::Repeats(3)));
+    assert!(rt; game.is_vacant());
+}
+
 fn written(game: &Game<Global>, writer: &mut Writer<Global>) -> Result<(), WriteFault> {
     write_record(game, writer)
 }

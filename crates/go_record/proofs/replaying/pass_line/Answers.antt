@@ -4,7 +4,7 @@ use Rattle.std.proofs.lemmas.List.{length-map}
 use Rattle.std.proofs.lemmas.Result.{err_from_is_err_and}
 use Rattle.go_sgf.specs.View.{node_of, tree_of}
 use Rattle.go_record.specs.MainLine.{Event, events_from, main_line}
-use Rattle.go_record.specs.Progress.{Goes, line_from}
+use Rattle.go_record.specs.Progress.{Goes, Place, line_from}
 use Rattle.go_record.proofs.Lines.{first_line, line_split}
 use Rattle.go_record.proofs.Walking.{walked_stops}
 use Rattle.go_record.proofs.replaying.pass_line.Goals as goal
@@ -13,11 +13,11 @@ pub returns-in_err-count : goal.returns-in_err-count
 returns-in_err-count g c =
     let p = err_from_is_err_and c.from_residual.result c.from_residual.ensures.1 in
     let e = c.in_err-count.field-0.0 in
-    let w = c.loop-current.walk in
+    let w : Place = (c.loop-current.walk, c.loop-current.game) in
     let count = c.loop-current.count in
     let nodes = map node_of c.nodes.result.now in
     let rest = main_line (tree_of c.in-Some.tree.now).1 in
-    walked_stops c.from_residual.result e c.args.walk.now c.pass_nodes.new.walk _ (p.1 ∙ ap Err p.2) (record {
+    walked_stops c.from_residual.result e (c.args.walk.now, c.args.game.now) (c.pass_nodes.new.walk, c.pass_nodes.new.game) _ (p.1 ∙ ap Err p.2) (record {
       stopped = λ some later.
           let behind = events_from (count + length nodes) rest ++ later in
           c.loop-current.invariant later (Err e) (subst (λ (es : List Event). Goes w es (Err e))
@@ -27,7 +27,7 @@ returns-in_err-count g c =
 
 pub loop-current-preserved : goal.loop-current-preserved
 loop-current-preserved g c = λ later outcome h.
-    let w = c.loop-current.walk in
+    let w : Place = (c.loop-current.walk, c.loop-current.game) in
     let count = c.loop-current.count in
     let nodes = map node_of c.nodes.result.now in
     let rest = main_line (line_from c.first-current-in-Some.result) in

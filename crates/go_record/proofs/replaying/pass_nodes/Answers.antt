@@ -16,8 +16,8 @@ returns-in_err-pass_node-clause-walked g c =
     let first = c.args.first in
     let nodes = c.args.nodes.now in
     let stopped = rw (c.loop-node.invariant.count, c.properties.ensures) at c.in_err-pass_node.ensures in
-    walked_stops c.from_residual.result e c.args.walk.now c.pass_node.new.self _ (p.1 ∙ ap Err p.2)
-    (subst (λ (es : List Event). Stops c.args.walk.now es e) (nodes_around node_of first nodes i c.node-item.result c.loop-node-test.true c.node-item.is)
+    walked_stops c.from_residual.result e (c.args.walk.now, c.args.game.now) (c.pass_node.new.self, c.pass_node.new.game) _ (p.1 ∙ ap Err p.2)
+    (subst (λ (es : List Event). Stops (c.args.walk.now, c.args.game.now) es e) (nodes_around node_of first nodes i c.node-item.result c.loop-node-test.true c.node-item.is)
     (stops_longer (passes_stops c.loop-node.invariant.passed stopped) (events_from (first + length (map node_of (take (i + 1) nodes))) (map node_of (drop (i + 1) nodes)))))
 
 pub loop-node-preserved : goal.loop-node-preserved

@@ -6,6 +6,6 @@ use Rattle.go_record.proofs.replaying.pass_nodes.Given as goal
 
 abbrev pub invariant-loop-node : goal.invariant-loop-node
 invariant-loop-node g l = record {
-  passed : Passes l.initial.walk (events_from l.first (map node_of (take l.node-index l.nodes))) l.walk;
+  passed : Passes (l.initial.walk, l.initial.game) (events_from l.first (map node_of (take l.node-index l.nodes))) (l.walk, l.game);
   count : l.count ≡ l.first + l.node-index;
 }

@@ -8,7 +8,7 @@ use Rattle.goref_runs.specs.Lines.{lines}
 use Rattle.goref_runs.specs.Conversation.{Converses}
 use Rattle.goref_runs.proofs.Progressing.{begins}
 use Rattle.go_board.specs.Reading.{after_bytes-nil, has_read_more, of_input}
-use Rattle.goref_runs.proofs.Running.{answers_complete, answers_front, no_end_found}
+use Rattle.goref_runs.proofs.Running.{answers_complete, answers_front, no_end_found, of_ended}
 use Rattle.goref_runs.proofs.runs.run_within.Goals as goal
 
 pub loop-init : goal.loop-init
@@ -39,6 +39,15 @@ returns-in-Err-end_input-clause-write g c = λ _.
     let nothing = rw c.if-count-eq0.true at c.in-Ok.ensures.bytes in
     answers_front now.read (now.left ∙ ap (after_bytes now.read) (nothing ∙ after_bytes-nil (g.R.Source.left c.pull.new.self)))
     (rw c.in-Err-end_input.is at (c.end_input.ensures.finishes _ now.read _ _ now.progress))
+
+pub returns-in-Ok-end_input-clause-ok : goal.returns-in-Ok-end_input-clause-ok
+returns-in-Ok-end_input-clause-ok g c =
+    let now = c.loop.invariant in
+    let nothing = rw c.if-count-eq0.true at c.in-Ok.ensures.bytes in
+    of_ended (λ input. Converses (begun (lines_of c.args.size) (pos 0)) (lines input) _ _ _ _) now.read (g.R.Source.left c.pull.new.self)
+    (now.left ∙ ap (after_bytes now.read) (nothing ∙ after_bytes-nil (g.R.Source.left c.pull.new.self)))
+    (c.in-Ok.ensures.end c.if-count-eq0.true (omega (arith, c.pull.auto.buffer)))
+    (rw c.in-Ok-end_input.is at (c.end_input.ensures.finishes _ now.read _ _ now.progress))
 
 pub returns-in-Err-feed-clause-write : goal.returns-in-Err-feed-clause-write
 returns-in-Err-feed-clause-write g c = λ _.

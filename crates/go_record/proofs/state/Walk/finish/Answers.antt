@@ -1,12 +1,18 @@
-use Rattle.std.proofs.Common.{◌∙◌, sym}
-use Rattle.go_record.proofs.Walking.{end_dead, end_playing, end_started}
+use Rattle.go_record.specs.Progress.{Place}
+use Rattle.go_record.proofs.Walking.{end_dead, end_playing, end_started, met, none_met}
 use Rattle.go_record.proofs.state.Walk.finish.Goals as goal
 
-pub returns-in-Some-clause-ok : goal.returns-in-Some-clause-ok
-returns-in-Some-clause-ok g c = end_playing c.args.self.now c.in-Some.game (sym c.take.ensures.value ∙ c.in-Some.is)
+pub returns-then-self-clause-ok : goal.returns-then-self-clause-ok
+returns-then-self-clause-ok g c =
+    let w : Place = (c.args.self.now, c.args.game.now) in
+    end_playing w c.args.game.now (met w c.if-self.true)
 
-pub returns-in-None-clause-ok : goal.returns-in-None-clause-ok
-returns-in-None-clause-ok g c = end_started c.args.self.now c.start.result (sym c.take.ensures.value ∙ c.in-None.is) c.start.ensures.ok
+pub returns-clause-ok : goal.returns-clause-ok
+returns-clause-ok g c =
+    let w : Place = (c.args.self.now, c.args.game.now) in
+    end_started w c.begin.result c.begin.new.game.standing (none_met w c.if-self.false) c.begin.ensures.ok
 
-pub returns-in-None-clause-err : goal.returns-in-None-clause-err
-returns-in-None-clause-err g c = end_dead c.args.self.now c.start.result (sym c.take.ensures.value ∙ c.in-None.is) c.start.ensures.err
+pub returns-clause-err : goal.returns-clause-err
+returns-clause-err g c =
+    let w : Place = (c.args.self.now, c.args.game.now) in
+    end_dead w c.begin.result (none_met w c.if-self.false) c.begin.ensures.err

@@ -15,6 +15,6 @@ returns-in_err-pass_move g c =
     let i = c.loop-property.property-index in
     let f = move_event c.args.node in
     let item = c.property-item.result in
-    walked_stops c.from_residual.result e c.args.self.now c.pass_move.new.self _ (p.1 ∙ ap Err p.2)
-    (subst (λ (es : List Event). Stops c.args.self.now es e) (around f property_of c.args.properties.now i item c.loop-property-test.true c.property-item.is)
+    walked_stops c.from_residual.result e (c.args.self.now, c.args.game.now) (c.pass_move.new.self, c.pass_move.new.game) _ (p.1 ∙ ap Err p.2)
+    (subst (λ (es : List Event). Stops (c.args.self.now, c.args.game.now) es e) (around f property_of c.args.properties.now i item c.loop-property-test.true c.property-item.is)
     (stops_longer (passes_stops c.loop-property.invariant c.in_err-pass_move.ensures) (flat_map f (map property_of (drop (i + 1) c.args.properties.now)))))

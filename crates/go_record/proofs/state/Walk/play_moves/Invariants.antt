@@ -6,4 +6,5 @@ use Rattle.go_record.specs.Progress.{Passes}
 use Rattle.go_record.proofs.state.Walk.play_moves.Given as goal
 
 abbrev pub invariant-loop-property : goal.invariant-loop-property
-invariant-loop-property g l = Passes l.initial.self (flat_map (move_event l.node) (map property_of (take l.property-index l.properties))) l.self
+invariant-loop-property g l =
+    Passes (l.initial.self, l.initial.game) (flat_map (move_event l.node) (map property_of (take l.property-index l.properties))) (l.self, l.game)

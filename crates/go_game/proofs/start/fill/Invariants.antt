@@ -1,7 +1,7 @@
 use Rattle.std.proofs.Common.{◌≡◌}
 use Rattle.go_chains.specs.Sound.{IsKept, grid_of}
 use Rattle.go_game.specs.Building.{IsFront}
-use Rattle.go_game.proofs.start.built.Given as goal
+use Rattle.go_game.proofs.start.fill.Given as goal
 
 abbrev pub invariant-loop-number : goal.invariant-loop-number
 invariant-loop-number g l = record {
