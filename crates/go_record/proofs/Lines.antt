@@ -1,11 +1,10 @@
 -- The events of a main line, node by node, and the game that they come to.
-use Rattle.std.proofs.Common.{◌≡◌, ◌∙◌, ◌<◌, ◌+◌, ◌*◌, ℕ, ℤ, true, false, List, [], ◌∷◌, ◌++◌, refl, sym, ap, subst, append_assoc, arith, length, get_or, take, drop, map}
+use Rattle.std.proofs.Common.{◌≡◌, ◌∙◌, ◌+◌, ◌*◌, ℕ, ℤ, true, false, List, [], ◌∷◌, ◌++◌, refl, sym, ap, subst, append_assoc, arith, length}
 use Rattle.std.specs.Prelude.{Option, Some, None, Err, codes, option_copied, replicate, slice_get, unwrap_or}
 use Rattle.std.specs.Borrow.{Bor}
 use Rattle.go_sgf.specs.View.{tree_of, trees_of}
 use Rattle.go_sgf.specs.declared.record.Tree.{Tree}
-use Rattle.std.proofs.lemmas.List.{append-nil, map-append, take-append-drop, take_more}
-use Rattle.std.proofs.lemmas.Grind.{common_steps}
+use Rattle.std.proofs.lemmas.List.{append-nil}
 use Rattle.go_board.specs.Colours.{Colouring}
 use Rattle.go_sgf.specs.Record.{Property, Trees}
 use Rattle.go_record.specs.declared.error.RecordError.TheVariants.{BadKomi, BadSize, NotGo}
@@ -22,26 +21,13 @@ events_append first (x ∷ xs) ys =
     ∙ ap (λ n. events_from (first + 1) xs ++ events_from n ys) (let e : (first + 1) + length xs ≡ first + length (x ∷ xs) = omega arith in e))
     ∙ sym (append_assoc (events_of first x) (events_from (first + 1) xs) (events_from (first + length (x ∷ xs)) ys))
 
-module _ {X : Type 0} (v : X → List Property) (first : ℕ) (xs : List X) (i : ℕ) where
-  count_taken : i < length xs → length (map v (take i xs)) ≡ i
-  count_taken low = grind (arith, common_steps, low)
-
-  -- one more node
-  pub nodes_more : (x : X) → i < length xs → x ≡ get_or xs i x → events_from first (map v (take i xs)) ++ events_of (first + i) (v x) ≡ events_from first (map v (take (i + 1) xs))
-  nodes_more x low is =
-      let split : take (i + 1) xs ≡ take i xs ++ x ∷ [] = take_more xs i x low ∙ ap (λ y. take i xs ++ y ∷ []) (sym is) in
-      ap (λ es. events_from first (map v (take i xs)) ++ es) (sym (append-nil (events_of (first + i) (v x))))
-      ∙ ap (λ n. events_from first (map v (take i xs)) ++ events_from (first + n) (v x ∷ [])) (sym (count_taken low))
-      ∙ sym (ap (λ ys. events_from first (map v ys)) split ∙ ap (events_from first) (map-append v (take i xs) (x ∷ [])) ∙ events_append first (map v (take i xs)) (v x ∷ []))
-
-  -- and those behind it
-  pub nodes_around : (x : X) → i < length xs → x ≡ get_or xs i x →
-      (events_from first (map v (take i xs)) ++ events_of (first + i) (v x)) ++ events_from (first + length (map v (take (i + 1) xs))) (map v (drop (i + 1) xs)) ≡ events_from first (map v xs)
-  nodes_around x low is =
-      ap (λ es. es ++ events_from (first + length (map v (take (i + 1) xs))) (map v (drop (i + 1) xs))) (nodes_more x low is)
-      ∙ sym (events_append first (map v (take (i + 1) xs)) (map v (drop (i + 1) xs)))
-      ∙ ap (events_from first) (sym (map-append v (take (i + 1) xs) (drop (i + 1) xs)))
-      ∙ ap (λ ys. events_from first (map v ys)) (take-append-drop (i + 1) xs)
+-- one node on: the events of those before it, its own, and those of the later ones
+pub node_on : (count after : ℕ) (done : List Event) (nodes : List (List Property)) (node : List Property) (later : List (List Property)) → nodes ≡ node ∷ later →
+    after ≡ count + 1 → (done ++ events_of count node) ++ events_from after later ≡ done ++ events_from count nodes
+node_on count after done nodes node later e is =
+    append_assoc done (events_of count node) (events_from after later)
+    ∙ ap (λ (n : ℕ). done ++ (events_of count node ++ events_from n later)) is
+    ∙ ap (λ (ns : List (List Property)). done ++ events_from count ns) (sym e)
 
 seen_by : (number : Option ℕ) (events : List Event) → seen (left_by number) events ≡ looked_at number events
 seen_by None events = refl

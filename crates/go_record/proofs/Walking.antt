@@ -1,8 +1,7 @@
 -- How a walk along a main line comes to its outcome, event by event.
-use Rattle.std.proofs.Common.{◌≡◌, ◌≢◌, ◌∙◌, ℕ, ℤ, zero, suc, true, false, true≢false, List, [], ◌∷◌, ◌++◌, refl, sym, ap, subst, append_assoc, inl, inr, ◌<◌, ◌+◌, length, get_or, take, drop, map}
+use Rattle.std.proofs.Common.{◌≡◌, ◌≢◌, ◌∙◌, ℕ, ℤ, zero, suc, true, false, true≢false, List, [], ◌∷◌, ◌++◌, refl, sym, ap, subst, append_assoc, inl, inr}
 use Rattle.std.specs.List.{flat_map}
-use Rattle.std.proofs.lemmas.List.{take_more, take-append-drop, map-append, append-nil}
-use Rattle.std.proofs.lemmas.Grind.{flat_map-append}
+use Rattle.std.proofs.lemmas.List.{append-nil}
 use Rattle.std.specs.Prelude.{Option, Some, None, Result, Ok, Err, IfErr, OnOk, ◌↔◌}
 use Rattle.std.proofs.lemmas.Bool.{cases_Bool}
 use Rattle.go_board.specs.declared.taken.Taken.{Taken}
@@ -234,19 +233,11 @@ began_dead w e error dead node c value events =
     subst (λ (o : Option GameValue). GoesFrom w.0 o (move node c value ∷ events) (Err error)) (sym e)
     (sets_move w.0.grid.lines w.0.komi w.0.grid.colours w.0.turn node c value events (Err error) (inr dead))
 
--- the events of elements: those before one and its own
-pub one_more : {X Y Z : Type 0} (f : Y → List Z) (v : X → Y) (xs : List X) (i : ℕ) (x : X) → i < length xs → x ≡ get_or xs i x →
-    flat_map f (map v (take i xs)) ++ f (v x) ≡ flat_map f (map v (take (i + 1) xs))
-one_more f v xs i x low is =
-    let split : take (i + 1) xs ≡ take i xs ++ x ∷ [] = take_more xs i x low ∙ ap (λ y. take i xs ++ y ∷ []) (sym is) in
-    ap (λ ys. flat_map f (map v (take i xs)) ++ ys) (sym (append-nil (f (v x))))
-    ∙ sym (ap (λ ys. flat_map f (map v ys)) split ∙ ap (flat_map f) (map-append v (take i xs) (x ∷ [])) ∙ flat_map-append f (map v (take i xs)) (v x ∷ []))
+-- one element on: the events of those before it, its own, and those of the later ones
+pub one_on : {Y Z : Type 0} (f : Y → List Z) (done : List Z) (ys : List Y) (y : Y) (later : List Y) → ys ≡ y ∷ later →
+    (done ++ f y) ++ flat_map f later ≡ done ++ flat_map f ys
+one_on f done ys y later e = append_assoc done (f y) (flat_map f later) ∙ ap (λ zs. done ++ flat_map f zs) (sym e)
 
--- and those behind it
-pub around : {X Y Z : Type 0} (f : Y → List Z) (v : X → Y) (xs : List X) (i : ℕ) (x : X) → i < length xs → x ≡ get_or xs i x →
-    (flat_map f (map v (take i xs)) ++ f (v x)) ++ flat_map f (map v (drop (i + 1) xs)) ≡ flat_map f (map v xs)
-around f v xs i x low is =
-    ap (λ ys. ys ++ flat_map f (map v (drop (i + 1) xs))) (one_more f v xs i x low is)
-    ∙ sym (flat_map-append f (map v (take (i + 1) xs)) (map v (drop (i + 1) xs)))
-    ∙ ap (flat_map f) (sym (map-append v (take (i + 1) xs) (drop (i + 1) xs)))
-    ∙ ap (λ ys. flat_map f (map v ys)) (take-append-drop (i + 1) xs)
+-- and at the end the events of all
+pub all_on : {Y Z : Type 0} (f : Y → List Z) (done : List Z) (later : List Y) → later ≡ [] → done ≡ done ++ flat_map f later
+all_on f done later e = sym (append-nil done) ∙ ap (λ zs. done ++ flat_map f zs) (sym e)

@@ -1,10 +1,8 @@
 ghost use Rattle.std.specs.Prelude.{◌≡◌};
 ghost use Rattle.go_record.specs.MainLine.{first_value as value_first, kind_of as kind_by};
-ghost use Rattle.go_sgf.specs.View.{property_of};
 
 use go_board::Colour;
 use go_sgf::Property;
-use std::alloc::Allocator;
 
 /// What a property is for.
 #[derive(Clone, Copy)]
@@ -19,8 +17,8 @@ pub(crate) enum Kind {
     Other,
 }
 
-pub(crate) fn kind_of<A: Allocator + Copy>(property: &Property<'_, A>) -> Kind
-    ensures { result ≡ kind_by (property_of property.now) }
+pub(crate) fn kind_of(property: &Property<'_>) -> Kind
+    ensures { result ≡ kind_by property.now }
 {
     if property.is(b"B") {
         Kind::Move(Colour::Black)
@@ -40,10 +38,10 @@ pub(crate) fn kind_of<A: Allocator + Copy>(property: &Property<'_, A>) -> Kind
 }
 
 /// The first value of a property, or an empty one where it has none.
-pub(crate) fn first_value<'a, A: Allocator + Copy>(property: &Property<'a, A>) -> &'a [u8]
-    ensures { result.now ≡ value_first (property_of property.now).values }
+pub(crate) fn first_value<'a>(property: &Property<'a>) -> &'a [u8]
+    ensures { result.now ≡ value_first property.now.values }
 {
-    match property.values().first() {
+    match property.values().next() {
         Some(value) => value,
         None => b"",
     }

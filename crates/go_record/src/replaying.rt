@@ -1,5 +1,5 @@
-ghost use Rattle.std.specs.Prelude.{◌≡◌, ◌≢◌, ◌+◌, Err, IfErr, IfOk, Ok, OnErr, OnOk, length, map, true};
-ghost use Rattle.go_sgf.specs.View.{collection_of, node_of};
+ghost use Rattle.std.specs.Prelude.{◌≡◌, ◌≢◌, ◌+◌, Err, IfErr, IfOk, Ok, OnErr, OnOk, length, true};
+ghost use Rattle.go_sgf.specs.View.{collection_of};
 ghost use Rattle.go_record.specs.declared.error.RecordError.TheVariants.{Memory};
 ghost use Rattle.go_board.specs.Sizes.{lines_of};
 ghost use Rattle.go_game.specs.Standings.{is_vacant};
@@ -13,7 +13,7 @@ use crate::state::{Left, Walk};
 use crate::walk::next;
 use go_board::Grid;
 use go_game::Game;
-use go_sgf::{Collection, Node};
+use go_sgf::{Collection, Nodes};
 use std::alloc::Allocator;
 
 /// The game of a record: that of the main line of its first tree, with the size, komi and start
@@ -129,16 +129,16 @@ fn pass_line<A: Allocator + Copy>(
 fn pass_nodes<A: Allocator + Copy>(
     walk: &mut Walk,
     game: &mut Game<A>,
-    nodes: &[Node<'_, A>],
+    nodes: Nodes<'_>,
     first: usize,
 ) -> Result<usize, RecordError>
     ensures walked { Walked result (walk.old, game.old)
-        (events_from first (map node_of nodes.now)) (walk.new, game.new) }
-    ensures count { IfOk result (λ count. count ≡ first + length nodes.now) }
+        (events_from first nodes.entry) (walk.new, game.new) }
+    ensures count { IfOk result (λ count. count ≡ first + length nodes.entry) }
 {
     let mut count = first;
     for node in nodes {
-        walk.pass_node(game, node.properties(), count)?;
+        walk.pass_node(game, &node, count)?;
         count = next(count)?;
     }
     Ok(count)

@@ -1,14 +1,14 @@
-ghost use Rattle.std.specs.Prelude.{◌≡◌, ◌==◌, ◌<◌, ◌≤ℤ◌, Err, IfErr, IfOk, IfSome, ℕ, Option, length, map, negsuc, option_map, pos, position};
+ghost use Rattle.std.specs.Prelude.{◌≡◌, ◌==◌, ◌<◌, ◌≤ℤ◌, Err, IfErr, IfOk, IfSome, ℕ, Option, length, negsuc, option_map, pos, position};
 ghost use Rattle.go_board.specs.Sizes.{lines_of};
 ghost use Rattle.go_game.specs.Standings.{IsKomi};
-ghost use Rattle.go_sgf.specs.View.{collection_of, property_of};
+ghost use Rattle.go_sgf.specs.View.{collection_of};
 ghost use Rattle.go_record.specs.Progress.{Says};
 ghost use Rattle.go_record.specs.Games.{IsGameOf, is_blank as is_white, is_go as is_go_by, is_one as is_one_of, komi_in, lines_in, lines_within, number_by, root_value as value_by, same_number as number_same, value_in as value_by_name};
 
 use crate::error::RecordError;
 use crate::kind::first_value;
 use go_board::Size;
-use go_sgf::{Collection, Property, hundredths_of, number_of};
+use go_sgf::{Collection, Properties, hundredths_of, number_of};
 use std::alloc::Allocator;
 
 /// The lines of a board whose record says nothing of them.
@@ -53,18 +53,18 @@ pub(crate) fn root_value<'a, A: Allocator + Copy>(
     let Some(tree) = collection.trees().first() else {
         return b"";
     };
-    match tree.nodes().first() {
+    match tree.nodes().next() {
         Some(node) => value_in(name, node.properties()),
         None => b"",
     }
 }
 
-fn value_in<'a, A: Allocator + Copy>(name: &[u8], properties: &[Property<'a, A>]) -> &'a [u8]
-    ensures { result.now ≡ value_by_name name.now (map property_of properties.now) }
+fn value_in<'a>(name: &[u8], properties: Properties<'a>) -> &'a [u8]
+    ensures { result.now ≡ value_by_name name.now properties.entry }
 {
     for property in properties {
         if property.is(name) {
-            return first_value(property);
+            return first_value(&property);
         }
     }
     b""

@@ -1,5 +1,4 @@
-ghost use Rattle.std.specs.Prelude.{◌≡◌, ◌≢◌, [], ◌∷◌, Err, IfErr, IfOk, List, Ok, OnOk, ◌+◌, ◌↔◌, IsTrue, map, Some, false, true};
-ghost use Rattle.go_sgf.specs.View.{node_of, property_of, values_of};
+ghost use Rattle.std.specs.Prelude.{◌≡◌, ◌≢◌, [], ◌∷◌, Err, IfErr, IfOk, List, Ok, OnOk, ◌+◌, ◌↔◌, IsTrue, Some, false, true};
 ghost use Rattle.go_record.specs.declared.error.RecordError.{RecordError};
 ghost use Rattle.go_record.specs.declared.error.RecordError.TheVariants.{Memory};
 ghost use Rattle.go_record.specs.MainLine.{events_from, events_of, Event, move as move_met, move_event, setup_event, stones, turn};
@@ -14,35 +13,31 @@ use crate::start::{colour_of, first_mover, set_points};
 use crate::state::{Left, Walk};
 use go_board::{Colour, Grid, Move, Vertex};
 use go_game::{Game, PlayError, SetupError};
-use go_sgf::{Node, Property, point_of};
+use go_sgf::{Node, Properties, Property, Values, point_of};
 use std::alloc::Allocator;
 
 impl Walk {
-    /// Passes the properties of a node.
+    /// Passes a node with this number.
     pub(crate) fn pass_node<A: Allocator + Copy>(
         &mut self,
         game: &mut Game<A>,
-        properties: &[Property<'_, A>],
-        node: usize,
+        node: &Node<'_>,
+        number: usize,
     ) -> Result<(), RecordError>
-        ensures { Walked result (self.old, game.old)
-            (events_of node (map property_of properties.now)) (self.new, game.new) }
+        ensures { Walked result (self.old, game.old) (events_of number node.now)
+            (self.new, game.new) }
     {
-        self.set_up(properties, node)?;
-        self.play_moves(game, properties, node)
+        self.set_up(node.properties(), number)?;
+        self.play_moves(game, node.properties(), number)
     }
 
     /// Sets up what the properties of a node say. No game is touched.
-    fn set_up<A: Allocator + Copy>(
-        &mut self,
-        properties: &[Property<'_, A>],
-        node: usize,
-    ) -> Result<(), RecordError>
+    fn set_up(&mut self, properties: Properties<'_>, node: usize) -> Result<(), RecordError>
         ensures { (game : GameValue) → Walked result (self.old, game)
-            (flat_map (setup_event node) (map property_of properties.now)) (self.new, game) }
+            (flat_map (setup_event node) properties.entry) (self.new, game) }
     {
         for property in properties {
-            self.pass_setup(property, node)?;
+            self.pass_setup(&property, node)?;
         }
         Ok(())
     }
@@ -50,25 +45,21 @@ impl Walk {
     fn play_moves<A: Allocator + Copy>(
         &mut self,
         game: &mut Game<A>,
-        properties: &[Property<'_, A>],
+        properties: Properties<'_>,
         node: usize,
     ) -> Result<(), RecordError>
         ensures { Walked result (self.old, game.old)
-            (flat_map (move_event node) (map property_of properties.now)) (self.new, game.new) }
+            (flat_map (move_event node) properties.entry) (self.new, game.new) }
     {
         for property in properties {
-            self.pass_move(game, property, node)?;
+            self.pass_move(game, &property, node)?;
         }
         Ok(())
     }
 
-    fn pass_setup<A: Allocator + Copy>(
-        &mut self,
-        property: &Property<'_, A>,
-        node: usize,
-    ) -> Result<(), RecordError>
+    fn pass_setup(&mut self, property: &Property<'_>, node: usize) -> Result<(), RecordError>
         ensures { (game : GameValue) → Walked result (self.old, game)
-            (setup_event node (property_of property.now)) (self.new, game) }
+            (setup_event node property.now) (self.new, game) }
     {
         match kind_of(property) {
             Kind::Stones(colour) => self.set_stones(colour, property.values(), node),
@@ -80,10 +71,10 @@ impl Walk {
     fn pass_move<A: Allocator + Copy>(
         &mut self,
         game: &mut Game<A>,
-        property: &Property<'_, A>,
+        property: &Property<'_>,
         node: usize,
     ) -> Result<(), RecordError>
-        ensures { Walked result (self.old, game.old) (move_event node (property_of property.now))
+        ensures { Walked result (self.old, game.old) (move_event node property.now)
             (self.new, game.new) }
     {
         match kind_of(property) {
@@ -96,11 +87,11 @@ impl Walk {
     fn set_stones(
         &mut self,
         colour: Option<Colour>,
-        values: &[&[u8]],
+        values: Values<'_>,
         node: usize,
     ) -> Result<(), RecordError>
         ensures { (game : GameValue) → Walked result (self.old, game)
-            (stones node colour (values_of values.now) ∷ []) (self.new, game) }
+            (stones node colour values.entry ∷ []) (self.new, game) }
     {
         if self.is_over() {
             return Ok(());

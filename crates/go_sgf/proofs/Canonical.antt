@@ -6,8 +6,7 @@ use Rattle.go_sgf.specs.Record.{Property, Trees, none, tree, is_letter, is_upper
 use Rattle.go_sgf.specs.Spelling.{Part, opening, closing, semicolon, name, value, text, joined, node_parts, property_parts, parts, after_space, from_tree, tree_text, canonical, SpellsParts}
 use Rattle.go_sgf.specs.Reads.{begins_letter}
 use Rattle.go_sgf.specs.Laws.{CanonicalSpellsPlain}
-use Rattle.go_sgf.proofs.Outcomes.{letter_same}
-use Rattle.go_sgf.proofs.Parts.{AllByRecursion-append, SpellsParts-append, SpellsParts-same, after_space-again}
+use Rattle.go_sgf.proofs.Parts.{AllByRecursion-append, SpellsParts-append, SpellsParts-same, after_space-again, letter_same}
 
 -- ---- parts that begin with no white space
 

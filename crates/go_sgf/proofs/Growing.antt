@@ -8,7 +8,8 @@ use Rattle.go_sgf.specs.Spelling.{Part, opening, closing, node_parts, parts, aft
 use Rattle.go_sgf.specs.Stands.{Place, opened, closed}
 use Rattle.go_sgf.specs.Outcome.{outcome, outcome_after, IsWithin, here}
 use Rattle.go_sgf.specs.Reads.{ReadsNodes, ReadsTree}
-use Rattle.go_sgf.specs.View.{chain, node_of, tree_of, tree_step}
+use Rattle.go_sgf.specs.PartsIn.{nodes_at, parts_in}
+use Rattle.go_sgf.specs.View.{chain, tree_of, tree_step}
 use Rattle.go_sgf.specs.declared.record.Tree.{Tree}
 use Rattle.go_sgf.specs.declared.record.Tree.TheFolds.{fold-roll-Tree}
 use Rattle.go_sgf.specs.declared.record.Tree.TheOpen.{Tree-F}
@@ -92,7 +93,7 @@ pub tree_le : (d : ℕ) (b : List ℕ) (t : Grown) (rest : List ℕ) → ReadsTr
 tree_le d b t rest r = rest_le (flat_map node_parts t.0 ++ (parts t.1 ++ (closing ∷ []))) b rest r.spelling
 
 -- what a tree that was made stands for
-pub tree_of-roll : {A : Type 0} (x : Tree-F A (Tree A)) → tree_of (roll-Tree A x) ≡ (map node_of x.nodes.items, chain (map tree_of x.children.items))
+pub tree_of-roll : {A : Type 0} (x : Tree-F A (Tree A)) → tree_of (roll-Tree A x) ≡ (nodes_at (parts_in x.text.now), chain (map tree_of x.children.items))
 tree_of-roll {A} x = fold-roll-Tree A Grown tree_step x
 
 -- ---- a tree read so far

@@ -2,12 +2,14 @@ pub mod Scanning
 pub mod Machine
 pub mod Parts
 pub mod Inside
+pub mod PartsIn
 pub mod Passing
 pub mod Growing
 pub mod Outcomes
 pub mod Standing
 pub mod Stops
 pub mod Written
+pub mod Staying
 pub mod Canonical
 pub mod Unambiguous
 pub mod Fronts

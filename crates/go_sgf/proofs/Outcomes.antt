@@ -1,24 +1,16 @@
 -- What spells a tree is read to its end without a fault.
 use Rattle.std.proofs.Common.{◌≡◌, ◌≢◌, ◌≤◌, ◌<◌, ◌+◌, inl, inr, ℕ, suc, List, [], ◌∷◌, ◌++◌, Bool, true, false, Option, Some, None, refl, sym, ap, ◌∙◌, map, append_assoc, arith}
-use Rattle.std.proofs.lemmas.Bool.{and_parts, or_cases, false_from_ne_true}
-use Rattle.std.proofs.lemmas.Bool.Decides.{nat_tests}
-use Rattle.std.specs.List.{list_all, flat_map, AllByRecursion}
-use Rattle.go_sgf.specs.Record.{Property, Trees, none, tree, is_letter, is_upper, is_lower, IsValue, IsName, IsProperty, AreTrees, depth}
-use Rattle.go_sgf.specs.Spelling.{Part, closing, value, property_parts, node_parts, parts, after_space, is_space, SpellsParts}
+use Rattle.std.proofs.lemmas.Bool.{or_cases}
+use Rattle.std.specs.List.{flat_map, AllByRecursion}
+use Rattle.go_sgf.specs.Record.{Property, Trees, none, tree, is_upper, is_lower, IsValue, IsProperty, AreTrees, depth}
+use Rattle.go_sgf.specs.Spelling.{closing, value, property_parts, node_parts, parts, after_space, SpellsParts}
 use Rattle.go_sgf.specs.Stands.{State, opened, in_node, named, after, closed}
 use Rattle.go_sgf.specs.Outcome.{outcome, outcome_after, IsWithin}
 use Rattle.go_sgf.specs.Reads.{begins_letter}
 use Rattle.go_sgf.proofs.Growing.{closes, out_of_child}
 use Rattle.go_sgf.proofs.Machine as machine
-use Rattle.go_sgf.proofs.Parts.{SpellsParts-same, after_space-again}
-use Rattle.go_sgf.proofs.Scanning.{after_space_stop}
+use Rattle.go_sgf.proofs.Parts.{SpellsParts-split, bracket_no_letter, name_letter}
 use Rattle.go_sgf.proofs.Passing.{values_begin, value_passed}
-
-pub SpellsParts-split : (ps qs : List Part) (b r : List ℕ) → SpellsParts b (ps ++ qs) r → (mid : List ℕ) × SpellsParts b ps mid × SpellsParts mid qs r
-SpellsParts-split [] qs b r h = (after_space b, refl, SpellsParts-same qs b (after_space b) r (sym (after_space-again b)) h)
-SpellsParts-split (p ∷ ps) qs b r h =
-    let later = SpellsParts-split ps qs h.0 r h.2 in
-    (later.0, (h.0, h.1, later.1), later.2)
 
 -- behind a property's values, or before the first property
 abbrev node_state : Bool → State
@@ -29,21 +21,6 @@ node_state false = in_node
 abbrev pub tree_state : Option Bool → State
 tree_state None = closed
 tree_state (Some o) = node_state o
-
--- what begins with a letter
-pub letter_same : (b : List ℕ) → begins_letter b ≡ true → after_space b ≡ b
-letter_same [] e = refl
-letter_same (c ∷ cs) e = let other : is_space c ≡ false = grind (arith, nat_tests) in after_space_stop c cs other
-
-pub bracket_no_letter : (b more : List ℕ) → after_space b ≡ 91 ∷ more → begins_letter b ≡ false
-bracket_no_letter b more e = false_from_ne_true _ (λ l. let whole : b ≡ 91 ∷ more = sym (letter_same b l) ∙ e in letter_91 b more whole l)
-  where
-    letter_91 : (b more : List ℕ) → b ≡ 91 ∷ more → begins_letter b ≡ true → ⊥
-    letter_91 b more whole l = let h : begins_letter (91 ∷ more) ≡ true = rw whole at l in cc
-
-pub name_letter : (n b : List ℕ) → IsName n → begins_letter (n ++ b) ≡ true
-name_letter [] b h = let e = h.1 in cc
-name_letter (c ∷ cs) b h = (and_parts (is_letter c) (list_all is_letter cs) h.0).0
 
 module _ (limit : ℕ) where
   -- ---- a node

@@ -1,9 +1,11 @@
 -- How what spells some parts is put together.
-use Rattle.std.proofs.Common.{◌≡◌, ◌≤◌, ◌+◌, inl, inr, ℕ, List, [], ◌∷◌, ◌++◌, false, refl, sym, ap, ◌∙◌, length, length-append, arith}
-use Rattle.std.proofs.lemmas.Bool.{cases_Bool}
-use Rattle.std.specs.List.{AllByRecursion}
+use Rattle.std.proofs.Common.{◌≡◌, true, ◌≤◌, ◌+◌, inl, inr, ℕ, List, [], ◌∷◌, ◌++◌, false, refl, sym, ap, ◌∙◌, length, length-append, arith}
+use Rattle.std.proofs.lemmas.Bool.{and_parts, cases_Bool, false_from_ne_true}
+use Rattle.std.proofs.lemmas.Bool.Decides.{nat_tests}
+use Rattle.std.specs.List.{list_all, AllByRecursion}
 use Rattle.go_sgf.specs.Spelling.{Part, text, after_space, is_space, SpellsParts}
-use Rattle.go_sgf.specs.Reads.{begins_space}
+use Rattle.go_sgf.specs.Record.{is_letter, IsName}
+use Rattle.go_sgf.specs.Reads.{begins_letter, begins_space}
 use Rattle.go_sgf.proofs.Scanning.{after_space_more, after_space_stop}
 
 -- ---- lists
@@ -59,3 +61,25 @@ rest_le (p ∷ ps) b r h =
     let less : length r ≤ length h.0 = rest_le ps h.0 r h.2 in
     let whole : length (after_space b) ≡ length (text p) + length h.0 = ap length h.1 ∙ length-append (text p) h.0 in
     omega (arith, length-after_space b)
+
+pub SpellsParts-split : (ps qs : List Part) (b r : List ℕ) → SpellsParts b (ps ++ qs) r → (mid : List ℕ) × SpellsParts b ps mid × SpellsParts mid qs r
+SpellsParts-split [] qs b r h = (after_space b, refl, SpellsParts-same qs b (after_space b) r (sym (after_space-again b)) h)
+SpellsParts-split (p ∷ ps) qs b r h =
+    let later = SpellsParts-split ps qs h.0 r h.2 in
+    (later.0, (h.0, h.1, later.1), later.2)
+
+-- ---- what begins with a letter
+
+pub letter_same : (b : List ℕ) → begins_letter b ≡ true → after_space b ≡ b
+letter_same [] e = refl
+letter_same (c ∷ cs) e = let other : is_space c ≡ false = grind (arith, nat_tests) in after_space_stop c cs other
+
+pub bracket_no_letter : (b more : List ℕ) → after_space b ≡ 91 ∷ more → begins_letter b ≡ false
+bracket_no_letter b more e = false_from_ne_true _ (λ l. let whole : b ≡ 91 ∷ more = sym (letter_same b l) ∙ e in letter_91 b more whole l)
+  where
+    letter_91 : (b more : List ℕ) → b ≡ 91 ∷ more → begins_letter b ≡ true → ⊥
+    letter_91 b more whole l = let h : begins_letter (91 ∷ more) ≡ true = rw whole at l in cc
+
+pub name_letter : (n b : List ℕ) → IsName n → begins_letter (n ++ b) ≡ true
+name_letter [] b h = let e = h.1 in cc
+name_letter (c ∷ cs) b h = (and_parts (is_letter c) (list_all is_letter cs) h.0).0

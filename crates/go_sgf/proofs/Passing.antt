@@ -1,7 +1,8 @@
 -- How the parts of the reader pass on what comes of reading.
-use Rattle.std.proofs.Common.{◌≡◌, ◌≢◌, ◌≤◌, ◌<◌, ◌+◌, ℕ, List, [], ◌∷◌, ◌++◌, true, false, Result, Err, refl, sym, ap, subst, ◌∙◌, length, map, append_assoc, eqb-true, arith}
+use Rattle.std.proofs.Common.{◌≡◌, ◌≢◌, ◌≤◌, ◌<◌, ◌+◌, ℕ, List, [], ◌∷◌, ◌++◌, true, false, Result, Ok, Err, refl, sym, ap, subst, ◌∙◌, length, map, append_assoc, eqb-true, arith}
 use Rattle.std.proofs.lemmas.Grind.{flat_map-append}
 use Rattle.std.proofs.lemmas.List.{append-nil, map-append, length-append}
+use Rattle.std.specs.Prelude.{IfOk}
 use Rattle.std.specs.List.{list_all, list_any, flat_map, AllByRecursion}
 use Rattle.go_sgf.specs.Record.{Property, is_letter, is_upper, IsValue, IsName, IsProperty}
 use Rattle.go_sgf.specs.Spelling.{Part, value, property_parts, node_parts, after_space, begins_with, SpellsParts}
@@ -12,7 +13,7 @@ use Rattle.go_sgf.specs.declared.fault.Fault.{Fault}
 use Rattle.go_sgf.specs.declared.fault.Fault.TheVariants.{Memory, End, Unexpected, TooDeep}
 use Rattle.go_sgf.specs.declared.limits.TheConstants.{MAX_DEPTH}
 use Rattle.go_sgf.proofs.Machine as machine
-use Rattle.go_sgf.proofs.Parts.{AllByRecursion-push, SpellsParts-append, no_space_first, no_space_after, rest_le, length-after_space}
+use Rattle.go_sgf.proofs.Parts.{AllByRecursion-push, SpellsParts-append, letter_same, no_space_first, no_space_after, rest_le, length-after_space}
 
 -- ---- exits
 
@@ -28,6 +29,16 @@ passes Memory o o' later later' e m = tt
 passes End o o' later later' e m = e ∙ m
 passes (Unexpected n) o o' later later' e m = e ∙ m
 passes (TooDeep n) o o' later later' e m = e ∙ m
+
+-- an outcome that is another
+pub meets_by : {X : Type 0} (r : Result X Fault) (o o' : Result (List ℕ) Fault) (later : X → Result (List ℕ) Fault) → o ≡ o' → Meets r o' later → Meets r o later
+meets_by (Ok x) o o' later e m = e ∙ m
+meets_by (Err f) o o' later e m = passes f o o' later later e m
+
+-- what follows from what was read
+pub if_ok : {X E : Type 0} {P Q : X → Type 0} (r : Result X E) → ((x : X) → P x → Q x) → IfOk r P → IfOk r Q
+if_ok (Ok x) f h = f x h
+if_ok (Err e) f h = h
 
 -- ---- lists
 
@@ -147,6 +158,17 @@ property_shorter b p rest r =
     let whole : length (after_space b) ≡ length p.name + length r.spelling.0 = ap length r.spelling.1 ∙ length-append p.name r.spelling.0 in
     omega (arith, length-after_space b)
 
+-- a name, and the values behind it
+pub property_whole : (b n behind : List ℕ) (vs : List (List ℕ)) (rest : List ℕ) → b ≡ n ++ behind → list_all is_letter n ≡ true → list_any is_upper n ≡ true →
+    begins_letter b ≡ true → ReadsValues behind vs rest → (p : Property) × ReadsProperty b p rest
+property_whole b n behind vs rest e f g letter r = (
+  record { name = n; values = vs },
+  record {
+    fit = record { named = (f, g); some = r.some; inside = r.inside };
+    spelling = (behind, letter_same b letter ∙ e, r.spelling);
+  },
+)
+
 -- properties of a node read so far
 pub record NodeSoFar (b : List ℕ) (ps : List Property) (rest : List ℕ) : Type 0 where
   pub fit : AllByRecursion IsProperty ps
@@ -237,3 +259,15 @@ pub nodes_passed : (b : List ℕ) (ns : List (List Property)) (rest : List ℕ) 
 nodes_passed b ns rest far e d h =
     far.place d h
     ∙ machine.in_node_is_closed MAX_DEPTH d rest (no_space_after (flat_map node_parts ns) b rest far.spelling) e far.letters
+
+no_parenthesis : (b : List ℕ) → begins_with 91 b ≡ true → (begins_with 40 b ≡ false) × (begins_with 41 b ≡ false)
+no_parenthesis [] e = cc
+no_parenthesis (c ∷ cs) e = let is : c ≡ 91 = eqb-true c 91 e in (rw is refl, rw is refl)
+
+-- behind the nodes stands a `[`
+pub bracket_stops : (b : List ℕ) (ns : List (List Property)) (rest : List ℕ) → NodesSoFar b ns rest → begins_with 59 rest ≡ false → begins_with 91 rest ≡ true →
+    (d : ℕ) → IsWithin MAX_DEPTH d → outcome MAX_DEPTH opened d b ≡ Err (here rest)
+bracket_stops b ns rest far e f d h =
+    let others = no_parenthesis rest f in
+    nodes_passed b ns rest far e d h
+    ∙ machine.closed_stops MAX_DEPTH d rest (no_space_after (flat_map node_parts ns) b rest far.spelling) others.0 others.1

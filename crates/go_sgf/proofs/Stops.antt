@@ -13,8 +13,8 @@ use Rattle.go_sgf.specs.declared.fault.Fault.{Fault}
 use Rattle.go_sgf.specs.declared.fault.Fault.TheVariants.{Memory, End, Unexpected, TooDeep}
 use Rattle.go_sgf.specs.declared.limits.TheConstants.{MAX_DEPTH}
 use Rattle.go_sgf.proofs.Growing.{Grown, chain-push, depth-push, parts-push}
-use Rattle.go_sgf.proofs.Outcomes.{SpellsParts-split, tree_outcome}
-use Rattle.go_sgf.proofs.Parts.{SpellsParts-append, SpellsParts-same, after_space-again, rest_le}
+use Rattle.go_sgf.proofs.Outcomes.{tree_outcome}
+use Rattle.go_sgf.proofs.Parts.{SpellsParts-append, SpellsParts-split, SpellsParts-same, after_space-again, rest_le}
 use Rattle.go_sgf.proofs.Passing.{push_some}
 use Rattle.go_sgf.proofs.Scanning.{from_tree_here, from_tree_more}
 use Rattle.go_sgf.proofs.Standing.{FaultIs, Why, fault_is}

@@ -7,8 +7,7 @@ use Rattle.go_sgf.specs.Record.{Property, Trees, none, tree, is_letter, is_insid
 use Rattle.go_sgf.specs.Spelling.{Part, closing, value, property_parts, node_parts, parts, after_space, begins_tree, begins_with, from_tree, SpellsParts}
 use Rattle.go_sgf.specs.Reads.{begins_letter, begins_space}
 use Rattle.go_sgf.specs.Laws.{OneRecord}
-use Rattle.go_sgf.proofs.Outcomes.{SpellsParts-split, bracket_no_letter, name_letter}
-use Rattle.go_sgf.proofs.Parts.{after_space-same, no_space_after}
+use Rattle.go_sgf.proofs.Parts.{SpellsParts-split, bracket_no_letter, name_letter, after_space-same, no_space_after}
 use Rattle.go_sgf.proofs.Stops.{tree_begins}
 
 -- ---- values

@@ -8,8 +8,8 @@ use Rattle.std.specs.List.{flat_map, filter, list_all}
 use Rattle.go_sgf.specs.Record.{Property, Trees, is_upper, plain, plain_property}
 use Rattle.go_sgf.specs.Spelling.{Part, opening, closing, value, text, joined, node_parts, property_parts, parts, tree_text, canonical}
 use Rattle.go_sgf.specs.Texts.{value_text, property_text, node_text, text_of}
-use Rattle.go_sgf.specs.View.{chain, node_of, tree_of, tree_step, trees_of}
-use Rattle.go_sgf.specs.declared.record.Node.{Node}
+use Rattle.go_sgf.specs.PartsIn.{nodes_at, parts_in}
+use Rattle.go_sgf.specs.View.{chain, tree_of, tree_step, trees_of}
 use Rattle.go_sgf.specs.declared.record.Tree.{Tree}
 use Rattle.go_sgf.specs.declared.record.Tree.TheFolds.{fold_out-Tree}
 use Rattle.go_sgf.specs.declared.record.Tree.TheViews.{out-Tree}
@@ -106,19 +106,19 @@ tree_text-is nodes ts =
     ap (λ ys. 40 ∷ ys) (sym whole)
 
 -- what a tree that is read stands for
-tree_of-out : {A : Type 0} (t : Tree A) → tree_of t ≡ (map node_of (out-Tree A t).nodes.items, trees_of (out-Tree A t).children.items)
+tree_of-out : {A : Type 0} (t : Tree A) → tree_of t ≡ (nodes_at (parts_in (out-Tree A t).text.now), trees_of (out-Tree A t).children.items)
 tree_of-out {A} t = fold_out-Tree A Grown tree_step t
 
 -- the text of a tree that is read, after all of its children
-pub text_of-is : {A : Type 0} (t : Tree A) (nodes : List (Node A)) (children : List (Tree A)) (k : ℕ) → nodes ≡ (out-Tree A t).nodes.items →
-    children ≡ (out-Tree A t).children.items → length children ≤ k →
-    (40 ∷ []) ++ (flat_map node_text (map node_of nodes) ++ (flat_map text_of (take k children) ++ (41 ∷ []))) ≡ text_of t
-text_of-is {A} t nodes children k e f h =
-    ap (λ ts. (40 ∷ []) ++ (flat_map node_text (map node_of nodes) ++ (flat_map text_of ts ++ (41 ∷ [])))) (take_all k children h)
-    ∙ tree_text-is (map node_of nodes) children
-    ∙ ap (λ ns. tree_text (map node_of ns) (trees_of children)) e
-    ∙ ap (λ ts. tree_text (map node_of (out-Tree A t).nodes.items) (trees_of ts)) f
-    ∙ ap grown_text (sym (tree_of-out t))
+pub text_of-is : {A : Type 0} (t : Tree A) (children : List (Tree A)) (k : ℕ) → children ≡ (out-Tree A t).children.items → length children ≤ k →
+    (40 ∷ []) ++ (flat_map node_text (nodes_at (parts_in (out-Tree A t).text.now)) ++ (flat_map text_of (take k children) ++ (41 ∷ []))) ≡ text_of t
+text_of-is {A} t children k f h =
+    let out : tree_of t ≡ (nodes_at (parts_in (out-Tree A t).text.now), trees_of (out-Tree A t).children.items) = tree_of-out t in
+    let nodes : List (List Property) = nodes_at (parts_in (out-Tree A t).text.now) in
+    ap (λ ts. (40 ∷ []) ++ (flat_map node_text nodes ++ (flat_map text_of ts ++ (41 ∷ [])))) (take_all k children h)
+    ∙ tree_text-is nodes children
+    ∙ ap (λ ts. tree_text nodes (trees_of ts)) f
+    ∙ sym (ap (λ (g : Grown). tree_text g.0 g.1) out)
 
 -- one more child's text
 pub text_more : {A : Type 0} (ts : List (Tree A)) (i : ℕ) (t : Tree A) → take (i + 1) ts ≡ take i ts ++ t ∷ [] →

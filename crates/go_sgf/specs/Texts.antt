@@ -1,7 +1,9 @@
 -- The parts of the canonical text. They serve the contracts of private functions alone.
-use Rattle.std.specs.Prelude.{ℕ, List, map}
+use Rattle.std.specs.Prelude.{◌≡◌, ℕ, List, [], ◌++◌, map}
+use Rattle.std.specs.List.{flat_map}
 use Rattle.go_sgf.specs.Record.{Property, plain_property}
-use Rattle.go_sgf.specs.Spelling.{joined, node_parts, property_parts, text, tree_text, value}
+use Rattle.go_sgf.specs.Spelling.{Part, joined, node_parts, property_parts, text, tree_text, value}
+use Rattle.go_sgf.specs.PartsIn.{nodes_at, parts_in, properties_at, values_at}
 use Rattle.go_sgf.specs.declared.record.Tree.{Tree}
 use Rattle.go_sgf.specs.View.{tree_of}
 
@@ -20,3 +22,20 @@ node_text ps = joined (node_parts (map plain_property ps))
 -- a tree with plain names
 abbrev pub text_of : {A : Type 0} → Tree A → List ℕ
 text_of t = tree_text (tree_of t).0 (tree_of t).1
+
+-- the properties that parts begin with, and the nodes behind them
+abbrev pub parts_text : List Part → List ℕ
+parts_text ps = flat_map property_text (properties_at ps) ++ flat_map node_text (nodes_at ps)
+
+-- up to the rest, the text is written as it stands
+pub record Stays (b rest : List ℕ) : Type 0 where
+  pub front : List ℕ
+  pub whole : b ≡ front ++ rest
+  pub written : parts_text (parts_in b) ≡ front ++ parts_text (parts_in rest)
+
+-- up to the rest, the text is values with nothing between them
+pub record StayValues (b rest : List ℕ) : Type 0 where
+  pub values : List (List ℕ)
+  pub whole : b ≡ flat_map value_text values ++ rest
+  pub parts : parts_in b ≡ map value values ++ parts_in rest
+  pub stopped : values_at (parts_in rest) ≡ []

@@ -1,23 +1,11 @@
 -- The plain data that the types of the code stand for.
-use Rattle.std.specs.Prelude.{ℕ, List, [], ◌∷◌, map}
-use Rattle.std.specs.Borrow.{Bor}
+use Rattle.std.specs.Prelude.{List, [], ◌∷◌, map}
 use Rattle.go_sgf.specs.Record.{Property, Trees, none, tree}
-use Rattle.go_sgf.specs.declared.record.Property.{Property as Held}
-use Rattle.go_sgf.specs.declared.record.Node.{Node}
+use Rattle.go_sgf.specs.PartsIn.{nodes_at, parts_in}
 use Rattle.go_sgf.specs.declared.record.Tree.{Tree}
 use Rattle.go_sgf.specs.declared.record.Tree.TheOpen.{Tree-F}
 use Rattle.go_sgf.specs.declared.record.Tree.TheFolds.{fold-Tree}
 use Rattle.go_sgf.specs.declared.record.Collection.{Collection}
-
--- the bytes of slices
-abbrev pub values_of : List (Bor (List ℕ)) → List (List ℕ)
-values_of vs = map (λ v. v.now) vs
-
-abbrev pub property_of : {A : Type 0} → Held A → Property
-property_of p = record { name = p.name.now; values = values_of p.values.items }
-
-abbrev pub node_of : {A : Type 0} → Node A → List Property
-node_of n = map property_of n.properties.items
 
 -- trees by their nodes and children, one after another
 abbrev pub chain : List (List (List Property) × Trees) → Trees
@@ -26,7 +14,7 @@ chain (t ∷ ts) = tree t.0 t.1 (chain ts)
 
 -- one tree, with each child already seen as its nodes and children
 abbrev pub tree_step : {A : Type 0} → Tree-F A (List (List Property) × Trees) → List (List Property) × Trees
-tree_step t = (map node_of t.nodes.items, chain t.children.items)
+tree_step t = (nodes_at (parts_in t.text.now), chain t.children.items)
 
 -- a tree by its nodes and its children
 abbrev pub tree_of : {A : Type 0} → Tree A → List (List Property) × Trees

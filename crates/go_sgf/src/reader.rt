@@ -1,21 +1,21 @@
-ghost use Rattle.std.specs.Prelude.{◌≡◌, ◌≤◌, ◌+◌, ◌++◌, ◌∷◌, ℕ, Err, IfNone, IfOk, IfSome, OnOk, [], false, map, true, IfErr, ◌<◌, ◌↔◌, length};
-ghost use Rattle.go_sgf.specs.declared.fault.Fault.TheVariants.{End};
+ghost use Rattle.std.specs.Prelude.{◌≡◌, ◌≤◌, ◌+◌, ◌++◌, ◌∷◌, ℕ, List, Err, IfOk, OnOk, [], false, true, IfErr, ◌<◌, ◌↔◌, length};
 ghost use Rattle.go_sgf.specs.Outcome.{IsWithin, Meets, here, left_of, outcome, outcome_after, place_of};
 ghost use Rattle.go_sgf.specs.Reads.{ReadsNode, ReadsNodes, ReadsProperty, ReadsTree, ReadsValues, begins_letter as is_letter_first};
-ghost use Rattle.go_sgf.specs.Record.{IsValue};
+ghost use Rattle.go_sgf.specs.PartsIn.{nodes_at, parts_in};
+ghost use Rattle.go_sgf.specs.Record.{Property};
 ghost use Rattle.go_sgf.specs.Refusals.{IsRefusal};
-ghost use Rattle.go_sgf.specs.Spelling.{Spells};
-ghost use Rattle.go_sgf.specs.Stands.{after, closed, in_node, in_value, named, opened};
-ghost use Rattle.go_sgf.specs.View.{collection_of, node_of, property_of, tree_of, values_of};
+ghost use Rattle.go_sgf.specs.Spelling.{Spells, begins_with as begins_with_by};
+ghost use Rattle.go_sgf.specs.Stands.{after, closed, in_node, named, opened};
+ghost use Rattle.go_sgf.specs.View.{collection_of, tree_of};
 
 use crate::error::SgfError;
 use crate::fault::Fault;
 use crate::limits::{MAX_DEPTH, MAX_RECORD};
-use crate::record::{Collection, Node, Property, Tree};
+use crate::record::{Collection, Tree};
 use crate::scan::{
-    after_space, begins_letter, begins_with, from_tree, has_upper, letters, ordinary, strip,
-    strip_tree,
+    after_space, begins_letter, begins_with, from_tree, has_upper, letters, strip, strip_tree,
 };
+use crate::values::value;
 use std::alloc::{AllocError, Allocator};
 
 /// The fault of a byte that nothing allows, or of the end.
@@ -26,27 +26,6 @@ fn unexpected(rest: &[u8]) -> Fault
         Some(_) => Fault::Unexpected(rest.len()),
         None => Fault::End,
     }
-}
-
-/// A value from behind its `[`, and what follows its `]`; none where the value has no end.
-fn value(bytes: &[u8]) -> Option<(&[u8], &[u8])>
-    ensures inside { IfSome result (λ v. IsValue v.0.now) }
-    ensures whole { IfSome result (λ v. bytes.now ≡ v.0.now ++ (93 ∷ v.1.now)) }
-    ensures none { IfNone result ((d : ℕ) → IsWithin MAX_DEPTH d
-        → outcome MAX_DEPTH in_value d bytes.now ≡ Err End) }
-{
-    let mut read = 0;
-    while let Some((front, byte, more)) = ordinary(bytes.split_at(read).1) {
-        let place = read + front.len();
-        if byte == b']' {
-            return Some((bytes.split_at(place).0, more));
-        }
-        if more.is_empty() {
-            return None;
-        }
-        read = place + 2;
-    }
-    None
 }
 
 /// Adds one more. The first takes room for one alone, which is the usual number.
@@ -60,89 +39,73 @@ fn push<T: Drop, A: Allocator + Copy>(list: &mut Vec<T, A>, item: T) -> Result<(
     Ok(())
 }
 
-/// The values from behind a name on, at least one.
-fn values<'a, A: Allocator + Copy>(
-    alloc: A,
-    bytes: &'a [u8],
-) -> Result<(Vec<&'a [u8], A>, &'a [u8]), Fault>
+/// What follows the values from behind a name on, at least one.
+fn values(bytes: &[u8]) -> Result<&[u8], Fault>
     requires { is_letter_first bytes.now ≡ false }
-    ensures read { IfOk result (λ r. ReadsValues bytes.now (values_of r.0.items) r.1.now) }
+    ensures read { IfOk result (λ rest. (vs : List (List ℕ)) × ReadsValues bytes.now vs rest.now) }
+    ensures stopped { IfOk result (λ rest. begins_with_by 91 rest.now ≡ false) }
     ensures place { (d : ℕ) → IsWithin MAX_DEPTH d → Meets result
-        (outcome MAX_DEPTH named d bytes.now) (λ r. outcome MAX_DEPTH in_node d r.1.now) }
+        (outcome MAX_DEPTH named d bytes.now) (λ rest. outcome MAX_DEPTH in_node d rest.now) }
 {
-    let mut found = Vec::new(alloc);
     let mut rest = after_space(bytes);
     if !begins_with(rest, b'[') {
         return Err(unexpected(rest));
     }
     while let Some(inside) = strip(rest, b'[') {
-        let Some((one, more)) = value(inside) else {
+        let Some((_, more)) = value(inside) else {
             return Err(Fault::End);
         };
-        push(&mut found, one)?;
         rest = after_space(more);
     }
-    Ok((found, rest))
+    Ok(rest)
 }
 
-/// A property from its name on.
-fn property<'a, A: Allocator + Copy>(
-    alloc: A,
-    bytes: &'a [u8],
-) -> Result<(Property<'a, A>, &'a [u8]), Fault>
+/// What follows a property from its name on.
+fn property(bytes: &[u8]) -> Result<&[u8], Fault>
     requires { is_letter_first bytes.now ≡ true }
-    ensures read { IfOk result (λ r. ReadsProperty bytes.now (property_of r.0) r.1.now) }
+    ensures read { IfOk result (λ rest. (p : Property) × ReadsProperty bytes.now p rest.now) }
     ensures place { (d : ℕ) → IsWithin MAX_DEPTH d → Meets result
-        (outcome MAX_DEPTH in_node d bytes.now) (λ r. outcome MAX_DEPTH in_node d r.1.now) }
+        (outcome MAX_DEPTH in_node d bytes.now) (λ rest. outcome MAX_DEPTH in_node d rest.now) }
 {
     let (name, behind) = letters(bytes);
     if !has_upper(name) {
         return Err(unexpected(behind));
     }
-    let (values, rest) = values(alloc, behind)?;
-    Ok((Property { name, values }, rest))
+    values(behind)
 }
 
-/// A node from behind its `;` on.
-fn node<'a, A: Allocator + Copy>(
-    alloc: A,
-    bytes: &'a [u8],
-) -> Result<(Node<'a, A>, &'a [u8]), Fault>
-    ensures read { IfOk result (λ r. ReadsNode bytes.now (node_of r.0) r.1.now) }
-    ensures stopped { IfOk result (λ r. is_letter_first r.1.now ≡ false) }
+/// What follows a node from behind its `;` on.
+fn node(bytes: &[u8]) -> Result<&[u8], Fault>
+    ensures read { IfOk result (λ rest. (ps : List Property) × ReadsNode bytes.now ps rest.now) }
+    ensures stopped { IfOk result (λ rest. is_letter_first rest.now ≡ false) }
     ensures place { (d : ℕ) → IsWithin MAX_DEPTH d → Meets result
-        (outcome MAX_DEPTH in_node d bytes.now) (λ r. outcome MAX_DEPTH in_node d r.1.now) }
+        (outcome MAX_DEPTH in_node d bytes.now) (λ rest. outcome MAX_DEPTH in_node d rest.now) }
 {
-    let mut properties = Vec::new(alloc);
     let mut rest = after_space(bytes);
     while begins_letter(rest) {
-        let (one, more) = property(alloc, rest)?;
-        push(&mut properties, one)?;
-        rest = more;
+        rest = property(rest)?;
     }
-    Ok((Node { properties }, rest))
+    Ok(rest)
 }
 
-/// The nodes of a tree from behind its `(` on, at least one.
-fn nodes<'a, A: Allocator + Copy>(
-    alloc: A,
-    bytes: &'a [u8],
-) -> Result<(Vec<Node<'a, A>, A>, &'a [u8]), Fault>
-    ensures read { IfOk result (λ r. ReadsNodes bytes.now (map node_of r.0.items) r.1.now) }
+/// What follows the nodes of a tree from behind its `(` on, at least one.
+fn nodes(bytes: &[u8]) -> Result<&[u8], Fault>
+    ensures read { IfOk result
+        (λ rest. ReadsNodes bytes.now (nodes_at (parts_in bytes.now)) rest.now) }
     ensures place { (d : ℕ) → IsWithin MAX_DEPTH d → Meets result
-        (outcome MAX_DEPTH opened d bytes.now) (λ r. outcome MAX_DEPTH closed d r.1.now) }
+        (outcome MAX_DEPTH opened d bytes.now) (λ rest. outcome MAX_DEPTH closed d rest.now) }
 {
-    let mut nodes = Vec::new(alloc);
     let mut rest = after_space(bytes);
     if !begins_with(rest, b';') {
         return Err(unexpected(rest));
     }
     while let Some(inside) = strip(rest, b';') {
-        let (one, more) = node(alloc, inside)?;
-        push(&mut nodes, one)?;
-        rest = more;
+        rest = node(inside)?;
     }
-    Ok((nodes, rest))
+    if begins_with(rest, b'[') {
+        return Err(unexpected(rest));
+    }
+    Ok(rest)
 }
 
 /// A tree at this depth, from behind its `(` on.
@@ -156,7 +119,7 @@ pub(crate) fn tree<'a, A: Allocator + Copy>(
     ensures place { Meets result (outcome MAX_DEPTH opened depth bytes.now)
         (λ r. outcome_after MAX_DEPTH depth r.1.now) }
 {
-    let (nodes, mut rest) = nodes(alloc, bytes)?;
+    let mut rest = nodes(bytes)?;
     let mut children = Vec::new(alloc);
     while let Some(inside) = strip(rest, b'(') {
         if depth == MAX_DEPTH {
@@ -167,7 +130,13 @@ pub(crate) fn tree<'a, A: Allocator + Copy>(
         rest = more;
     }
     match strip(rest, b')') {
-        Some(behind) => Ok((Tree { nodes, children }, after_space(behind))),
+        Some(behind) => Ok((
+            Tree {
+                text: bytes,
+                children,
+            },
+            after_space(behind),
+        )),
         None => Err(unexpected(rest)),
     }
 }

@@ -1,5 +1,6 @@
 ghost use Rattle.std.specs.Prelude.{◌≡◌, ◌∷◌, ◌++◌, ◌||◌, ◌==◌, IfNone, IfSome, IsTrue, false, true};
 ghost use Rattle.std.specs.List.{list_all, list_any};
+ghost use Rattle.memchr.specs.Find.{IsFirstByte, is_byte2};
 ghost use Rattle.go_sgf.specs.Reads.{begins_letter as is_letter_first, is_ordinary};
 ghost use Rattle.go_sgf.specs.Record.{is_letter as is_letter_byte, is_upper as is_upper_byte};
 ghost use Rattle.go_sgf.specs.Spelling.{after_space as without_space, begins_tree as is_tree_first, begins_with as is_first, from_tree as tree_in, is_space};
@@ -31,6 +32,13 @@ pub(crate) fn has_upper(bytes: &[u8]) -> bool
     ensures { result ≡ list_any is_upper_byte bytes.now }
 {
     bytes.iter().any(|byte| is_upper(*byte))
+}
+
+/// Whether all bytes are upper-case letters.
+pub(crate) fn is_plain(name: &[u8]) -> bool
+    ensures { result ≡ list_all is_upper_byte name.now }
+{
+    name.iter().all(|letter| is_upper(*letter))
 }
 
 /// The bytes behind the white space at the front.
@@ -131,6 +139,29 @@ pub(crate) fn from_tree(bytes: &[u8]) -> &[u8]
     rest
 }
 
+/// How many bytes of a value are looked at one by one. Most values have fewer, and have ended before a
+/// search over many bytes at once has begun.
+const NEAR: usize = 16;
+
+/// Whether a byte is `]` or `\`.
+fn is_stop(byte: u8) -> bool
+    ensures { result ≡ is_byte2 93 92 byte }
+{
+    byte == b']' || byte == b'\\'
+}
+
+/// The place of the first `]` or `\`.
+fn first_stop(bytes: &[u8]) -> Option<usize>
+    ensures { IsFirstByte (is_byte2 93 92) bytes.now result }
+{
+    for place in 0..bytes.len().min(NEAR) {
+        if is_stop(bytes[place]) {
+            return Some(place);
+        }
+    }
+    memchr2(b']', b'\\', bytes)
+}
+
 /// What stands before the first `]` or `\`, that byte, and what follows it.
 pub(crate) fn ordinary(bytes: &[u8]) -> Option<(&[u8], u8, &[u8])>
     ensures whole { IfSome result (λ r. bytes.now ≡ r.0.now ++ (r.1 ∷ r.2.now)) }
@@ -138,7 +169,7 @@ pub(crate) fn ordinary(bytes: &[u8]) -> Option<(&[u8], u8, &[u8])>
     ensures stopped { IfSome result (λ r. is_ordinary r.1 ≡ false) }
     ensures none { IfNone result (list_all is_ordinary bytes.now ≡ true) }
 {
-    let place = memchr2(b']', b'\\', bytes)?;
+    let place = first_stop(bytes)?;
     let (front, rest) = bytes.split_at(place);
     match rest.split_first() {
         Some((byte, more)) => Some((front, *byte, more)),

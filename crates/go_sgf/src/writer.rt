@@ -1,13 +1,18 @@
-ghost use Rattle.std.specs.Prelude.{◌≡◌, ◌++◌, filter, map};
-ghost use Rattle.std.specs.List.{flat_map, list_all};
+ghost use Rattle.std.specs.Prelude.{◌≡◌, ◌≤◌, ◌++◌, ℕ, List, [], false, filter, length};
+ghost use Rattle.std.specs.List.{flat_map};
 ghost use Rattle.go_board.specs.Device.{Adds, Sent, failures_after, place};
+ghost use Rattle.go_sgf.specs.PartsIn.{nodes_at, parts_in, values_at};
+ghost use Rattle.go_sgf.specs.Reads.{begins_space};
 ghost use Rattle.go_sgf.specs.Record.{is_upper as is_upper_byte};
-ghost use Rattle.go_sgf.specs.Spelling.{canonical};
-ghost use Rattle.go_sgf.specs.Texts.{node_text, property_text, text_of, value_text};
-ghost use Rattle.go_sgf.specs.View.{collection_of, node_of, property_of, values_of};
+ghost use Rattle.go_sgf.specs.Spelling.{begins_with as is_first, canonical};
+ghost use Rattle.go_sgf.specs.Texts.{node_text, parts_text, text_of, value_text};
+ghost use Rattle.go_sgf.specs.View.{collection_of};
 
-use crate::record::{Collection, Node, Property, Tree};
-use crate::scan::is_upper;
+use crate::nodes::behind_properties;
+use crate::record::{Collection, Tree};
+use crate::scan::{begins_letter, is_plain, is_upper, letters};
+use crate::values::{Values, behind_values};
+use crate::verbatim::verbatim;
 use go_board::{Pen, Sink, WriteFault};
 use std::alloc::Allocator;
 
@@ -47,37 +52,46 @@ fn put_tree<A: Allocator + Copy, W: Sink>(tree: &Tree<'_, A>, pen: &mut Pen, wri
         (text_of tree.now) }
 {
     pen.put(b"(", writer);
-    put_nodes(tree.nodes.as_slice(), pen, writer);
+    put_nodes(tree.text, pen, writer);
     for child in tree.children.as_slice() {
         put_tree(child, pen, writer);
     }
     pen.put(b")", writer);
 }
 
-fn put_nodes<A: Allocator + Copy, W: Sink>(nodes: &[Node<'_, A>], pen: &mut Pen, writer: &mut W)
+/// Writes the nodes at a text's front. What stands there just as it is written goes in one piece.
+fn put_nodes<W: Sink>(text: &[u8], pen: &mut Pen, writer: &mut W)
     ensures { Adds (place pen.old.has_failed (W.taken writer.old) (W.failures writer.old))
         (place pen.new.has_failed (W.taken writer.new) (W.failures writer.new))
-        (flat_map node_text (map node_of nodes.now)) }
+        (flat_map node_text (nodes_at (parts_in text.now))) }
 {
-    for node in nodes {
-        pen.put(b";", writer);
-        put_properties(node.properties.as_slice(), pen, writer);
+    let mut rest = put_verbatim(behind_properties(text), pen, writer);
+    while begins_letter(rest) {
+        let (name, behind) = letters(rest);
+        put_name(name, pen, writer);
+        put_values(Values::at(behind), pen, writer);
+        rest = put_verbatim(behind, pen, writer);
     }
 }
 
-fn put_properties<A: Allocator + Copy, W: Sink>(
-    properties: &[Property<'_, A>],
-    pen: &mut Pen,
-    writer: &mut W,
-)
-    ensures { Adds (place pen.old.has_failed (W.taken writer.old) (W.failures writer.old))
-        (place pen.new.has_failed (W.taken writer.new) (W.failures writer.new))
-        (flat_map property_text (map property_of properties.now)) }
+/// Writes the `;` and properties behind the values at a text's front, as far as they stand there just
+/// as they are written, and gives what follows them. White space is left out.
+fn put_verbatim<'a, W: Sink>(text: &'a [u8], pen: &mut Pen, writer: &mut W) -> &'a [u8]
+    ensures written { (more : List ℕ)
+        × Adds (place pen.old.has_failed (W.taken writer.old) (W.failures writer.old))
+        (place pen.new.has_failed (W.taken writer.new) (W.failures writer.new)) more
+        × (parts_text (parts_in text.now) ≡ more ++ parts_text (parts_in result.now)) }
+    ensures trimmed { begins_space result.now ≡ false }
+    ensures values { values_at (parts_in result.now) ≡ [] }
+    ensures node { is_first 59 result.now ≡ false }
+    ensures shorter { length result.now ≤ length text.now }
 {
-    for property in properties {
-        put_name(property.name, pen, writer);
-        put_values(property.values.as_slice(), pen, writer);
+    let mut rest = behind_values(text);
+    while let Some((front, more)) = verbatim(rest) {
+        pen.put(front, writer);
+        rest = behind_values(more);
     }
+    rest
 }
 
 /// The upper-case letters of a name.
@@ -93,13 +107,6 @@ fn put_name<W: Sink>(name: &[u8], pen: &mut Pen, writer: &mut W)
     }
 }
 
-/// Whether all bytes are upper-case letters.
-fn is_plain(name: &[u8]) -> bool
-    ensures { result ≡ list_all is_upper_byte name.now }
-{
-    name.iter().all(|letter| is_upper(*letter))
-}
-
 fn put_upper<W: Sink>(name: &[u8], pen: &mut Pen, writer: &mut W)
     ensures { Adds (place pen.old.has_failed (W.taken writer.old) (W.failures writer.old))
         (place pen.new.has_failed (W.taken writer.new) (W.failures writer.new))
@@ -112,10 +119,10 @@ fn put_upper<W: Sink>(name: &[u8], pen: &mut Pen, writer: &mut W)
     }
 }
 
-fn put_values<W: Sink>(values: &[&[u8]], pen: &mut Pen, writer: &mut W)
+fn put_values<W: Sink>(values: Values<'_>, pen: &mut Pen, writer: &mut W)
     ensures { Adds (place pen.old.has_failed (W.taken writer.old) (W.failures writer.old))
         (place pen.new.has_failed (W.taken writer.new) (W.failures writer.new))
-        (flat_map value_text (values_of values.now)) }
+        (flat_map value_text values.entry) }
 {
     for value in values {
         pen.put(b"[", writer);

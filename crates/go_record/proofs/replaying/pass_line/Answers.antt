@@ -1,8 +1,7 @@
-use Rattle.std.proofs.Common.{◌≡◌, ◌∙◌, ◌+◌, ◌++◌, List, ap, subst, sym, length, map, refl}
+use Rattle.std.proofs.Common.{◌≡◌, ◌∙◌, ◌+◌, ◌++◌, List, ap, subst, length, refl}
 use Rattle.std.specs.Prelude.{Err}
-use Rattle.std.proofs.lemmas.List.{length-map}
 use Rattle.std.proofs.lemmas.Result.{err_from_is_err_and}
-use Rattle.go_sgf.specs.View.{node_of, tree_of}
+use Rattle.go_sgf.specs.View.{tree_of}
 use Rattle.go_record.specs.MainLine.{Event, events_from, main_line}
 use Rattle.go_record.specs.Progress.{Goes, Place, line_from}
 use Rattle.go_record.proofs.Lines.{first_line, line_split}
@@ -15,7 +14,7 @@ returns-in_err-count g c =
     let e = c.in_err-count.field-0.0 in
     let w : Place = (c.loop-current.walk, c.loop-current.game) in
     let count = c.loop-current.count in
-    let nodes = map node_of c.nodes.result.now in
+    let nodes = c.nodes.result in
     let rest = main_line (tree_of c.in-Some.tree.now).1 in
     walked_stops c.from_residual.result e (c.args.walk.now, c.args.game.now) (c.pass_nodes.new.walk, c.pass_nodes.new.game) _ (p.1 ∙ ap Err p.2) (record {
       stopped = λ some later.
@@ -29,9 +28,9 @@ pub loop-current-preserved : goal.loop-current-preserved
 loop-current-preserved g c = λ later outcome h.
     let w : Place = (c.loop-current.walk, c.loop-current.game) in
     let count = c.loop-current.count in
-    let nodes = map node_of c.nodes.result.now in
+    let nodes = c.nodes.result in
     let rest = main_line (line_from c.first-current-in-Some.result) in
-    let after : c.in_ok-count.count ≡ count + length nodes = c.in_ok-count.ensures.count ∙ ap (λ n. count + n) (sym (length-map c.nodes.result.now node_of)) in
+    let after : c.in_ok-count.count ≡ count + length nodes = c.in_ok-count.ensures.count in
     c.loop-current.invariant later outcome (subst (λ (es : List Event). Goes w es outcome)
     (line_split count c.in_ok-count.count c.loop-current.current c.in-Some.tree nodes rest later c.in-Some.is c.nodes.ensures
     (first_line c.children.result.now c.first-current-in-Some.result c.first-current-in-Some.ensures.value ∙ ap main_line c.children.ensures) after)

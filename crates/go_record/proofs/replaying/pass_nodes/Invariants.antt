@@ -1,11 +1,9 @@
-use Rattle.std.proofs.Common.{◌≡◌, ◌+◌, take, map}
-use Rattle.go_sgf.specs.View.{node_of}
-use Rattle.go_record.specs.MainLine.{events_from}
+use Rattle.std.proofs.Common.{◌≡◌, ◌++◌, ◌+◌, List, length}
+use Rattle.go_record.specs.MainLine.{Event, events_from}
 use Rattle.go_record.specs.Progress.{Passes}
 use Rattle.go_record.proofs.replaying.pass_nodes.Given as goal
 
 abbrev pub invariant-loop-node : goal.invariant-loop-node
-invariant-loop-node g l = record {
-  passed : Passes (l.initial.walk, l.initial.game) (events_from l.first (map node_of (take l.node-index l.nodes))) (l.walk, l.game);
-  count : l.count ≡ l.first + l.node-index;
-}
+invariant-loop-node g l =
+    (done : List Event) × (done ++ events_from l.count l.node-iterator ≡ events_from l.fn.first l.fn.nodes)
+    × Passes (l.fn.walk, l.fn.game) done (l.walk, l.game) × (l.count + length l.node-iterator ≡ l.fn.first + length l.fn.nodes)

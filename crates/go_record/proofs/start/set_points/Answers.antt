@@ -1,8 +1,6 @@
-use Rattle.std.proofs.Common.{◌≡◌, ◌∙◌, ◌+◌, ℕ, List, [], ◌∷◌, Bor, Some, ap, subst, drop, get_or}
-use Rattle.std.proofs.lemmas.List.{at_drop_more}
+use Rattle.std.proofs.Common.{◌≡◌, ◌∙◌, ◌∷◌, ℕ, List, Some, ap, subst}
 use Rattle.go_sgf.specs.BoardValues.{points_in}
 use Rattle.go_sgf.specs.Rectangles.{listed}
-use Rattle.go_sgf.specs.View.{values_of}
 use Rattle.go_record.specs.Walks.{with_points}
 use Rattle.go_record.proofs.Setting.{SetSoFar, set_more}
 use Rattle.go_record.proofs.start.set_points.Goals as goal
@@ -12,18 +10,15 @@ loop-value-preserved c =
     let n = c.args.grid.now.lines in
     let colour = c.args.colour in
     let old = c.args.grid.now.colours in
-    let values = c.args.values.now in
-    let at = c.loop-value.value-index in
-    let none : Bor (List ℕ) = record { ref_ptr = (0, 0); now = [] } in
-    let value = get_or values at none in
+    let values = c.args.values in
+    let value = c.in-Some.value.now in
     let ps = listed c.in_ok-points_in.field-0 in
-    let before : SetSoFar n colour old (values_of values) (value.now ∷ values_of (drop (at + 1) values)) c.loop-value.grid.colours =
-    subst (λ (vs : List (List ℕ)). SetSoFar n colour old (values_of values) vs c.loop-value.grid.colours)
-    (at_drop_more values_of values at none c.loop-value-test.true) c.loop-value.invariant.set in
-    let is : Some ps ≡ points_in n value.now =
-    c.in_ok-points_in.ensures.value ∙ ap (λ (m : ℕ). points_in m value.now) c.size-size.ensures.lines in
+    let before : SetSoFar n colour old values (value ∷ c.next.new.self) c.loop-value.grid.colours =
+    subst (λ (vs : List (List ℕ)). SetSoFar n colour old values vs c.loop-value.grid.colours) c.in-Some.ensures.steps c.loop-value.invariant.set in
+    let is : Some ps ≡ points_in n value =
+    c.in_ok-points_in.ensures.value ∙ ap (λ (m : ℕ). points_in m value) c.size-size.ensures.lines in
     record {
       lines = c.set_rows.ensures.lines ∙ c.loop-value.invariant.lines;
-      set = set_more n colour old (values_of values) value.now (values_of (drop (at + 1) values)) c.loop-value.grid.colours c.set_rows.new.grid.colours ps before is
+      set = set_more n colour old values value c.next.new.self c.loop-value.grid.colours c.set_rows.new.grid.colours ps before is
           (c.set_rows.ensures.colours ∙ ap (λ (m : ℕ). with_points m colour c.loop-value.grid.colours ps) c.loop-value.invariant.lines);
     }

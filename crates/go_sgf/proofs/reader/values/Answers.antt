@@ -1,43 +1,41 @@
-use Rattle.std.proofs.Common.{◌≡◌, ◌++◌, ◌∷◌, [], List, ℕ, sym, ap, ◌∙◌, Err, Bor}
+use Rattle.std.proofs.Common.{◌++◌, ◌∷◌, [], refl, sym, ap, ◌∙◌, Err}
 use Rattle.go_sgf.specs.declared.limits.TheConstants.{MAX_DEPTH}
-use Rattle.go_sgf.specs.View.{values_of}
-use Rattle.go_sgf.proofs.Passing.{map-push, refuses, value_endless, values_first, values_more, values_passed, values_shorter, values_stop, values_whole}
+use Rattle.go_sgf.proofs.Passing.{refuses, value_endless, values_first, values_more, values_passed, values_shorter, values_stop, values_whole}
 use Rattle.go_sgf.proofs.reader.values.Goals as goal
 
 pub returns-then-not-begins_with-clause-place : goal.returns-then-not-begins_with-clause-place
-returns-then-not-begins_with-clause-place g c = λ d h. refuses _ _ _
+returns-then-not-begins_with-clause-place c = λ d h. refuses _ _ _
     (values_stop MAX_DEPTH d h c.args.bytes.now c.after_space-rest.result.now c.requires c.after_space-rest.ensures
     (sym c.if-not-begins_with.ensures) ∙ ap Err (sym c.unexpected.ensures))
 
 pub loop-inside-init : goal.loop-inside-init
-loop-inside-init g c =
-    rw c.new-found.ensures.items
-    (values_first c.args.bytes.now c.after_space-rest.result.now c.requires c.after_space-rest.ensures (sym c.if-not-begins_with.ensures))
+loop-inside-init c = ([], values_first c.args.bytes.now c.after_space-rest.result.now c.requires c.after_space-rest.ensures (sym c.if-not-begins_with.ensures))
 
 pub returns-in_default-value-clause-place : goal.returns-in_default-value-clause-place
-returns-in_default-value-clause-place g c = λ d h.
-    c.loop-inside.invariant.place d h
+returns-in_default-value-clause-place c = λ d h.
+    c.loop-inside.invariant.1.place d h
     ∙ value_endless MAX_DEPTH d h c.loop-inside.rest.now c.in-Some.inside.now c.in-Some.ensures.stripped (c.in_default-value.ensures.none d h)
 
 pub loop-inside-smaller : goal.loop-inside-smaller
-loop-inside-smaller g c =
+loop-inside-smaller c =
     rw c.after_space-rest-in-Some.ensures
-    (values_shorter c.loop-inside.rest.now c.in-Some-value.one.now c.in-Some.inside.now c.in-Some-value.more.now
+    (values_shorter c.loop-inside.rest.now c.in-Some-value.field-0-0.now c.in-Some.inside.now c.in-Some-value.more.now
     c.in-Some.ensures.stripped c.in-Some-value.ensures.whole)
 
 pub loop-inside-preserved : goal.loop-inside-preserved
-loop-inside-preserved g c =
-    let found : values_of c.push.new.list.items ≡ values_of c.loop-inside.found.items ++ c.in-Some-value.one.now ∷ [] =
-    map-push (λ (v : Bor (List ℕ)). v.now) c.loop-inside.found.items c.push.new.list.items c.in-Some-value.one c.in_ok-push.ensures in
-    rw c.after_space-rest-in-Some.ensures
-    (values_more c.args.bytes.now (values_of c.loop-inside.found.items) (values_of c.push.new.list.items) c.loop-inside.rest.now
-    c.in-Some-value.one.now c.in-Some.inside.now c.in-Some-value.more.now c.loop-inside.invariant found
-    c.in-Some.ensures.stripped c.in-Some-value.ensures.whole c.in-Some-value.ensures.inside)
+loop-inside-preserved c =
+    let vs = c.loop-inside.invariant.0 in
+    let one = c.in-Some-value.field-0-0.now in (
+      vs ++ one ∷ [],
+      rw c.after_space-rest-in-Some.ensures
+          (values_more c.args.bytes.now vs (vs ++ one ∷ []) c.loop-inside.rest.now one c.in-Some.inside.now c.in-Some-value.more.now c.loop-inside.invariant.1 refl
+          c.in-Some.ensures.stripped c.in-Some-value.ensures.whole c.in-Some-value.ensures.inside),
+    )
 
 pub returns-clause-read : goal.returns-clause-read
-returns-clause-read g c =
-    values_whole c.args.bytes.now (values_of c.loop-inside.found.items) c.loop-inside.rest.now c.loop-inside.invariant c.in_default.ensures.other
+returns-clause-read c =
+    (c.loop-inside.invariant.0, values_whole c.args.bytes.now c.loop-inside.invariant.0 c.loop-inside.rest.now c.loop-inside.invariant.1 c.in_default.ensures.other)
 
 pub returns-clause-place : goal.returns-clause-place
-returns-clause-place g c =
-    values_passed c.args.bytes.now (values_of c.loop-inside.found.items) c.loop-inside.rest.now c.loop-inside.invariant c.in_default.ensures.other
+returns-clause-place c =
+    values_passed c.args.bytes.now c.loop-inside.invariant.0 c.loop-inside.rest.now c.loop-inside.invariant.1 c.in_default.ensures.other

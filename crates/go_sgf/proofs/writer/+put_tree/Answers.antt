@@ -17,5 +17,4 @@ pub returns : goal.returns
 returns g t c =
     adds_then (text_of c.args.tree.now) c.put.ensures
     (adds_adds c.put_nodes.ensures (adds_adds c.loop-child.invariant c.put-2.ensures))
-    (text_of-is c.args.tree.now c.as_slice.result.now c.as_slice-child-items.result.now c.loop-child.child-index
-    c.as_slice.ensures.value c.as_slice-child-items.ensures.value c.loop-child-test.false)
+    (text_of-is c.args.tree.now c.as_slice-child-items.result.now c.loop-child.child-index c.as_slice-child-items.ensures.value c.loop-child-test.false)

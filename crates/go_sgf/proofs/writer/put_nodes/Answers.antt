@@ -1,15 +1,58 @@
-use Rattle.std.proofs.Common.{◌+◌, take, map}
-use Rattle.std.specs.List.{flat_map}
-use Rattle.go_board.specs.Writing.{adds_then}
-use Rattle.go_sgf.specs.Texts.{node_text}
-use Rattle.go_sgf.specs.View.{node_of}
-use Rattle.go_sgf.proofs.Written.{next_item, node_text-is, one_more}
+use Rattle.std.proofs.Common.{◌≡◌, [], ◌∙◌, ◌++◌, ap, append_assoc, subst, sym, List, ℕ}
+use Rattle.std.proofs.lemmas.List.{append-nil}
+use Rattle.std.specs.List.{filter, flat_map}
+use Rattle.go_board.specs.Device.{Adds, place}
+use Rattle.go_board.specs.Writing.{adds_adds}
+use Rattle.go_sgf.specs.PartsIn.{nodes_at, parts_in, properties_at, values_at}
+use Rattle.go_sgf.specs.Record.{is_upper}
+use Rattle.go_sgf.specs.Texts.{node_text, parts_text, property_text, value_text}
+use Rattle.go_sgf.proofs.PartsIn.{name_first, no_property}
+use Rattle.go_sgf.proofs.Staying.{name_text, nothing_left}
 use Rattle.go_sgf.proofs.writer.put_nodes.Goals as goal
 
-pub loop-node-preserved : goal.loop-node-preserved
-loop-node-preserved g c =
-    let at = c.loop-node.node-index in
-    let item = c.node-item.result in
-    adds_then (flat_map node_text (map node_of (take (at + 1) c.args.nodes.now))) c.loop-node.invariant
-    (adds_then (node_text (node_of item)) c.put.ensures (rw c.as_slice.ensures.value at c.put_properties.ensures) (node_text-is (node_of item)))
-    (one_more node_text node_of c.args.nodes.now at item (next_item c.args.nodes.now at item c.loop-node-test.true c.node-item.is))
+pub loop-rest-init : goal.loop-rest-init
+loop-rest-init g c =
+    let b = c.behind_properties in
+    let w = c.put_verbatim-rest.ensures in
+    let none : properties_at (parts_in b.result.now) ≡ [] = no_property b.result.now b.ensures.trimmed b.ensures.letter b.ensures.values in
+    record {
+      written = (
+        w.written.0,
+        w.written.1,
+        sym (ap (λ ps. flat_map property_text ps ++ flat_map node_text (nodes_at (parts_in b.result.now))) none ∙ ap (flat_map node_text) b.ensures.nodes) ∙ w.written.2,
+      );
+      trimmed = w.trimmed;
+      values = w.values;
+      node = w.node;
+    }
+
+pub loop-rest-preserved : goal.loop-rest-preserved
+loop-rest-preserved g c =
+    let i = c.loop-rest.invariant in
+    let w = c.put_verbatim-rest-in-loop-rest.ensures in
+    let name = c.letters.result.0.now in
+    let behind = c.letters.result.1.now in
+    let one = filter is_upper name ++ flat_map value_text (values_at (parts_in behind)) in
+    let text : parts_text (parts_in c.loop-rest.rest.now) ≡ one ++ parts_text (parts_in behind) =
+    ap parts_text (name_first c.loop-rest.rest.now name behind c.letters.ensures.whole c.letters.ensures.letters (sym c.loop-rest-test.ensures) c.letters.ensures.stopped)
+    ∙ name_text name (parts_in behind) in
+    record {
+      written = (
+        i.written.0 ++ (one ++ w.written.0),
+        adds_adds i.written.1 (adds_adds (adds_adds c.put_name.ensures (rw c.at.ensures at c.put_values.ensures)) w.written.1),
+        i.written.2
+            ∙ ap (λ xs. i.written.0 ++ xs) (text ∙ ap (λ xs. one ++ xs) w.written.2 ∙ sym (append_assoc one w.written.0 (parts_text (parts_in c.put_verbatim-rest-in-loop-rest.result.now))))
+            ∙ sym (append_assoc i.written.0 (one ++ w.written.0) (parts_text (parts_in c.put_verbatim-rest-in-loop-rest.result.now))),
+      );
+      trimmed = w.trimmed;
+      values = w.values;
+      node = w.node;
+    }
+
+pub returns : goal.returns
+returns g c =
+    let i = c.loop-rest.invariant in
+    let left : parts_text (parts_in c.loop-rest.rest.now) ≡ [] = nothing_left c.loop-rest.rest.now i.trimmed (sym c.loop-rest-test.ensures) i.node i.values in
+    subst (λ (xs : List ℕ). Adds (place c.args.pen.now.has_failed (g.W.Sink.taken c.args.writer.now) (g.W.Sink.failures c.args.writer.now))
+    (place c.loop-rest.pen.has_failed (g.W.Sink.taken c.loop-rest.writer) (g.W.Sink.failures c.loop-rest.writer)) xs)
+    (sym (i.written.2 ∙ ap (λ xs. i.written.0 ++ xs) left ∙ append-nil i.written.0)) i.written.1

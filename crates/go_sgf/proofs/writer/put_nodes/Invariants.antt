@@ -1,12 +1,22 @@
-use Rattle.std.proofs.Common.{take, map}
+use Rattle.std.proofs.Common.{◌≡◌, ◌++◌, [], ℕ, List, false, length}
 use Rattle.std.specs.List.{flat_map}
 use Rattle.go_board.specs.Device.{Adds, place}
-use Rattle.go_sgf.specs.Texts.{node_text}
-use Rattle.go_sgf.specs.View.{node_of}
+use Rattle.go_sgf.specs.PartsIn.{nodes_at, parts_in, values_at}
+use Rattle.go_sgf.specs.Reads.{begins_space}
+use Rattle.go_sgf.specs.Spelling.{begins_with}
+use Rattle.go_sgf.specs.Texts.{node_text, parts_text}
 use Rattle.go_sgf.proofs.writer.put_nodes.Given as goal
 
-abbrev pub invariant-loop-node : goal.invariant-loop-node
-invariant-loop-node g l =
-    Adds (place l.initial.pen.has_failed (g.W.Sink.taken l.initial.writer) (g.W.Sink.failures l.initial.writer))
-    (place l.pen.has_failed (g.W.Sink.taken l.writer) (g.W.Sink.failures l.writer))
-    (flat_map node_text (map node_of (take l.node-index l.nodes)))
+abbrev pub invariant-loop-rest : goal.invariant-loop-rest
+invariant-loop-rest g l = record {
+  written : (more : List ℕ)
+      × Adds (place l.fn.pen.has_failed (g.W.Sink.taken l.fn.writer) (g.W.Sink.failures l.fn.writer))
+      (place l.pen.has_failed (g.W.Sink.taken l.writer) (g.W.Sink.failures l.writer)) more
+      × (flat_map node_text (nodes_at (parts_in l.text)) ≡ more ++ parts_text (parts_in l.rest));
+  trimmed : begins_space l.rest ≡ false;
+  values : values_at (parts_in l.rest) ≡ [];
+  node : begins_with 59 l.rest ≡ false;
+}
+
+abbrev pub decreases-loop-rest : goal.decreases-loop-rest
+decreases-loop-rest g l = length l.rest
