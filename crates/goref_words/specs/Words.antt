@@ -33,9 +33,9 @@ judge_command = new_app (codes "judge")
 abbrev pub tidy_command : App
 tidy_command = new_app (codes "tidy")
 
--- the program before its subcommands are added: it wants one of them
+-- the program before its subcommands are added: it has a version, and wants one of them
 abbrev pub bare_program : App
-bare_program = on_top (λ s. record s { subcommand_required = true }) (new_app (codes "goref"))
+bare_program = on_top (λ s. record s { has_version = true; subcommand_required = true }) (new_app (codes "goref"))
 
 -- the program's simple command
 abbrev pub program : App

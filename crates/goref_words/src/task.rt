@@ -28,7 +28,7 @@ pub enum Task {
 
 /// The task that the program's words name, the program's own name first.
 ///
-/// A call for help is an `Err` too: its text is for the standard output. Words that ask for no
+/// A call for help or for the version is an `Err` too: its text is for the standard output. Words that ask for no
 /// task are refused with the text that tells the user why.
 pub fn task_of<'a>(alloc: Global, words: &'a [&'a str]) -> Result<Task, Error>
     ensures ok { IfOk result (Means (texts_of words.entry.now)) }
@@ -57,6 +57,7 @@ fn program_command<'a>(alloc: Global) -> Result<Command<'a>, AllocError>
         .about("Reads a record in SGF, and writes it in its one canonical spelling")
         .after_help("Example: goref tidy < game.sgf");
     Command::new(alloc, "goref")
+        .version("1.0")
         .about("A Go engine and referee for the Tromp-Taylor rules")
         .subcommand_required(true)
         .subcommand(gtp)?

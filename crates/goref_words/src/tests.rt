@@ -37,6 +37,15 @@ fn program_words(rt: HostRuntime) {
     assert!(rt; asked(alloc, &["goref", "tidy"]) == Ok(Task::Tidy));
 }
 
+/// With `rt try --test --fail-alloc N` the request of that number is refused.
+#[test]
+fn words_where_memory_is_refused(rt: HostRuntime) {
+    match asked(rt.alloc(), &["goref", "gtp", "--size", "9"]) {
+        Ok(task) => assert!(rt; task == gtp(&rt, 9)),
+        Err(kind) => assert!(rt; kind == ErrorKind::OutOfMemory),
+    }
+}
+
 #[test]
 fn refused_words(rt: HostRuntime) {
     let alloc = rt.alloc();
@@ -57,6 +66,18 @@ fn refused_words(rt: HostRuntime) {
     assert!(rt; asked(alloc, &["goref", "tidy", "game.sgf"]) == Err(ErrorKind::UnknownArgument));
     assert!(rt; asked(alloc, &["goref"]) == Err(ErrorKind::MissingSubcommand));
     assert!(rt; asked(alloc, &[]) == Err(ErrorKind::MissingSubcommand));
+}
+
+#[test]
+fn version(rt: HostRuntime) -> Result<(), Fail> {
+    let alloc = rt.alloc();
+    for word in ["--version", "-V"] {
+        let words = ["goref", word];
+        assert!(rt; asked(alloc, &words) == Err(ErrorKind::DisplayVersion));
+        let text = refusal(alloc, &words)?;
+        assert!(rt; text.as_str() == "goref 1.0\n", "{text}");
+    }
+    Ok(())
 }
 
 #[test]

@@ -24,7 +24,8 @@ returns c =
     ap (λ f. f.has_globals) c.after_help-tidy.ensures ∙ ap (λ f. f.has_globals) c.about-3.ensures ∙ c.new-3.ensures.local in
     let bare_is : app_of c.subcommand_required.result ≡ bare_program =
     ap app_of_fields c.subcommand_required.ensures
-    ∙ ap (on_top (λ s. record s { subcommand_required = true })) (ap app_of_fields c.about-4.ensures ∙ c.new-4.ensures.app) in
+    ∙ ap (on_top (λ s. record s { subcommand_required = true })) (ap app_of_fields c.about-4.ensures ∙ ap app_of_fields c.version.ensures
+    ∙ ap (on_top (λ s. record s { has_version = true })) c.new-4.ensures.app) in
     let with_gtp : app_of c.in_ok-subcommand.field-0 ≡ with_subcommand bare_program gtp_command.top =
     c.in_ok-subcommand.ensures.shape gtp_local ∙ ap₂ with_subcommand bare_is (ap (λ (a : App). a.top) gtp_is) in
     let with_judge : app_of c.in_ok-subcommand-2.field-0 ≡ with_subcommand (with_subcommand bare_program gtp_command.top) judge_command.top =
