@@ -37,14 +37,26 @@ impl<A: Allocator + Copy, F: Files> Shelf<A> for NamedFiles<'_, A, F> {
     }
 }
 
-/// The file at a path. Where it cannot be opened or read, as a folder, it is missing.
+/// The file at a path. Where it cannot be opened or read it is missing, and so is what is no regular
+/// file: to open a pipe, or to read from a terminal, may wait for ever.
 fn file_at<A: Allocator + Copy, F: Files>(alloc: A, system: &F, path: &str) -> Fetched<A> {
+    if !is_regular(system, path) {
+        return Fetched::Missing;
+    }
     match fs::open(system, path) {
         Ok(file) => {
             let mut input = Input::new(file);
             fetched(read_input(alloc, &mut input))
         }
         Err(_) => Fetched::Missing,
+    }
+}
+
+/// Whether the system tells that a regular file stands at a path.
+fn is_regular<F: Files>(system: &F, path: &str) -> bool {
+    match fs::metadata(system, path) {
+        Ok(about) => about.is_file(),
+        Err(_) => false,
     }
 }
 

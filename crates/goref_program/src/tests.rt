@@ -157,8 +157,8 @@ fn explained_to(rt: &HostRuntime, words: &[&str], room: usize) -> Option<(usize,
     Some((output.bytes.len(), errors.bytes.len(), status))
 }
 
-/// Whether the words are answered by help on the output, and by 3 where that is full.
-fn are_answered_by_help(rt: &HostRuntime, words: &[&str]) -> bool {
+/// Whether the words are answered by a text on the output, and by 3 where that is full.
+fn are_answered(rt: &HostRuntime, words: &[&str]) -> bool {
     let shown = match explained_to(rt, words, 10_000) {
         Some((shown, told, status)) => shown > 0 && told == 0 && status == 0,
         None => false,
@@ -176,9 +176,10 @@ fn are_refused(rt: &HostRuntime, words: &[&str]) -> bool {
 
 #[test]
 fn words_that_name_no_task(rt: HostRuntime) {
-    assert!(rt; are_answered_by_help(&rt, &["goref", "--help"]));
-    assert!(rt; are_answered_by_help(&rt, &["goref", "gtp", "--help"]));
-    assert!(rt; are_answered_by_help(&rt, &["goref", "judge", "--help"]));
+    assert!(rt; are_answered(&rt, &["goref", "--help"]));
+    assert!(rt; are_answered(&rt, &["goref", "gtp", "--help"]));
+    assert!(rt; are_answered(&rt, &["goref", "judge", "--help"]));
+    assert!(rt; are_answered(&rt, &["goref", "--version"]));
     assert!(rt; are_refused(&rt, &["goref"]));
     assert!(rt; are_refused(&rt, &["goref", "gtp", "--size", "26"]));
 }
@@ -234,8 +235,16 @@ fn files_by_their_names(rt: HostRuntime) -> Result<(), Fail> {
     assert!(rt; holds(&first, b"(;SZ[1])"));
     assert!(rt; holds(&second, b"(;SZ[2])"));
     assert!(rt; holds(&again, b"(;SZ[1])"));
-    assert!(rt; holds(&files.fetch(b"/dev/null"), b""));
-    assert!(rt; matches!(files.fetch(b"dev/null"), Fetched::Missing));
+    Ok(())
+}
+
+#[test]
+fn files_by_whole_paths(rt: HostRuntime) -> Result<(), Fail> {
+    let mut path = std::env::current_dir(&rt)?;
+    path.push("whole.sgf")?;
+    assert!(rt; path.as_str().starts_with("/"));
+    assert!(rt; holds(&fetched_of(&rt, path.as_str(), b"(;)")?, b"(;)"));
+    assert!(rt; matches!(fetched(&rt, path.as_str().as_bytes()), Fetched::Missing));
     Ok(())
 }
 
@@ -247,6 +256,14 @@ fn files_that_are_missing(rt: HostRuntime) -> Result<(), Fail> {
     assert!(rt; matches!(fetched(&rt, b"."), Fetched::Missing));
     assert!(rt; matches!(fetched(&rt, b""), Fetched::Missing));
     Ok(())
+}
+
+/// The second has no end, and a run without a terminal has none of the third.
+#[test]
+fn devices_are_missing(rt: HostRuntime) {
+    for name in [b"/dev/null".as_slice(), b"/dev/zero", b"/dev/tty"] {
+        assert!(rt; matches!(fetched(&rt, name), Fetched::Missing));
+    }
 }
 
 #[test]

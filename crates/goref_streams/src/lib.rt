@@ -9,7 +9,7 @@ ghost use Rattle.goref_streams.specs.Streams.{given_to, room};
 
 use arrayvec::ArrayVec;
 use go_board::{Failed, Meter, Sink, Source};
-use std::io::{self, Read, Write};
+use std::io::{self, ErrorKind, Read, Write};
 use std::marker::Model;
 
 /// The most bytes that an output keeps back: no diagram of a board and no list of its chains has
@@ -75,7 +75,7 @@ impl<R: Read> Source for Input<R> {
         ensures ends { self.new.ends ≡ ends_after result (length buffer.new) self.old.ends }
     {
         self.pulls.tick();
-        match self.stream.read(buffer) {
+        match read_again(&mut self.stream, buffer) {
             Ok(count) => {
                 if count == 0 && !buffer.is_empty() {
                     self.ends.tick();
@@ -88,6 +88,23 @@ impl<R: Read> Source for Input<R> {
             }
         }
     }
+}
+
+/// Reads from a stream, and again where a signal interrupted that.
+fn read_again<R: Read>(stream: &mut R, buffer: &mut [u8]) -> io::Result<usize>
+    ensures within { IfOk result (λ n. n ≤ length buffer.new) }
+    ensures read { IfOk result (λ n. Consumes (R.remaining stream.old) (R.remaining stream.new)
+        (take n buffer.new)) }
+    ensures end { IfOk result
+        (λ n. n ≡ 0 → 0 < length buffer.new → IsAtEnd (R.remaining stream.new)) }
+{
+    for _ in 0..u64::MAX {
+        match stream.read(buffer) {
+            Err(why) if why.kind() == ErrorKind::Interrupted => {}
+            outcome => return outcome,
+        }
+    }
+    Err(io::Error::from(ErrorKind::Interrupted))
 }
 
 /// A stream that is written, as a device that doesn't tell its bytes. It keeps them back until it

@@ -1,7 +1,7 @@
 use crate::{Input, Output};
-use go_board::{Sink, Source, send};
+use go_board::{Failed, Sink, Source, send};
 use std::alloc::{AllocError, Global};
-use std::io::{self, Write};
+use std::io::{self, ErrorKind, Read, Write};
 use std::test::Fail;
 
 /// A stream that keeps the bytes of each write, and takes so many of them.
@@ -111,4 +111,44 @@ fn input_comes_as_the_stream_gives_it(rt: HostRuntime) {
     assert!(rt; buffer.as_slice() == b"undo".as_slice());
     assert!(rt; input.pull(&mut buffer) == Ok(1));
     assert!(rt; input.pull(&mut buffer) == Ok(0));
+}
+
+/// A stream of one byte, the first reads of which are interrupted.
+#[derive(Drop)]
+struct Interrupted {
+    left: u32,
+    why: ErrorKind,
+}
+
+impl Read for Interrupted {
+    fn read(&mut self, buffer: &mut [u8]) -> io::Result<usize> {
+        if self.left > 0 {
+            self.left -= 1;
+            return Err(io::Error::from(self.why));
+        }
+        let count = buffer.len().min(1);
+        buffer[..count].fill(b'u');
+        Ok(count)
+    }
+}
+
+#[test]
+fn an_interrupted_read_is_tried_again(rt: HostRuntime) {
+    for left in 0..4u32 {
+        let why = ErrorKind::Interrupted;
+        let mut input = Input::new(Interrupted { left, why });
+        let mut buffer = [0u8; 4];
+        assert!(rt; input.pull(&mut buffer) == Ok(1), "{left} interruptions");
+        assert!(rt; buffer[0] == b'u');
+    }
+}
+
+#[test]
+fn another_failed_read_is_told(rt: HostRuntime) {
+    for why in [ErrorKind::WouldBlock, ErrorKind::Other, ErrorKind::TimedOut] {
+        let mut input = Input::new(Interrupted { left: 1, why });
+        let mut buffer = [0u8; 4];
+        assert!(rt; input.pull(&mut buffer) == Err(Failed));
+        assert!(rt; input.pull(&mut buffer) == Ok(1));
+    }
 }
