@@ -208,7 +208,8 @@ fn the_largest_board_as_the_plain_body(rt: HostRuntime) {
     explore_board(&rt, rt.alloc(), 25, 800, 900);
 }
 
-/// Plays on each point in turn, sent again where memory was refused; how many were.
+/// Plays on each point in turn, sent again where memory was refused; how many were. The last play takes
+/// all stones.
 fn script<A: Allocator + Copy>(rt: &impl Abort, board: &mut Board, log: &mut Log<A>) -> u32 {
     let mut random = Pcg32::new(1, 1);
     let mut refused = 0u32;
@@ -231,7 +232,7 @@ fn script<A: Allocator + Copy>(rt: &impl Abort, board: &mut Board, log: &mut Log
 /// Whether the script comes to a request for memory with this number; that one alone is refused.
 fn meets_request(rt: &impl Abort, alloc: impl Allocator + Copy, number: u64) -> bool {
     let failing = Failing::new(alloc, number);
-    let mut board = Board::new(size_of(rt, 5));
+    let mut board = Board::new(size_of(rt, 4));
     let mut log = Log::new(&failing);
     let refused = script(rt, &mut board, &mut log);
     let is_met = !failing.waits();

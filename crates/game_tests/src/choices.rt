@@ -1,7 +1,8 @@
 use crate::games::{plays_at, size_of, turn};
+use crate::twins::{assert_same, assert_whole, plays};
 use failing::Failing;
 use go_board::{Colour, Move, Point, Taken, Vertex};
-use go_game::{Game, PlayError};
+use go_game::Game;
 use std::alloc::{AllocError, Allocator, Global};
 use std::process::Abort;
 
@@ -97,75 +98,17 @@ fn legal_plays_after_a_capture(rt: HostRuntime) {
     assert_eq!(rt; game.move_count(), 3);
 }
 
-/// Two games tell the same moves, and whose turn it is.
-fn same_turns<A: Allocator + Copy, B: Allocator + Copy>(
-    rt: &impl Abort,
-    game: &Game<A>,
-    twin: &Game<B>,
-) {
-    assert!(rt; game.mover() == twin.mover() && game.start_mover() == twin.start_mover());
-    assert_eq!(rt; game.move_count(), twin.move_count());
-    for number in 0..twin.move_count() {
-        assert!(rt; game.move_at(number) == twin.move_at(number));
-    }
-}
-
-/// Two games tell the same colours.
-fn same_colours<A: Allocator + Copy, B: Allocator + Copy>(
-    rt: &impl Abort,
-    game: &Game<A>,
-    twin: &Game<B>,
-) {
-    let size = twin.size();
-    for number in 0..size.points() {
-        let p = Point::numbered(size, number);
-        assert!(rt; p.on(game.size()));
-        assert!(rt; game.colour_at(p) == twin.colour_at(p));
-        assert!(rt; game.start_at(p) == twin.start_at(p));
-    }
-}
-
-/// Two games answer each question alike.
-pub fn assert_same<A: Allocator + Copy, B: Allocator + Copy>(
-    rt: &impl Abort,
-    game: &Game<A>,
-    twin: &Game<B>,
-) {
-    assert!(rt; game.size() == twin.size() && game.komi() == twin.komi());
-    assert!(rt; game.superko() == twin.superko());
-    assert!(rt; game.area() == twin.area());
-    for colour in [Colour::Black, Colour::White] {
-        assert!(rt; game.prisoners(colour) == twin.prisoners(colour));
-    }
-    same_turns(rt, game, twin);
-    same_colours(rt, game, twin);
-}
-
-/// Plays a move, and again where it was refused for want of memory. How many were refused.
-fn plays<A: Allocator + Copy>(rt: &impl Abort, game: &mut Game<A>, made: Move) -> u32 {
-    match game.play(made) {
-        Err(PlayError::Memory) => {
-            assert!(rt; game.play(made).is_ok());
-            1
-        }
-        played => {
-            assert!(rt; played.is_ok());
-            0
-        }
-    }
-}
-
 /// Asks for the choice, which is this move; and again where there was no memory. How many times
 /// there was none. The game answers as its twin does, before and after.
 fn asks_choice<A: Allocator + Copy, B: Allocator + Copy>(
     rt: &impl Abort,
     game: &mut Game<A>,
-    twin: &Game<B>,
+    twin: &mut Game<B>,
     made: Move,
 ) -> u32 {
     let mut refused = 0u32;
     if game.choose(made.colour) == Err(AllocError) {
-        assert_same(rt, game, twin);
+        assert_whole(rt, game, twin);
         refused = 1;
     }
     assert!(rt; game.choose(made.colour) == Ok(made.vertex));
@@ -177,12 +120,12 @@ fn asks_choice<A: Allocator + Copy, B: Allocator + Copy>(
 fn asks_legal<A: Allocator + Copy, B: Allocator + Copy>(
     rt: &impl Abort,
     game: &mut Game<A>,
-    twin: &Game<B>,
+    twin: &mut Game<B>,
     made: Move,
 ) -> u32 {
     let mut refused = 0u32;
     if game.legal(made) == Err(AllocError) {
-        assert_same(rt, game, twin);
+        assert_whole(rt, game, twin);
         refused = 1;
     }
     assert!(rt; game.legal(made) == Ok(true));
@@ -203,9 +146,7 @@ fn asks_and_plays<A: Allocator + Copy, B: Allocator + Copy>(
     } else {
         asks_legal(rt, game, twin, made)
     };
-    let played = plays(rt, game, made);
-    assert!(rt; twin.play(made).is_ok());
-    assert_same(rt, game, twin);
+    let played = plays(rt, game, twin, made);
     asked.wrapping_add(played)
 }
 

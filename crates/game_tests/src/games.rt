@@ -1,7 +1,6 @@
 ghost use Rattle.std.specs.Prelude.{◌≡◌};
 ghost use Rattle.go_board.specs.Sizes.{lines_of};
 
-use failing::Failing;
 use go_board::{Colour, Grid, Move, Point, Size, Taken, Vertex, read_vertex};
 use go_game::{Game, PlayError, SetupError, hundredths_text, score_text};
 use std::alloc::{Allocator, Global};
@@ -268,47 +267,4 @@ fn starts_with_few_and_many_stones(rt: HostRuntime) {
         }
     }
     starts_as(&rt, rt.alloc(), &grid);
-}
-
-/// Passes and plays, each sent again where it was refused for want of memory; how many were.
-fn script<A: Allocator + Copy>(rt: &impl Abort, game: &mut Game<A>) -> u32 {
-    let mut refused = 0u32;
-    for number in 0..9u16 {
-        let before = game.move_count();
-        let vertex = Vertex::At(Point::nth(game.size(), number * 2).expect(rt, "a point"));
-        let made = Move {
-            colour: Colour::Black,
-            vertex,
-        };
-        if game.play(made) == Err(PlayError::Memory) {
-            refused = refused.wrapping_add(1);
-            assert!(rt; game.move_count() == before);
-            assert!(rt; game.play(made).is_ok());
-        }
-        assert!(rt; game.play(made) == Err(PlayError::Occupied));
-    }
-    assert!(rt; game.move_count() == 9);
-    refused
-}
-
-/// Whether the script comes to a request for memory with this number; that one alone is refused.
-fn meets_request(rt: &impl Abort, alloc: Global, number: u64) -> bool {
-    let failing = Failing::new(alloc, number);
-    let mut game = Game::new(&failing, size_of(rt, 9));
-    let refused = script(rt, &mut game);
-    let is_met = !failing.waits();
-    assert_eq!(rt; refused, u32::from(is_met), "request {number}");
-    is_met
-}
-
-#[test]
-fn each_request_for_memory_refused(rt: HostRuntime) {
-    let mut met = 0u32;
-    for number in 1..40u64 {
-        if !meets_request(&rt, rt.alloc(), number) {
-            break;
-        }
-        met = met.wrapping_add(1);
-    }
-    assert!(rt; met > 0 && met < 30, "{met} requests");
 }

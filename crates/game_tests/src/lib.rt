@@ -17,6 +17,10 @@ mod packs;
 #[cfg(test)]
 mod plain_game;
 #[cfg(test)]
+mod refused;
+#[cfg(test)]
 mod situations;
 #[cfg(test)]
 mod turns;
+#[cfg(test)]
+mod twins;

@@ -1,8 +1,9 @@
 //! Worked examples by the situational rule, some of them by the positional rule beside it.
 ghost use Rattle.std.specs.Prelude.{◌≡◌, []};
 
-use crate::choices::{assert_same, is_legal};
+use crate::choices::is_legal;
 use crate::games::{has_taken, play_ko, plays_at, refuses, size_of, takes, turn, undoes};
+use crate::twins::{assert_same, plays};
 use failing::Failing;
 use go_board::{Colour, Grid, Point, Size, Taken, Vertex};
 use go_game::{Game, PlayError, Superko};
@@ -188,41 +189,6 @@ fn a_start_with_black_to_move(rt: HostRuntime) {
     refuses(&rt, &mut game, Colour::Black, b"A1", PlayError::Repeats(0));
 }
 
-/// Passes in both games, again where there was no memory for it in the first, which is as it was then.
-/// How many passes were refused.
-fn passes<A: Allocator + Copy, B: Allocator + Copy>(
-    rt: &impl Abort,
-    game: &mut Game<A>,
-    twin: &mut Game<B>,
-    colour: Colour,
-) -> u32 {
-    let made = turn(rt, game.size(), colour, b"pass");
-    let mut refused = 0u32;
-    let played = game.play(made);
-    if played != Ok(NONE) {
-        assert!(rt; played == Err(PlayError::Memory));
-        assert_same(rt, game, twin);
-        same_plays_at_a1(rt, game, twin);
-        refused = 1;
-        assert!(rt; game.play(made) == Ok(NONE));
-    }
-    assert!(rt; twin.play(made) == Ok(NONE));
-    assert_same(rt, game, twin);
-    refused
-}
-
-/// Asserts that in two games the same colours may play on A1.
-fn same_plays_at_a1<A: Allocator + Copy, B: Allocator + Copy>(
-    rt: &impl Abort,
-    game: &mut Game<A>,
-    twin: &mut Game<B>,
-) {
-    for colour in [Colour::Black, Colour::White] {
-        let legal = is_legal(rt, game, colour, b"A1");
-        assert!(rt; legal == is_legal(rt, twin, colour, b"A1"));
-    }
-}
-
 /// Twelve passes on one point. How many were refused.
 fn twelve_passes<A: Allocator + Copy>(
     rt: &impl Abort,
@@ -234,8 +200,8 @@ fn twelve_passes<A: Allocator + Copy>(
     let mut refused = 0u32;
     for _ in 0..6 {
         for colour in [Colour::Black, Colour::White] {
-            let met = passes(rt, game, &mut twin, colour);
-            refused = refused.wrapping_add(met);
+            let pass = turn(rt, twin.size(), colour, b"pass");
+            refused = refused.wrapping_add(plays(rt, game, &mut twin, pass));
         }
     }
     refused

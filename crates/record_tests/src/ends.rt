@@ -1,8 +1,9 @@
 //! When the tools stop reading, and what they pass on.
+use failing::Failing;
 use go_sgf::SgfError;
-use goref_tools::{ToolError, judge_run, tidy_run};
+use goref_tools::{ToolError, judge_run, read_input, tidy_run};
 use memory_devices::{HoldingWriter, Reader, Writer};
-use std::alloc::Global;
+use std::alloc::{Allocator, Global};
 use std::cell::Cell;
 use std::process::Abort;
 use std::test::Fail;
@@ -97,4 +98,34 @@ fn a_verdict_is_passed_on_whole(rt: HostRuntime) {
     let end = judge_run(rt.alloc(), &mut Reader::new(SAMPLE), &mut writer);
     assert!(rt; end == Ok(()));
     assert!(rt; writer.ends() == [35].as_slice());
+}
+
+/// Whether a whole input is read with this allocator; that memory was wanted, if not.
+fn reads_input<A: Allocator + Copy>(rt: &impl Abort, alloc: A) -> bool {
+    let mut reader = Reader::new(SAMPLE).in_pieces_of(5);
+    match read_input(alloc, &mut reader) {
+        Ok(bytes) => {
+            assert!(rt; bytes.as_slice() == SAMPLE);
+            true
+        }
+        Err(why) => {
+            assert!(rt; why == ToolError::Memory);
+            false
+        }
+    }
+}
+
+#[test]
+fn each_request_of_an_input(rt: HostRuntime) {
+    let mut requests = 0u64;
+    for number in 1..50u64 {
+        let failing = Failing::new(rt.alloc(), number);
+        let done = reads_input(&rt, &failing);
+        assert!(rt; done == failing.waits(), "request {number}");
+        if done {
+            requests = number - 1;
+            break;
+        }
+    }
+    assert!(rt; requests > 0, "{requests} requests");
 }

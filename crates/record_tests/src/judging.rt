@@ -216,6 +216,53 @@ fn failing_devices(rt: HostRuntime) {
     takes(&rt, alloc, unflushed, VERDICT.len() as u64);
 }
 
+/// Why there is no verdict on the record that repeats a position.
+const REPEATS: ToolError = ToolError::Record(RecordError::Illegal(4, PlayError::Repeats(3)));
+
+/// Each read up to the end fails; a write or a flush cannot, since none is made.
+#[test]
+fn failing_devices_at_a_refused_record(rt: HostRuntime) {
+    let alloc = rt.alloc();
+    assert!(rt; REPEATING.len() == 32);
+    for pull in 1..=33u64 {
+        let reader = Reader::new(REPEATING).in_pieces_of(1).failing_at(pull);
+        fails(&rt, alloc, reader, ToolError::Read);
+    }
+    let reader = Reader::new(REPEATING).in_pieces_of(1).failing_at(34);
+    fails(&rt, alloc, reader, REPEATS);
+    let mut writer = Writer::new(alloc).failing_at_put(1).failing_at_flush(1);
+    let end = judging(alloc, &mut Reader::new(REPEATING), &mut writer);
+    assert!(rt; end == Err(REPEATS));
+    assert!(rt; writer.put_count() == 0 && writer.flush_count() == 0);
+}
+
+/// Whether a record is refused for its repetition with this allocator; that memory was wanted, if not.
+/// Nothing is written either way.
+fn refuses_repetition<A: Allocator + Copy>(rt: &impl Abort, alloc: A, ample: Global) -> bool {
+    let mut writer = Writer::new(ample);
+    let result = judging(alloc, &mut Reader::new(REPEATING), &mut writer);
+    assert!(rt; writer.put_count() == 0 && writer.flush_count() == 0);
+    let done = result == Err(REPEATS);
+    assert!(rt; done || result == Err(ToolError::Memory));
+    done
+}
+
+#[test]
+fn each_request_at_a_refused_record(rt: HostRuntime) {
+    let alloc = rt.alloc();
+    let mut requests = 0;
+    for number in 1..200u64 {
+        let failing = Failing::new(alloc, number);
+        let done = refuses_repetition(&rt, &failing, alloc);
+        assert!(rt; done == failing.waits(), "request {number}");
+        if done {
+            requests = number - 1;
+            break;
+        }
+    }
+    assert!(rt; requests > 5 && requests < 100, "{requests} requests");
+}
+
 /// Whether there is a verdict on a record with this allocator; that memory was wanted and nothing
 /// was written, if not.
 fn judges<A: Allocator + Copy>(rt: &impl Abort, alloc: A, ample: Global) -> bool {

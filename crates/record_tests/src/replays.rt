@@ -1,8 +1,8 @@
 use failing::Failing;
-use go_board::{Colour, Move, Pen, Point, Vertex, WriteFault, read_vertex};
+use go_board::{Area, Colour, Move, Pen, Point, Size, Vertex, WriteFault, read_vertex};
 use go_game::{Game, PlayError, Superko, hundredths_text, score_text};
 use go_record::{RecordError, Stated, Verdict, judge, put_record, replay, replay_on, write_record};
-use go_sgf::{Collection, read, trim};
+use go_sgf::{Collection, SgfError, read, trim};
 use memory_devices::Writer;
 use std::alloc::{Allocator, Global};
 use std::process::Abort;
@@ -235,7 +235,6 @@ fn the_rule_of_a_record(rt: HostRuntime) {
     }
 }
 
-/// Writes the record of a game.
 #[test]
 fn replay_in_place(rt: HostRuntime) {
     let alloc = rt.alloc();
@@ -251,6 +250,7 @@ fn replay_in_place(rt: HostRuntime) {
     assert!(rt; game.is_vacant());
 }
 
+/// Writes the record of a game.
 fn written(game: &Game<Global>, writer: &mut Writer<Global>) -> Result<(), WriteFault> {
     write_record(game, writer)
 }
@@ -449,6 +449,43 @@ fn each_refused(rt: &impl Abort, alloc: Global, is_judged: bool) {
 fn each_request_for_memory_refused(rt: HostRuntime) {
     each_refused(&rt, rt.alloc(), false);
     each_refused(&rt, rt.alloc(), true);
+}
+
+/// Whether a replay in place comes to its end with this allocator. Where memory was wanted the game is
+/// vacant, and replays the record then.
+fn replays_in_place(rt: &impl Abort, failing: &Failing<Global>, ample: Global) -> bool {
+    let mut game = Game::new(failing, Size::new(9).expect(rt, "a size"));
+    let collection = match read(failing, SET_UP) {
+        Ok(collection) => collection,
+        Err(why) => {
+            assert!(rt; why == SgfError::Memory);
+            return false;
+        }
+    };
+    let result = replay_on(&mut game, &collection, None);
+    if result.is_err() {
+        assert!(rt; result == Err(RecordError::Memory));
+        assert!(rt; game.is_vacant() && game.area() == Area { black: 0, white: 0 });
+        assert!(rt; replay_on(&mut game, &collection, None) == Ok(()));
+    }
+    let twin = game_of(rt, ample, SET_UP, None);
+    assert!(rt; game.move_count() == twin.move_count() && game.margin() == twin.margin());
+    result.is_ok()
+}
+
+#[test]
+fn each_request_of_a_replay_in_place(rt: HostRuntime) {
+    let mut requests = 0u64;
+    for number in 1..200u64 {
+        let failing = Failing::new(rt.alloc(), number);
+        let done = replays_in_place(&rt, &failing, rt.alloc());
+        assert!(rt; done == failing.waits(), "request {number}");
+        if done {
+            requests = number - 1;
+            break;
+        }
+    }
+    assert!(rt; requests > 5, "{requests} requests");
 }
 
 #[test]

@@ -1,3 +1,4 @@
+use crate::rows::CAPTURE;
 use crate::scripts::says;
 use crate::sessions::told;
 use go_board::Size;
@@ -6,15 +7,7 @@ use std::test::Fail;
 
 #[test]
 fn two_by_two_capture(rt: HostRuntime) {
-    says(
-        &rt,
-        rt.alloc(),
-        b"boardsize 2\nplay b A1\nplay w B1\nplay w A2\ngoref-chains\nshowboard\nplay b a1\n",
-        b"=\n\n=\n\n=\n\n=\n\n\
-        = W B1 : A1 B2\nW A2 : A1 B2\n\n\
-        = size 2 komi 0 prisoners B 1 W 0 moves 3 next B\n 2 O .\n 1 . O\n   A B\n\n\
-        ? illegal move\n\n",
-    );
+    says(&rt, rt.alloc(), CAPTURE.script, CAPTURE.answers);
 }
 
 #[test]

@@ -1,18 +1,14 @@
+use crate::rows::{FREE_HANDICAP, HANDICAP, HANDICAP_AFTER_PASS};
 use crate::scripts::says;
 
 #[test]
 fn handicap_is_no_move(rt: HostRuntime) {
+    says(&rt, rt.alloc(), HANDICAP.script, HANDICAP.answers);
     says(
         &rt,
         rt.alloc(),
-        b"boardsize 9\nfixed_handicap 2\nundo\nfixed_handicap 2\n",
-        b"=\n\n= C3 G7\n\n? cannot undo\n\n? board not empty\n\n",
-    );
-    says(
-        &rt,
-        rt.alloc(),
-        b"clear_board\nplay b pass\nfixed_handicap 2\n",
-        b"=\n\n=\n\n? board not empty\n\n",
+        HANDICAP_AFTER_PASS.script,
+        HANDICAP_AFTER_PASS.answers,
     );
 }
 
@@ -70,18 +66,7 @@ fn the_start_of_a_handicap(rt: HostRuntime) {
 
 #[test]
 fn free_handicap(rt: HostRuntime) {
-    says(
-        &rt,
-        rt.alloc(),
-        b"boardsize 9\nset_free_handicap a1 a1\nset_free_handicap a1\nset_free_handicap a1 pass\n\
-        set_free_handicap a1 t19\nset_free_handicap a1 5b\nset_free_handicap a1 b2\nshowboard\n",
-        b"=\n\n? bad vertex list\n\n? bad vertex list\n\n? bad vertex list\n\n? bad vertex list\n\n\
-        ? syntax error\n\n=\n\n\
-        = size 9 komi 0 prisoners B 0 W 0 moves 0 next W\n \
-        9 . . . . . . . . .\n 8 . . . . . . . . .\n 7 . . . . . . . . .\n \
-        6 . . . . . . . . .\n 5 . . . . . . . . .\n 4 . . . . . . . . .\n \
-        3 . . . . . . . . .\n 2 . X . . . . . . .\n 1 X . . . . . . . .\n   A B C D E F G H J\n\n",
-    );
+    says(&rt, rt.alloc(), FREE_HANDICAP.script, FREE_HANDICAP.answers);
 }
 
 #[test]

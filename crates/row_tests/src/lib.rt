@@ -6,6 +6,8 @@ mod again;
 #[cfg(test)]
 mod boards;
 #[cfg(test)]
+mod faults;
+#[cfg(test)]
 mod handicaps;
 #[cfg(test)]
 mod lines;
@@ -14,9 +16,15 @@ mod loads;
 #[cfg(test)]
 mod matches;
 #[cfg(test)]
+mod memory;
+#[cfg(test)]
 mod plays;
 #[cfg(test)]
 mod refused_loads;
+#[cfg(test)]
+mod resending;
+#[cfg(test)]
+mod rows;
 #[cfg(test)]
 mod scripts;
 #[cfg(test)]

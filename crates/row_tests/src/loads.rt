@@ -1,3 +1,4 @@
+use crate::rows::{LOAD, PRINTED};
 use crate::sessions::answered;
 use go_board::Size;
 use goref::{Fetched, Flow, Line, Session};
@@ -7,7 +8,7 @@ use std::alloc::{AllocError, Allocator, Global};
 use std::process::Abort;
 use std::test::Fail;
 
-const HANDICAP_GAME: &[u8] = b"(;GM[1]SZ[9]KM[5.5]AB[cc][gg];W[ee];B[])";
+pub(crate) const HANDICAP_GAME: &[u8] = b"(;GM[1]SZ[9]KM[5.5]AB[cc][gg];W[ee];B[])";
 
 /// What a shelf gives for each name.
 #[derive(Clone, Copy)]
@@ -20,7 +21,7 @@ pub(crate) enum Gift<'a> {
 
 /// A shelf that gives the same for each name, and counts how often it is asked for one of them.
 #[derive(Drop)]
-struct OneFile<'a, A: Allocator + Copy> {
+pub(crate) struct OneFile<'a, A: Allocator + Copy> {
     alloc: A,
     gift: Gift<'a>,
     name: &'a [u8],
@@ -28,6 +29,20 @@ struct OneFile<'a, A: Allocator + Copy> {
 }
 
 impl<'a, A: Allocator + Copy> OneFile<'a, A> {
+    pub(crate) fn named(name: &'a [u8], alloc: A, gift: Gift<'a>) -> OneFile<'a, A> {
+        OneFile {
+            alloc,
+            gift,
+            name,
+            asked: 0,
+        }
+    }
+
+    /// How often it was asked for that name.
+    pub(crate) fn asked(&self) -> usize {
+        self.asked
+    }
+
     fn given(&self) -> Fetched<A> {
         match self.gift {
             Gift::Bytes(bytes) => match bytes.to_vec(self.alloc) {
@@ -91,16 +106,11 @@ fn answers_to(
     answers: &[u8],
     asked: usize,
 ) {
-    let mut shelf = OneFile {
-        alloc,
-        gift,
-        name: b"f",
-        asked: 0,
-    };
+    let mut shelf = OneFile::named(b"f", alloc, gift);
     let mut writer = Writer::new(alloc);
     runs(rt, alloc, reader, &mut writer, &mut shelf);
     assert!(rt; writer.bytes() == answers);
-    assert_eq!(rt; shelf.asked, asked);
+    assert_eq!(rt; shelf.asked(), asked);
 }
 
 /// What a script is answered over a shelf that gives this for `f`.
@@ -110,12 +120,7 @@ pub(crate) fn answers_over(
     gift: Gift<'_>,
     script: &[u8],
 ) -> Result<Vec<u8>, AllocError> {
-    let mut shelf = OneFile {
-        alloc,
-        gift,
-        name: b"f",
-        asked: 0,
-    };
+    let mut shelf = OneFile::named(b"f", alloc, gift);
     let mut writer = Writer::new(alloc);
     runs(rt, alloc, Reader::new(script), &mut writer, &mut shelf);
     writer.bytes().to_vec(alloc)
@@ -134,17 +139,12 @@ fn a_long_name(rt: HostRuntime) -> Result<(), Fail> {
     let mut script = b"loadsgf ".to_vec(alloc)?;
     script.extend_from_slice(name.as_slice())?;
     script.push(b'\n')?;
-    let mut shelf = OneFile {
-        alloc,
-        gift: Gift::Bytes(HANDICAP_GAME),
-        name: name.as_slice(),
-        asked: 0,
-    };
+    let mut shelf = OneFile::named(name.as_slice(), alloc, Gift::Bytes(HANDICAP_GAME));
     let mut writer = Writer::new(alloc);
     let reader = Reader::new(script.as_slice());
     runs(&rt, alloc, reader, &mut writer, &mut shelf);
     assert!(rt; writer.bytes() == b"=\n\n".as_slice());
-    assert_eq!(rt; shelf.asked, 1);
+    assert_eq!(rt; shelf.asked(), 1);
     Ok(())
 }
 
@@ -155,8 +155,8 @@ fn load_a_record(rt: HostRuntime) {
         &rt,
         alloc,
         Gift::Bytes(HANDICAP_GAME),
-        b"loadsgf f 2\nshowboard\nundo\nundo\n",
-        b"=\n\n= size 9 komi 5.5 prisoners B 0 W 0 moves 1 next B\n 9 . . . . . . . . .\n 8 . . . . . . . . .\n 7 . . X . . . . . .\n 6 . . . . . . . . .\n 5 . . . . O . . . .\n 4 . . . . . . . . .\n 3 . . . . . . X . .\n 2 . . . . . . . . .\n 1 . . . . . . . . .\n   A B C D E F G H J\n\n=\n\n? cannot undo\n\n",
+        LOAD.script,
+        LOAD.answers,
         1,
     );
     says(
@@ -310,8 +310,8 @@ fn print_the_record(rt: HostRuntime) {
         &rt,
         rt.alloc(),
         Gift::Missing,
-        b"boardsize 9\nkomi 6.5\nfixed_handicap 2\nplay w e5\nplay b pass\ngoref-printsgf\n",
-        b"=\n\n=\n\n= C3 G7\n\n=\n\n=\n\n= (;GM[1]FF[4]SZ[9]KM[6.5]PL[W]AB[cg][gc];W[ee];B[])\n\n",
+        PRINTED.script,
+        PRINTED.answers,
         0,
     );
     says(

@@ -1,3 +1,4 @@
+use crate::rows::{CHOICE_ON_TINY_BOARDS, CHOICE_ON_TWO_LINES, REPETITION};
 use crate::scripts::says;
 
 #[test]
@@ -5,8 +6,8 @@ fn choice_on_tiny_boards(rt: HostRuntime) {
     says(
         &rt,
         rt.alloc(),
-        b"boardsize 1\ngenmove b\ngoref-legal b\nboardsize 3\nreg_genmove b\ngenmove b\ngenmove w\nfinal_score\n",
-        b"=\n\n= pass\n\n=\n\n=\n\n= B2\n\n= B2\n\n= A1\n\n= 0\n\n",
+        CHOICE_ON_TINY_BOARDS.script,
+        CHOICE_ON_TINY_BOARDS.answers,
     );
 }
 
@@ -15,8 +16,8 @@ fn choice_on_two_lines(rt: HostRuntime) {
     says(
         &rt,
         rt.alloc(),
-        b"boardsize 2\ngenmove b\ngenmove w\ngenmove b\ngenmove w\ngenmove b\nundo\nundo\nundo\nundo\nundo\nundo\n",
-        b"=\n\n= A1\n\n= B2\n\n= B1\n\n= A2\n\n= A1\n\n=\n\n=\n\n=\n\n=\n\n=\n\n? cannot undo\n\n",
+        CHOICE_ON_TWO_LINES.script,
+        CHOICE_ON_TWO_LINES.answers,
     );
 }
 
@@ -32,12 +33,7 @@ fn legal_plays_on_two_lines(rt: HostRuntime) {
 
 #[test]
 fn repetition_refused(rt: HostRuntime) {
-    says(
-        &rt,
-        rt.alloc(),
-        b"boardsize 2\nplay b A1\nplay w B1\nplay w A2\nplay b a1\ngoref-legal b\ngoref-legal w\n",
-        b"=\n\n=\n\n=\n\n=\n\n? illegal move\n\n=\n\n= A1 B2\n\n",
-    );
+    says(&rt, rt.alloc(), REPETITION.script, REPETITION.answers);
 }
 
 #[test]

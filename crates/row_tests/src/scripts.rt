@@ -1,3 +1,4 @@
+use crate::rows::{KO, KO_AFTER_PASSES};
 use crate::sessions::answered;
 use go_board::Size;
 use goref::{Fetched, Flow, Line, Session};
@@ -55,7 +56,7 @@ fn answers_to(
 }
 
 /// How a run ends.
-fn ends(
+pub(crate) fn ends(
     rt: &impl Abort,
     alloc: Global,
     mut reader: Reader<'_>,
@@ -201,12 +202,7 @@ fn empty_input_and_quit(rt: HostRuntime) {
 
 #[test]
 fn ko(rt: HostRuntime) {
-    says(
-        &rt,
-        rt.alloc(),
-        b"boardsize 4\nplay b b3\nplay b a2\nplay b b1\nplay w c3\nplay w c1\nplay w d2\nplay w b2\nplay b c2\nplay w b2\nundo\nplay b c2\n",
-        b"=\n\n=\n\n=\n\n=\n\n=\n\n=\n\n=\n\n=\n\n=\n\n? illegal move\n\n=\n\n=\n\n",
-    );
+    says(&rt, rt.alloc(), KO.script, KO.answers);
 }
 
 /// What a writer took of the answers to a script, and how the run ended.
@@ -314,9 +310,8 @@ fn ko_after_passes(rt: HostRuntime) {
     says(
         &rt,
         rt.alloc(),
-        b"boardsize 4\nplay b B3\nplay b A2\nplay b B1\nplay w C3\nplay w C1\nplay w D2\nplay w B2\n\
-        play b C2\nplay w pass\nplay b pass\nplay w b2\n",
-        b"=\n\n=\n\n=\n\n=\n\n=\n\n=\n\n=\n\n=\n\n=\n\n=\n\n=\n\n? illegal move\n\n",
+        KO_AFTER_PASSES.script,
+        KO_AFTER_PASSES.answers,
     );
 }
 

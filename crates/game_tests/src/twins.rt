@@ -1,0 +1,127 @@
+//! Two games that must tell the same: one whose memory may be refused, and a twin that has enough.
+use go_board::{Colour, Move, Point, Vertex};
+use go_game::{Game, PlayError};
+use std::alloc::Allocator;
+use std::process::Abort;
+
+/// Two games tell the same moves, and whose turn it is.
+fn same_turns<A: Allocator + Copy, B: Allocator + Copy>(
+    rt: &impl Abort,
+    game: &Game<A>,
+    twin: &Game<B>,
+) {
+    assert!(rt; game.mover() == twin.mover() && game.start_mover() == twin.start_mover());
+    assert!(rt; game.is_vacant() == twin.is_vacant());
+    assert_eq!(rt; game.move_count(), twin.move_count());
+    for number in 0..twin.move_count() {
+        assert!(rt; game.move_at(number) == twin.move_at(number));
+    }
+}
+
+/// Two games tell the same colours.
+fn same_colours<A: Allocator + Copy, B: Allocator + Copy>(
+    rt: &impl Abort,
+    game: &Game<A>,
+    twin: &Game<B>,
+) {
+    let size = twin.size();
+    for number in 0..size.points() {
+        let p = Point::numbered(size, number);
+        assert!(rt; p.on(game.size()));
+        assert!(rt; game.colour_at(p) == twin.colour_at(p));
+        assert!(rt; game.start_at(p) == twin.start_at(p));
+    }
+}
+
+/// Two games tell the same chain and the same liberties of a point.
+fn same_chain_of<A: Allocator + Copy, B: Allocator + Copy>(
+    rt: &impl Abort,
+    game: &Game<A>,
+    twin: &Game<B>,
+    p: Point,
+) {
+    let size = twin.size();
+    for number in 0..size.points() {
+        let q = Point::numbered(size, number);
+        if p.on(game.size()) && p.on(size) && q.on(game.size()) {
+            assert!(rt; game.same_chain(p, q) == twin.same_chain(p, q));
+            assert!(rt; game.is_liberty(p, q) == twin.is_liberty(p, q));
+        }
+    }
+}
+
+/// Two games tell the same chains and the same liberties.
+fn same_chains<A: Allocator + Copy, B: Allocator + Copy>(
+    rt: &impl Abort,
+    game: &Game<A>,
+    twin: &Game<B>,
+) {
+    for number in 0..twin.size().points() {
+        same_chain_of(rt, game, twin, Point::numbered(twin.size(), number));
+    }
+}
+
+/// Two games answer each question alike that takes no memory.
+pub fn assert_same<A: Allocator + Copy, B: Allocator + Copy>(
+    rt: &impl Abort,
+    game: &Game<A>,
+    twin: &Game<B>,
+) {
+    assert!(rt; game.size() == twin.size() && game.komi() == twin.komi());
+    assert!(rt; game.superko() == twin.superko());
+    assert!(rt; game.area() == twin.area() && game.margin() == twin.margin());
+    for colour in [Colour::Black, Colour::White] {
+        assert!(rt; game.prisoners(colour) == twin.prisoners(colour));
+    }
+    same_turns(rt, game, twin);
+    same_colours(rt, game, twin);
+    same_chains(rt, game, twin);
+}
+
+/// In two games a colour may play on the same points.
+fn same_plays<A: Allocator + Copy, B: Allocator + Copy>(
+    rt: &impl Abort,
+    game: &mut Game<A>,
+    twin: &mut Game<B>,
+    colour: Colour,
+) {
+    let size = twin.size();
+    for number in 0..size.points() {
+        let vertex = Vertex::At(Point::numbered(size, number));
+        let made = Move { colour, vertex };
+        let legal = twin.legal(made).expect(rt, "memory");
+        assert!(rt; game.legal(made) == Ok(legal));
+    }
+}
+
+/// Two games answer each question alike, where there is memory for the answers.
+pub fn assert_whole<A: Allocator + Copy, B: Allocator + Copy>(
+    rt: &impl Abort,
+    game: &mut Game<A>,
+    twin: &mut Game<B>,
+) {
+    assert_same(rt, game, twin);
+    for colour in [Colour::Black, Colour::White] {
+        same_plays(rt, game, twin, colour);
+    }
+}
+
+/// Makes a move in both games, and again where there was no memory for it in the first, which tells
+/// then what it told before. The answer is the twin's. How many times there was no memory.
+pub fn plays<A: Allocator + Copy, B: Allocator + Copy>(
+    rt: &impl Abort,
+    game: &mut Game<A>,
+    twin: &mut Game<B>,
+    made: Move,
+) -> u32 {
+    let mut refused = 0u32;
+    let mut played = game.play(made);
+    if played == Err(PlayError::Memory) {
+        assert_whole(rt, game, twin);
+        refused = 1;
+        played = game.play(made);
+    }
+    assert!(rt; played == twin.play(made));
+    assert_same(rt, game, twin);
+    refused
+}
