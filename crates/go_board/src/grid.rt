@@ -13,8 +13,8 @@ pub struct Grid {
 }
 
 impl Model for Grid {
-    ghost use Rattle.std.specs.Prelude.{◌≡◌, ◌*◌, length, take};
-    ghost use Rattle.go_board.specs.declared.size.TheConstants.{MAX_POINTS};
+    ghost use Rattle.std.specs.Prelude.{◌≡◌, ◌≤◌, ◌*◌, length, take};
+    ghost use Rattle.go_board.specs.declared.size.TheConstants.{MAX_LINES, MAX_POINTS};
     ghost use Rattle.go_board.specs.Grids.{GridValue};
     ghost use Rattle.go_board.specs.Sizes.{lines_of};
 
@@ -25,7 +25,7 @@ impl Model for Grid {
       colours = take (lines_of g.size * lines_of g.size) g.cells;
     } };
 
-    ghost invariant = { λ g. length g.cells ≡ MAX_POINTS };
+    ghost invariant = { λ g. (length g.cells ≡ MAX_POINTS) × (g.size ≤ MAX_LINES) };
 }
 
 impl Grid {

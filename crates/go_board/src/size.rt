@@ -1,6 +1,8 @@
 ghost use Rattle.std.specs.Prelude.{◌≡◌, ◌≤◌, ◌<◌, ◌↔◌, ◌*◌, IsSome, IfSome};
 ghost use Rattle.go_board.specs.declared.size.TheConstants.{MAX_LINES};
 
+use std::marker::Model;
+
 /// The most lines that a board has.
 pub const MAX_LINES: u8 = 25;
 
@@ -11,8 +13,19 @@ pub const MAX_POINTS: usize = MAX_LINES as usize * MAX_LINES as usize;
 #[derive(Clone, Copy, Debug, PartialEq, Eq)]
 pub struct Size {
     lines: u8,
-    pub ghost some: { 0 < lines },
-    pub ghost in_range: { lines ≤ MAX_LINES },
+}
+
+impl Model for Size {
+    ghost use Rattle.std.specs.Prelude.{ℕ, ◌<◌, ◌≤◌};
+    ghost use Rattle.go_board.specs.declared.size.TheConstants.{MAX_LINES};
+
+    ghost Value = { ℕ };
+
+    ghost view = { λ s. s.lines };
+
+    ghost invariant = { λ s. (0 < s.lines) × (s.lines ≤ MAX_LINES) };
+
+    ghost inverse = { λ n. record { lines = n } };
 }
 
 impl Size {

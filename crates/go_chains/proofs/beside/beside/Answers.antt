@@ -12,7 +12,7 @@ returns c =
     let p = number_of n c.args.p in
     let shown = c.as_slice-q-items in
     let p_in : p < n * n = c.points_by_number.ensures.number n c.args.p c.requires in
-    let few : n * n ≤ MAX_POINTS = square-le n c.args.size.in_range in
+    let few : n * n ≤ MAX_POINTS = square-le n (omega arith) in
     are_beside_by_number (record { number = c.points_by_number.ensures.number; back = c.points_by_number.ensures.back; on = c.points_by_number.ensures.on; same = c.points_by_number.ensures.same })
     n p c.args.p c.put_neighbours.new.beside.items c.loop-q.numbers.items
     p_in (sym (c.points_by_number.ensures.back n c.args.p c.requires))

@@ -17,7 +17,7 @@ is_dead-requires g c =
     let is : colour_of old c.args.near ≡ c.args.own = sym c.get.ensures.value ∙ c.if-get-own.false in
     let some = c.requires.own in
     let stone : IsStone (n * n) (tables_of old) c.args.near = (c.requires.near, omega arith) in
-    let h = label_small n (IsAdjacent n) (tables_of old) c.args.size.in_range c.requires.tidy c.args.near stone in
+    let h = label_small n (IsAdjacent n) (tables_of old) (omega arith) c.requires.tidy c.args.near stone in
     let e = c.get-label.ensures.value in omega arith
 
 pub returns-clause-capturing : goal.returns-clause-capturing
@@ -41,5 +41,5 @@ pub returns-clause-few : goal.returns-clause-few
 returns-clause-few g c =
     let n = lines_of c.args.size in
     let old = c.args.cells.now.numbers in
-    let h = size_small n (IsAdjacent n) (tables_of old) c.args.size.in_range c.requires.tidy c.args.near c.take_off.ensures.removed.stone in
+    let h = size_small n (IsAdjacent n) (tables_of old) (omega arith) c.requires.tidy c.args.near c.take_off.ensures.removed.stone in
     let e = c.take_off.ensures.stones in omega arith

@@ -26,22 +26,22 @@ near_small n cells point near a b small tidy stone beside a_is b_is same =
 
 pub get-requires-3 : goal.get-requires-3
 get-requires-3 g c =
-    let s = near_small (lines_of c.args.size) c.args.cells.now.numbers c.args.point c.args.near c.get.result c.get-2.result c.args.size.in_range c.requires.tidy c.requires.stone c.requires.beside c.get.ensures.value c.get-2.ensures.value c.if-get.false in
+    let s = near_small (lines_of c.args.size) c.args.cells.now.numbers c.args.point c.args.near c.get.result c.get-2.result (omega arith) c.requires.tidy c.requires.stone c.requires.beside c.get.ensures.value c.get-2.ensures.value c.if-get.false in
     let e = c.get-there.ensures.value in let h = s.1 in omega arith
 
 pub get-requires-4 : goal.get-requires-4
 get-requires-4 g c =
-    let s = near_small (lines_of c.args.size) c.args.cells.now.numbers c.args.point c.args.near c.get.result c.get-2.result c.args.size.in_range c.requires.tidy c.requires.stone c.requires.beside c.get.ensures.value c.get-2.ensures.value c.if-get.false in
+    let s = near_small (lines_of c.args.size) c.args.cells.now.numbers c.args.point c.args.near c.get.result c.get-2.result (omega arith) c.requires.tidy c.requires.stone c.requires.beside c.get.ensures.value c.get-2.ensures.value c.if-get.false in
     let e = c.get-here.ensures.value in let h = s.3 in omega arith
 
 pub join-requires-clause-room : goal.join-requires-clause-room
 join-requires-clause-room g c =
-    let s = near_small (lines_of c.args.size) c.args.cells.now.numbers c.args.point c.args.near c.get.result c.get-2.result c.args.size.in_range c.requires.tidy c.requires.stone c.requires.beside c.get.ensures.value c.get-2.ensures.value c.if-get.false in
+    let s = near_small (lines_of c.args.size) c.args.cells.now.numbers c.args.point c.args.near c.get.result c.get-2.result (omega arith) c.requires.tidy c.requires.stone c.requires.beside c.get.ensures.value c.get-2.ensures.value c.if-get.false in
     let h = s.2 in let r = c.requires.room in omega arith
 
 pub join-requires-else-get-2-clause-room : goal.join-requires-else-get-2-clause-room
 join-requires-else-get-2-clause-room g c =
-    let s = near_small (lines_of c.args.size) c.args.cells.now.numbers c.args.point c.args.near c.get.result c.get-2.result c.args.size.in_range c.requires.tidy c.requires.stone c.requires.beside c.get.ensures.value c.get-2.ensures.value c.if-get.false in
+    let s = near_small (lines_of c.args.size) c.args.cells.now.numbers c.args.point c.args.near c.get.result c.get-2.result (omega arith) c.requires.tidy c.requires.stone c.requires.beside c.get.ensures.value c.get-2.ensures.value c.if-get.false in
     let h = s.4 in let r = c.requires.room in omega arith
 
 pub returns-then-get-2-clause-tidy : goal.returns-then-get-2-clause-tidy
@@ -56,7 +56,7 @@ returns-then-get-2-clause-connected g c =
 
 pub returns-then-get-2-clause-length : goal.returns-then-get-2-clause-length
 returns-then-get-2-clause-length g c =
-    let s = near_small (lines_of c.args.size) c.args.cells.now.numbers c.args.point c.args.near c.get.result c.get-2.result c.args.size.in_range c.requires.tidy c.requires.stone c.requires.beside c.get.ensures.value c.get-2.ensures.value c.if-get.false in
+    let s = near_small (lines_of c.args.size) c.args.cells.now.numbers c.args.point c.args.near c.get.result c.get-2.result (omega arith) c.requires.tidy c.requires.stone c.requires.beside c.get.ensures.value c.get-2.ensures.value c.if-get.false in
     let h = s.2 in let r = c.join.ensures.length in omega arith
 
 pub returns-else-get-2-clause-tidy : goal.returns-else-get-2-clause-tidy
@@ -74,7 +74,7 @@ returns-else-get-2-clause-logged g c =
     let n = lines_of c.args.size in
     let old = c.args.cells.now.numbers in
     let new = c.join-else-get-2.new.cells.numbers in
-    let s = near_small n old c.args.point c.args.near c.get.result c.get-2.result c.args.size.in_range c.requires.tidy c.requires.stone c.requires.beside c.get.ensures.value c.get-2.ensures.value c.if-get.false in
+    let s = near_small n old c.args.point c.args.near c.get.result c.get-2.result (omega arith) c.requires.tidy c.requires.stone c.requires.beside c.get.ensures.value c.get-2.ensures.value c.if-get.false in
     let grown = grown-second (n * n) (tables_of old) (tables_of new) c.args.point c.args.near c.join-else-get-2.ensures.joined in
     let more : size_of old (label_of old c.args.point) < size_of old (label_of old c.args.near) =
     (let e = c.get-3.ensures.value ∙ ap (size_of old) c.get-there.ensures.value in let f = c.get-4.ensures.value ∙ ap (size_of old) c.get-here.ensures.value in let h = c.if-get-2.false in omega arith) in
@@ -83,5 +83,5 @@ returns-else-get-2-clause-logged g c =
 
 pub returns-else-get-2-clause-length : goal.returns-else-get-2-clause-length
 returns-else-get-2-clause-length g c =
-    let s = near_small (lines_of c.args.size) c.args.cells.now.numbers c.args.point c.args.near c.get.result c.get-2.result c.args.size.in_range c.requires.tidy c.requires.stone c.requires.beside c.get.ensures.value c.get-2.ensures.value c.if-get.false in
+    let s = near_small (lines_of c.args.size) c.args.cells.now.numbers c.args.point c.args.near c.get.result c.get-2.result (omega arith) c.requires.tidy c.requires.stone c.requires.beside c.get.ensures.value c.get-2.ensures.value c.if-get.false in
     let h = s.4 in let r = c.join-else-get-2.ensures.length in omega arith

@@ -14,7 +14,7 @@ use Rattle.go_chains.proofs.lift.take_off.Goals as goal
 pub get-stones-requires : goal.get-stones-requires
 get-stones-requires g c =
     let n = lines_of c.args.size in
-    let h = label_small n (IsAdjacent n) (tables_of c.args.cells.now.numbers) c.args.size.in_range c.requires.tidy c.args.stone c.requires.stone in
+    let h = label_small n (IsAdjacent n) (tables_of c.args.cells.now.numbers) (omega arith) c.requires.tidy c.args.stone c.requires.stone in
     let e = c.get-label.ensures.value in omega arith
 
 pub overflow_add-at : goal.overflow_add-at
@@ -23,7 +23,7 @@ overflow_add-at g c =
     let old = c.args.cells.now.numbers in
     let is : c.get-stones.result ≡ size_of old (label_of old c.args.stone) = c.get-stones.ensures.value ∙ ap (size_of old) c.get-label.ensures.value in
     let t = c.loop-test.true in
-    let s = square-le n c.args.size.in_range in
+    let s = square-le n (omega arith) in
     let next = is_next n old c.loop.cells.numbers c.args.stone c.args.own c.args.other c.loop.counter c.loop.at s c.requires.other c.requires.apart c.requires.tidy c.requires.stone c.requires.own (omega arith) c.loop.invariant.at c.loop.invariant.lifted in
     let h = next.inside in omega arith
 
@@ -33,7 +33,7 @@ get-next-requires g c =
     let old = c.args.cells.now.numbers in
     let is : c.get-stones.result ≡ size_of old (label_of old c.args.stone) = c.get-stones.ensures.value ∙ ap (size_of old) c.get-label.ensures.value in
     let t = c.loop-test.true in
-    let s = square-le n c.args.size.in_range in
+    let s = square-le n (omega arith) in
     let next = is_next n old c.loop.cells.numbers c.args.stone c.args.own c.args.other c.loop.counter c.loop.at s c.requires.other c.requires.apart c.requires.tidy c.requires.stone c.requires.own (omega arith) c.loop.invariant.at c.loop.invariant.lifted in
     let h = next.inside in omega arith
 
@@ -43,7 +43,7 @@ lift-requires-clause-point g c =
     let old = c.args.cells.now.numbers in
     let is : c.get-stones.result ≡ size_of old (label_of old c.args.stone) = c.get-stones.ensures.value ∙ ap (size_of old) c.get-label.ensures.value in
     let t = c.loop-test.true in
-    (is_next n old c.loop.cells.numbers c.args.stone c.args.own c.args.other c.loop.counter c.loop.at (square-le n c.args.size.in_range) c.requires.other c.requires.apart c.requires.tidy c.requires.stone c.requires.own (omega arith) c.loop.invariant.at c.loop.invariant.lifted).inside
+    (is_next n old c.loop.cells.numbers c.args.stone c.args.own c.args.other c.loop.counter c.loop.at (square-le n (omega arith)) c.requires.other c.requires.apart c.requires.tidy c.requires.stone c.requires.own (omega arith) c.loop.invariant.at c.loop.invariant.lifted).inside
 
 pub lift-requires-clause-own : goal.lift-requires-clause-own
 lift-requires-clause-own g c =
@@ -51,7 +51,7 @@ lift-requires-clause-own g c =
     let old = c.args.cells.now.numbers in
     let is : c.get-stones.result ≡ size_of old (label_of old c.args.stone) = c.get-stones.ensures.value ∙ ap (size_of old) c.get-label.ensures.value in
     let t = c.loop-test.true in
-    (is_next n old c.loop.cells.numbers c.args.stone c.args.own c.args.other c.loop.counter c.loop.at (square-le n c.args.size.in_range) c.requires.other c.requires.apart c.requires.tidy c.requires.stone c.requires.own (omega arith) c.loop.invariant.at c.loop.invariant.lifted).own_is
+    (is_next n old c.loop.cells.numbers c.args.stone c.args.own c.args.other c.loop.counter c.loop.at (square-le n (omega arith)) c.requires.other c.requires.apart c.requires.tidy c.requires.stone c.requires.own (omega arith) c.loop.invariant.at c.loop.invariant.lifted).own_is
 
 pub lift-requires-clause-labels : goal.lift-requires-clause-labels
 lift-requires-clause-labels g c =
@@ -59,14 +59,14 @@ lift-requires-clause-labels g c =
     let old = c.args.cells.now.numbers in
     let is : c.get-stones.result ≡ size_of old (label_of old c.args.stone) = c.get-stones.ensures.value ∙ ap (size_of old) c.get-label.ensures.value in
     let t = c.loop-test.true in
-    (is_next n old c.loop.cells.numbers c.args.stone c.args.own c.args.other c.loop.counter c.loop.at (square-le n c.args.size.in_range) c.requires.other c.requires.apart c.requires.tidy c.requires.stone c.requires.own (omega arith) c.loop.invariant.at c.loop.invariant.lifted).labels
+    (is_next n old c.loop.cells.numbers c.args.stone c.args.own c.args.other c.loop.counter c.loop.at (square-le n (omega arith)) c.requires.other c.requires.apart c.requires.tidy c.requires.stone c.requires.own (omega arith) c.loop.invariant.at c.loop.invariant.lifted).labels
 
 pub lift-requires-clause-room : goal.lift-requires-clause-room
 lift-requires-clause-room g c =
     let n = lines_of c.args.size in
     let old = c.args.cells.now.numbers in
     let is : c.get-stones.result ≡ size_of old (label_of old c.args.stone) = c.get-stones.ensures.value ∙ ap (size_of old) c.get-label.ensures.value in
-    let few = size_small n (IsAdjacent n) (tables_of old) c.args.size.in_range c.requires.tidy c.args.stone c.requires.stone in
+    let few = size_small n (IsAdjacent n) (tables_of old) (omega arith) c.requires.tidy c.args.stone c.requires.stone in
     let t = c.loop-test.true in let r = c.requires.room in let l = c.loop.invariant.length in let k = c.loop.invariant.capacity in omega arith
 
 pub loop-preserved : goal.loop-preserved
@@ -77,7 +77,7 @@ loop-preserved g c =
     let inv = c.loop.invariant in
     let is : c.get-stones.result ≡ size_of old (label_of old c.args.stone) = c.get-stones.ensures.value ∙ ap (size_of old) c.get-label.ensures.value in
     let t = c.loop-test.true in
-    let small = square-le n c.args.size.in_range in
+    let small = square-le n (omega arith) in
     let next = is_next n old c.loop.cells.numbers c.args.stone c.args.own c.args.other i c.loop.at small c.requires.other c.requires.apart c.requires.tidy c.requires.stone c.requires.own (omega arith) inv.at inv.lifted in
     let at_in = next.inside in
     record {
@@ -98,7 +98,7 @@ returns-clause-removed g c =
     let is : c.get-stones.result ≡ size_of old (label_of old c.args.stone) = c.get-stones.ensures.value ∙ ap (size_of old) c.get-label.ensures.value in
     let end : c.loop.counter ≡ size_of old (label_of old c.args.stone) = (let a = c.loop-test.false in let b = c.loop.auto.counter-end in omega arith) in
     let P : ℕ → Type 0 = λ k. IsRingLifted n (next_of old) old c.loop.cells.numbers c.args.stone k c.args.other in
-    IsRemoved_ring n old c.loop.cells.numbers c.args.stone c.args.own c.args.other (square-le n c.args.size.in_range) c.requires.other c.requires.tidy c.requires.whole c.requires.stone c.requires.own c.requires.two
+    IsRemoved_ring n old c.loop.cells.numbers c.args.stone c.args.own c.args.other (square-le n (omega arith)) c.requires.other c.requires.tidy c.requires.whole c.requires.stone c.requires.own c.requires.two
     (subst P end c.loop.invariant.lifted)
 
 pub returns-clause-length : goal.returns-clause-length
@@ -106,5 +106,5 @@ returns-clause-length g c =
     let n = lines_of c.args.size in
     let old = c.args.cells.now.numbers in
     let is : c.get-stones.result ≡ size_of old (label_of old c.args.stone) = c.get-stones.ensures.value ∙ ap (size_of old) c.get-label.ensures.value in
-    let few = size_small n (IsAdjacent n) (tables_of old) c.args.size.in_range c.requires.tidy c.args.stone c.requires.stone in
+    let few = size_small n (IsAdjacent n) (tables_of old) (omega arith) c.requires.tidy c.args.stone c.requires.stone in
     let a = c.loop-test.false in let b = c.loop.auto.counter-end in let l = c.loop.invariant.length in omega arith

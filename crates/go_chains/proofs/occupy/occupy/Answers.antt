@@ -16,13 +16,13 @@ deprive-requires-clause-labels g c k d below =
     let n = lines_of c.args.size in
     let same = get_or_default c.args.beside.now k d 0 below in
     let P : ℕ → Type 0 = λ x. 0 < colour_of c.args.cells.now.numbers x → label_of c.args.cells.now.numbers x < MAX_POINTS in
-    subst P (sym same) (λ some. label_small n (IsAdjacent n) (tables_of c.args.cells.now.numbers) c.args.size.in_range c.requires.tidy (slice_index c.args.beside.now k)
+    subst P (sym same) (λ some. label_small n (IsAdjacent n) (tables_of c.args.cells.now.numbers) (omega arith) c.requires.tidy (slice_index c.args.beside.now k)
     ((c.requires.beside.are k below).1, some))
 
 pub returns-clause-occupied : goal.returns-clause-occupied
 returns-clause-occupied g c =
     let n = lines_of c.args.size in
-    IsOccupied_written n (square-le n c.args.size.in_range)
+    IsOccupied_written n (square-le n (omega arith))
     c.args.cells.now.numbers c.deprive.new.cells.numbers c.replace.new.cells.numbers c.put.new.cells.numbers c.put-2.new.cells.numbers c.put-3.new.cells.numbers c.fill_words.new.cells.numbers
     c.empty_of-words.result c.args.beside.now c.args.point c.args.colour
     c.requires.tidy c.requires.point c.requires.empty c.requires.colour c.requires.beside c.empty_of-words.ensures.marks c.deprive.ensures.deprived

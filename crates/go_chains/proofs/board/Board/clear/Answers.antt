@@ -5,7 +5,7 @@ use Rattle.go_chains.proofs.board.Board.clear.Goals as goal
 
 pub invariant_of-self : goal.invariant_of-self
 invariant_of-self c =
-    IsKept-empty (lines_of c.args.size) c.empty_points.new.cells.numbers (λ p p_in. c.empty_points.ensures.empty p (omega (arith, p_in, c.from.ensures, c.points.ensures.value))) c.args.size.in_range
+    IsKept-empty (lines_of c.args.size) c.empty_points.new.cells.numbers (λ p p_in. c.empty_points.ensures.empty p (omega (arith, p_in, c.from.ensures, c.points.ensures.value))) (omega arith)
 
 pub returns-clause-colours : goal.returns-clause-colours
 returns-clause-colours c =
@@ -13,4 +13,4 @@ returns-clause-colours c =
 
 pub returns-clause-kept : goal.returns-clause-kept
 returns-clause-kept c =
-    IsKept-empty (lines_of c.args.size) c.empty_points.new.cells.numbers (λ p p_in. c.empty_points.ensures.empty p (omega (arith, p_in, c.from.ensures, c.points.ensures.value))) c.args.size.in_range
+    IsKept-empty (lines_of c.args.size) c.empty_points.new.cells.numbers (λ p p_in. c.empty_points.ensures.empty p (omega (arith, p_in, c.from.ensures, c.points.ensures.value))) (omega arith)
