@@ -1,5 +1,6 @@
 pub mod Neighbours
 pub mod Rewinding
+pub mod Editing
 pub mod Ringing
 pub mod Tidying
 pub mod Wholes

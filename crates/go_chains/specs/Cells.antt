@@ -1,5 +1,5 @@
 -- How the cells are arranged, and what they say.
-use Rattle.std.specs.Prelude.{ℕ, List, ◌≡◌, ◌≢◌, ◌+◌, ◌*◌, ◌/◌, ◌%◌, slice_index}
+use Rattle.std.specs.Prelude.{ℕ, List, ◌≡◌, ◌≢◌, ◌+◌, ◌-◌, ◌*◌, ◌/◌, ◌%◌, slice_index}
 use Rattle.std.specs.Int.{bit_at}
 use Rattle.go_chains.specs.declared.cells.TheConstants.{LABELS, LINKS, SIZES, LIBERTIES, WORDS}
 use Rattle.go_chains.specs.Tables.{Tables}
@@ -22,6 +22,14 @@ next_of cells p = slice_index cells (LINKS + p)
 
 abbrev pub size_of : List ℕ → ℕ → ℕ
 size_of cells l = slice_index cells (SIZES + l)
+
+-- how many stones the chain of a stone has
+abbrev pub chain_size : List ℕ → ℕ → ℕ
+chain_size cells p = size_of cells (label_of cells p)
+
+-- how many stones the chain of a stone has gained
+abbrev pub growth : List ℕ → List ℕ → ℕ → ℕ
+growth old new p = chain_size new p - chain_size old p
 
 abbrev pub word_of : List ℕ → ℕ → ℕ → ℕ
 word_of cells l w = slice_index cells (LIBERTIES + WORDS * l + w)

@@ -6,6 +6,7 @@ pub mod Cells
 pub mod Writes
 pub mod Sound
 pub mod Rewound
+pub mod Edits
 pub mod Beside
 pub mod Words
 pub mod Parts

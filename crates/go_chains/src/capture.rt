@@ -6,7 +6,7 @@ ghost use Rattle.go_board.specs.declared.size.TheConstants.{MAX_POINTS};
 ghost use Rattle.go_chains.specs.declared.cells.TheConstants.{WORDS};
 ghost use Rattle.go_chains.specs.Beside.{AreBeside};
 ghost use Rattle.go_chains.specs.Cells.{colour_of, label_of, lib_of, size_of, tables_of};
-ghost use Rattle.go_chains.specs.Rewound.{Logged};
+ghost use Rattle.go_chains.specs.Edits.{Edited};
 ghost use Rattle.go_chains.specs.Steps.{CountsTaken, IsCapturing};
 ghost use Rattle.go_chains.specs.Tables.{IsDead, IsStone, IsTidy, IsWhole, Tables};
 
@@ -93,11 +93,8 @@ pub fn take_one<A: Allocator + Copy>(
         (tables_of cells.new.numbers) own result }
     ensures few { result ≤ MAX_POINTS }
     ensures bound { result ≤ size_of cells.old.numbers (label_of cells.old.numbers near) }
-    ensures logged { Logged cells.old cells.new changes.old.items changes.new.items (5 * result) }
-    ensures capacity { vec_capacity changes.old ≤ vec_capacity changes.new }
-    ensures length { vec_len changes.new ≤ vec_len changes.old + 5 * MAX_POINTS }
-    ensures count { meter.new ≤ meter.old + (WORDS + 5 + 18 * result) }
-    ensures ticked { meter.old + vec_len changes.new ≤ meter.new + vec_len changes.old }
+    ensures edited { Edited cells.old cells.new changes.old changes.new meter.old meter.new
+        (5 * result) (WORDS + 5 + 18 * result) }
 {
     if cells.get(near, meter) != own {
         return 0;
@@ -143,11 +140,8 @@ pub fn capture<A: Allocator + Copy>(
     ensures stones { CountsTaken (lines_of size * lines_of size) (tables_of cells.old.numbers)
         (tables_of cells.new.numbers) own result }
     ensures few { result ≤ 4 * MAX_POINTS }
-    ensures logged { Logged cells.old cells.new changes.old.items changes.new.items (5 * result) }
-    ensures capacity { vec_capacity changes.old ≤ vec_capacity changes.new }
-    ensures length { vec_len changes.new ≤ vec_len changes.old + 20 * MAX_POINTS }
-    ensures count { meter.new ≤ meter.old + (4 * (WORDS + 5) + 18 * result) }
-    ensures ticked { meter.old + vec_len changes.new ≤ meter.new + vec_len changes.old }
+    ensures edited { Edited cells.old cells.new changes.old changes.new meter.old meter.new
+        (5 * result) (4 * (WORDS + 5) + 18 * result) }
 {
     let mut taken = 0;
     for near in beside {

@@ -5,8 +5,8 @@ ghost use Rattle.go_board.specs.Sizes.{lines_of};
 ghost use Rattle.go_board.specs.declared.size.TheConstants.{MAX_POINTS};
 ghost use Rattle.go_chains.specs.declared.cells.TheConstants.{WORDS};
 ghost use Rattle.go_chains.specs.Beside.{AreBeside};
-ghost use Rattle.go_chains.specs.Cells.{label_of, size_of, tables_of};
-ghost use Rattle.go_chains.specs.Rewound.{Logged};
+ghost use Rattle.go_chains.specs.Cells.{chain_size, growth, tables_of};
+ghost use Rattle.go_chains.specs.Edits.{Edited};
 ghost use Rattle.go_chains.specs.Steps.{IsConnected, IsConnectedTo};
 ghost use Rattle.go_chains.specs.Tables.{IsStone, IsTidy};
 
@@ -35,15 +35,9 @@ fn connect_one<A: Allocator + Copy>(
         (tables_of cells.new.numbers) }
     ensures connected { IsConnected (lines_of size * lines_of size) (tables_of cells.old.numbers)
         (tables_of cells.new.numbers) point near }
-    ensures logged { Logged cells.old cells.new changes.old.items changes.new.items
-        (size_of cells.new.numbers (label_of cells.new.numbers point) - size_of cells.old.numbers (label_of cells.old.numbers point)
-        + WORDS + 3) }
-    ensures capacity { vec_capacity changes.old ≤ vec_capacity changes.new }
-    ensures length { vec_len changes.new ≤ vec_len changes.old + (MAX_POINTS + WORDS + 3) }
-    ensures count { meter.new ≤ meter.old
-        + (3 * (size_of cells.new.numbers (label_of cells.new.numbers point)
-        - size_of cells.old.numbers (label_of cells.old.numbers point)) + 3 * WORDS + 15) }
-    ensures ticked { meter.old + vec_len changes.new ≤ meter.new + vec_len changes.old }
+    ensures edited { Edited cells.old cells.new changes.old changes.new meter.old meter.new
+        (growth cells.old.numbers cells.new.numbers point + WORDS + 3)
+        (3 * growth cells.old.numbers cells.new.numbers point + 3 * WORDS + 15) }
 {
     if cells.get(near, meter) != cells.get(point, meter) {
         return;
@@ -78,15 +72,10 @@ pub fn connect<A: Allocator + Copy>(
         (tables_of cells.new.numbers) }
     ensures connected { IsConnectedTo (lines_of size * lines_of size) (tables_of cells.old.numbers)
         (tables_of cells.new.numbers) point beside.now (length beside.now) }
-    ensures logged { Logged cells.old cells.new changes.old.items changes.new.items
-        (size_of cells.new.numbers (label_of cells.new.numbers point) - size_of cells.old.numbers (label_of cells.old.numbers point)
-        + 4 * (WORDS + 3)) }
-    ensures capacity { vec_capacity changes.old ≤ vec_capacity changes.new }
-    ensures length { vec_len changes.new ≤ vec_len changes.old + 4 * (MAX_POINTS + WORDS + 3) }
-    ensures count { meter.new ≤ meter.old
-        + (3 * (size_of cells.new.numbers (label_of cells.new.numbers point)
-        - size_of cells.old.numbers (label_of cells.old.numbers point)) + 4 * (3 * WORDS + 15)) }
-    ensures ticked { meter.old + vec_len changes.new ≤ meter.new + vec_len changes.old }
+    ensures few { chain_size cells.new.numbers point ≤ MAX_POINTS }
+    ensures edited { Edited cells.old cells.new changes.old changes.new meter.old meter.new
+        (growth cells.old.numbers cells.new.numbers point + 4 * (WORDS + 3))
+        (3 * growth cells.old.numbers cells.new.numbers point + 4 * (3 * WORDS + 15)) }
 {
     for near in beside {
         connect_one(cells, changes, meter, size, point, *near);

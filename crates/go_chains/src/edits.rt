@@ -2,7 +2,7 @@
 ghost use Rattle.std.specs.Prelude.{◌≡◌, ◌<◌, ◌≤◌, ◌+◌, slice_index, vec_capacity, vec_len};
 ghost use Rattle.go_chains.specs.declared.cells.TheConstants.{COUNT};
 ghost use Rattle.go_chains.specs.Cells.{IsWritten};
-ghost use Rattle.go_chains.specs.Rewound.{Logged};
+ghost use Rattle.go_chains.specs.Edits.{Edited};
 
 use crate::cells::Cells;
 use crate::change::Change;
@@ -22,11 +22,7 @@ pub(crate) fn replace<A: Allocator + Copy>(
     requires old { old ≡ slice_index cells.old.numbers place }
     requires room { vec_len changes.old < vec_capacity changes.old }
     ensures written { IsWritten cells.old.numbers cells.new.numbers place number }
-    ensures logged { Logged cells.old cells.new changes.old.items changes.new.items 1 }
-    ensures capacity { vec_capacity changes.old ≤ vec_capacity changes.new }
-    ensures length { vec_len changes.new ≤ vec_len changes.old + 1 }
-    ensures count { meter.new ≤ meter.old + 1 }
-    ensures ticked { meter.old + vec_len changes.new ≤ meter.new + vec_len changes.old }
+    ensures edited { Edited cells.old cells.new changes.old changes.new meter.old meter.new 1 1 }
 {
     if old == number {
         return;
@@ -48,11 +44,7 @@ pub(crate) fn put<A: Allocator + Copy>(
     requires place { place < COUNT }
     requires room { vec_len changes.old < vec_capacity changes.old }
     ensures written { IsWritten cells.old.numbers cells.new.numbers place number }
-    ensures logged { Logged cells.old cells.new changes.old.items changes.new.items 1 }
-    ensures capacity { vec_capacity changes.old ≤ vec_capacity changes.new }
-    ensures length { vec_len changes.new ≤ vec_len changes.old + 1 }
-    ensures count { meter.new ≤ meter.old + 2 }
-    ensures ticked { meter.old + vec_len changes.new ≤ meter.new + vec_len changes.old }
+    ensures edited { Edited cells.old cells.new changes.old changes.new meter.old meter.new 1 2 }
 {
     let old = cells.get(place, meter);
     replace(cells, changes, meter, place, old, number);

@@ -4,8 +4,8 @@ ghost use Rattle.go_board.specs.Paths.{IsAdjacent};
 ghost use Rattle.go_board.specs.Sizes.{lines_of};
 ghost use Rattle.go_board.specs.declared.size.TheConstants.{MAX_POINTS};
 ghost use Rattle.go_chains.specs.declared.cells.TheConstants.{WORDS};
-ghost use Rattle.go_chains.specs.Cells.{colour_of, label_of, next_of, size_of, tables_of, words_for};
-ghost use Rattle.go_chains.specs.Rewound.{Logged};
+ghost use Rattle.go_chains.specs.Cells.{chain_size, colour_of, label_of, next_of, size_of, tables_of, words_for};
+ghost use Rattle.go_chains.specs.Edits.{Edited};
 ghost use Rattle.go_chains.specs.Rings.{steps};
 ghost use Rattle.go_chains.specs.Steps.{IsJoin};
 ghost use Rattle.go_chains.specs.Tables.{IsStone, IsTidy};
@@ -29,11 +29,8 @@ fn relabel<A: Allocator + Copy>(
     requires on { (i : ℕ) → i < stones → steps (next_of cells.old.numbers) i from < MAX_POINTS }
     requires room { vec_len changes.old + stones ≤ vec_capacity changes.old }
     ensures relabelled { IsRelabelled (next_of cells.old.numbers) cells.old.numbers cells.new.numbers from stones to }
-    ensures logged { Logged cells.old cells.new changes.old.items changes.new.items stones }
-    ensures capacity { vec_capacity changes.old ≤ vec_capacity changes.new }
-    ensures length { vec_len changes.new ≤ vec_len changes.old + stones }
-    ensures count { meter.new ≤ meter.old + 3 * stones }
-    ensures ticked { meter.old + vec_len changes.new ≤ meter.new + vec_len changes.old }
+    ensures edited { Edited cells.old cells.new changes.old changes.new meter.old meter.new
+        stones (3 * stones) }
 {
     let mut at = from;
     for _ in 0..stones {
@@ -57,11 +54,8 @@ fn merge_words<A: Allocator + Copy>(
     requires room { vec_len changes.old + WORDS ≤ vec_capacity changes.old }
     ensures merged { IsMerged cells.old.numbers cells.new.numbers keep gone
         (words_for (lines_of size * lines_of size)) }
-    ensures logged { Logged cells.old cells.new changes.old.items changes.new.items WORDS }
-    ensures capacity { vec_capacity changes.old ≤ vec_capacity changes.new }
-    ensures length { vec_len changes.new ≤ vec_len changes.old + WORDS }
-    ensures count { meter.new ≤ meter.old + 3 * WORDS }
-    ensures ticked { meter.old + vec_len changes.new ≤ meter.new + vec_len changes.old }
+    ensures edited { Edited cells.old cells.new changes.old changes.new meter.old meter.new
+        WORDS (3 * WORDS) }
 {
     for word in 0..words_of(size) {
         let place = word_place(keep, word);
@@ -90,14 +84,9 @@ pub fn join<A: Allocator + Copy>(
         + (size_of cells.old.numbers (label_of cells.old.numbers second) + WORDS + 3) ≤ vec_capacity changes.old }
     ensures joined { IsJoin (lines_of size * lines_of size) (tables_of cells.old.numbers)
         (tables_of cells.new.numbers) first second }
-    ensures logged { Logged cells.old cells.new changes.old.items changes.new.items
-        (size_of cells.old.numbers (label_of cells.old.numbers second) + WORDS + 3) }
-    ensures capacity { vec_capacity changes.old ≤ vec_capacity changes.new }
-    ensures length { vec_len changes.new
-        ≤ vec_len changes.old + (size_of cells.old.numbers (label_of cells.old.numbers second) + WORDS + 3) }
-    ensures count { meter.new
-        ≤ meter.old + (3 * size_of cells.old.numbers (label_of cells.old.numbers second) + 3 * WORDS + 9) }
-    ensures ticked { meter.old + vec_len changes.new ≤ meter.new + vec_len changes.old }
+    ensures edited { Edited cells.old cells.new changes.old changes.new meter.old meter.new
+        (chain_size cells.old.numbers second + WORDS + 3)
+        (3 * chain_size cells.old.numbers second + 3 * WORDS + 9) }
 {
     let keep = cells.get(LABELS + first, meter) as usize;
     let gone = cells.get(LABELS + second, meter) as usize;

@@ -4,7 +4,7 @@ ghost use Rattle.go_board.specs.Paths.{IsAdjacent};
 ghost use Rattle.go_board.specs.Sizes.{lines_of};
 ghost use Rattle.go_board.specs.declared.size.TheConstants.{MAX_POINTS};
 ghost use Rattle.go_chains.specs.Cells.{colour_of, label_of, size_of, tables_of};
-ghost use Rattle.go_chains.specs.Rewound.{Logged};
+ghost use Rattle.go_chains.specs.Edits.{Edited};
 ghost use Rattle.go_chains.specs.Steps.{IsRemoved};
 ghost use Rattle.go_chains.specs.Tables.{IsStone, IsTidy, IsWhole};
 ghost use Rattle.go_chains.specs.Writes.{IsGiven, IsGivenBeside, IsLifted};
@@ -28,11 +28,7 @@ fn set_liberty<A: Allocator + Copy>(
     requires point { point < MAX_POINTS }
     requires room { vec_len changes.old < vec_capacity changes.old }
     ensures given { IsGiven cells.old.numbers cells.new.numbers point (λ l. l ≡ label) }
-    ensures logged { Logged cells.old cells.new changes.old.items changes.new.items 1 }
-    ensures capacity { vec_capacity changes.old ≤ vec_capacity changes.new }
-    ensures length { vec_len changes.new ≤ vec_len changes.old + 1 }
-    ensures count { meter.new ≤ meter.old + 2 }
-    ensures ticked { meter.old + vec_len changes.new ≤ meter.new + vec_len changes.old }
+    ensures edited { Edited cells.old cells.new changes.old changes.new meter.old meter.new 1 2 }
 {
     let place = word_place(label, point / 64);
     let word = cells.get(place, meter);
@@ -54,11 +50,7 @@ fn give_one<A: Allocator + Copy>(
     requires room { vec_len changes.old < vec_capacity changes.old }
     ensures given { IsGiven cells.old.numbers cells.new.numbers point
         (λ l. (colour_of cells.old.numbers near ≡ colour) × (label_of cells.old.numbers near ≡ l)) }
-    ensures logged { Logged cells.old cells.new changes.old.items changes.new.items 1 }
-    ensures capacity { vec_capacity changes.old ≤ vec_capacity changes.new }
-    ensures length { vec_len changes.new ≤ vec_len changes.old + 1 }
-    ensures count { meter.new ≤ meter.old + 4 }
-    ensures ticked { meter.old + vec_len changes.new ≤ meter.new + vec_len changes.old }
+    ensures edited { Edited cells.old cells.new changes.old changes.new meter.old meter.new 1 4 }
 {
     if cells.get(near, meter) != colour {
         return;
@@ -84,11 +76,7 @@ fn give_back<A: Allocator + Copy>(
     requires room { vec_len changes.old + 4 ≤ vec_capacity changes.old }
     ensures given { IsGiven cells.old.numbers cells.new.numbers point
         (IsGivenBeside cells.old.numbers beside.now colour (length beside.now)) }
-    ensures logged { Logged cells.old cells.new changes.old.items changes.new.items 4 }
-    ensures capacity { vec_capacity changes.old ≤ vec_capacity changes.new }
-    ensures length { vec_len changes.new ≤ vec_len changes.old + 4 }
-    ensures count { meter.new ≤ meter.old + 16 }
-    ensures ticked { meter.old + vec_len changes.new ≤ meter.new + vec_len changes.old }
+    ensures edited { Edited cells.old cells.new changes.old changes.new meter.old meter.new 4 16 }
 {
     for near in beside {
         give_one(cells, changes, meter, *near, point, colour);
@@ -111,11 +99,7 @@ fn lift<A: Allocator + Copy>(
         → label_of cells.old.numbers s < MAX_POINTS }
     requires room { vec_len changes.old + 5 ≤ vec_capacity changes.old }
     ensures lifted { IsLifted (lines_of size) cells.old.numbers cells.new.numbers point other }
-    ensures logged { Logged cells.old cells.new changes.old.items changes.new.items 5 }
-    ensures capacity { vec_capacity changes.old ≤ vec_capacity changes.new }
-    ensures length { vec_len changes.new ≤ vec_len changes.old + 5 }
-    ensures count { meter.new ≤ meter.old + 17 }
-    ensures ticked { meter.old + vec_len changes.new ≤ meter.new + vec_len changes.old }
+    ensures edited { Edited cells.old cells.new changes.old changes.new meter.old meter.new 5 17 }
 {
     replace(cells, changes, meter, point, own, 0);
     let near = beside(size, Point::numbered(size, point as u16));
@@ -146,11 +130,8 @@ pub fn take_off<A: Allocator + Copy>(
     ensures removed { IsRemoved (lines_of size * lines_of size) (IsAdjacent (lines_of size))
         (tables_of cells.old.numbers) (tables_of cells.new.numbers) stone }
     ensures stones { result ≡ size_of cells.old.numbers (label_of cells.old.numbers stone) }
-    ensures logged { Logged cells.old cells.new changes.old.items changes.new.items (5 * result) }
-    ensures capacity { vec_capacity changes.old ≤ vec_capacity changes.new }
-    ensures length { vec_len changes.new ≤ vec_len changes.old + 5 * MAX_POINTS }
-    ensures count { meter.new ≤ meter.old + (2 + 18 * result) }
-    ensures ticked { meter.old + vec_len changes.new ≤ meter.new + vec_len changes.old }
+    ensures edited { Edited cells.old cells.new changes.old changes.new meter.old meter.new
+        (5 * result) (2 + 18 * result) }
 {
     let label = cells.get(LABELS + stone, meter) as usize;
     let stones = cells.get(SIZES + label, meter) as usize;

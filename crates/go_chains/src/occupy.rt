@@ -6,7 +6,7 @@ ghost use Rattle.go_board.specs.declared.size.TheConstants.{MAX_POINTS};
 ghost use Rattle.go_chains.specs.declared.cells.TheConstants.{WORDS};
 ghost use Rattle.go_chains.specs.Beside.{AreBeside};
 ghost use Rattle.go_chains.specs.Cells.{colour_of, label_of, tables_of, words_for};
-ghost use Rattle.go_chains.specs.Rewound.{Logged};
+ghost use Rattle.go_chains.specs.Edits.{Edited};
 ghost use Rattle.go_chains.specs.Steps.{IsOccupied};
 ghost use Rattle.go_chains.specs.Tables.{IsTidy};
 ghost use Rattle.go_chains.specs.Writes.{IsDeprived, IsFilled, IsMarked, IsStoneBeside, MarksEmpty};
@@ -60,11 +60,7 @@ fn clear_liberty<A: Allocator + Copy>(
     requires point { point < MAX_POINTS }
     requires room { vec_len changes.old < vec_capacity changes.old }
     ensures deprived { IsDeprived cells.old.numbers cells.new.numbers point (λ l. l ≡ label) }
-    ensures logged { Logged cells.old cells.new changes.old.items changes.new.items 1 }
-    ensures capacity { vec_capacity changes.old ≤ vec_capacity changes.new }
-    ensures length { vec_len changes.new ≤ vec_len changes.old + 1 }
-    ensures count { meter.new ≤ meter.old + 2 }
-    ensures ticked { meter.old + vec_len changes.new ≤ meter.new + vec_len changes.old }
+    ensures edited { Edited cells.old cells.new changes.old changes.new meter.old meter.new 1 2 }
 {
     let place = word_place(label, point / 64);
     let word = cells.get(place, meter);
@@ -92,11 +88,7 @@ fn deprive_one<A: Allocator + Copy>(
     requires room { vec_len changes.old < vec_capacity changes.old }
     ensures deprived { IsDeprived cells.old.numbers cells.new.numbers point
         (λ l. (0 < colour_of cells.old.numbers near) × (label_of cells.old.numbers near ≡ l)) }
-    ensures logged { Logged cells.old cells.new changes.old.items changes.new.items 1 }
-    ensures capacity { vec_capacity changes.old ≤ vec_capacity changes.new }
-    ensures length { vec_len changes.new ≤ vec_len changes.old + 1 }
-    ensures count { meter.new ≤ meter.old + 4 }
-    ensures ticked { meter.old + vec_len changes.new ≤ meter.new + vec_len changes.old }
+    ensures edited { Edited cells.old cells.new changes.old changes.new meter.old meter.new 1 4 }
 {
     if cells.get(near, meter) == 0 {
         return;
@@ -121,11 +113,7 @@ fn deprive<A: Allocator + Copy>(
     requires room { vec_len changes.old + 4 ≤ vec_capacity changes.old }
     ensures deprived { IsDeprived cells.old.numbers cells.new.numbers point
         (IsStoneBeside cells.old.numbers beside.now (length beside.now)) }
-    ensures logged { Logged cells.old cells.new changes.old.items changes.new.items 4 }
-    ensures capacity { vec_capacity changes.old ≤ vec_capacity changes.new }
-    ensures length { vec_len changes.new ≤ vec_len changes.old + 4 }
-    ensures count { meter.new ≤ meter.old + 16 }
-    ensures ticked { meter.old + vec_len changes.new ≤ meter.new + vec_len changes.old }
+    ensures edited { Edited cells.old cells.new changes.old changes.new meter.old meter.new 4 16 }
 {
     for near in beside {
         deprive_one(cells, changes, meter, *near, point);
@@ -146,11 +134,8 @@ fn fill_words<A: Allocator + Copy>(
     requires room { vec_len changes.old + WORDS ≤ vec_capacity changes.old }
     ensures filled { IsFilled cells.old.numbers cells.new.numbers label words.now
         (words_for (lines_of size * lines_of size)) }
-    ensures logged { Logged cells.old cells.new changes.old.items changes.new.items WORDS }
-    ensures capacity { vec_capacity changes.old ≤ vec_capacity changes.new }
-    ensures length { vec_len changes.new ≤ vec_len changes.old + WORDS }
-    ensures count { meter.new ≤ meter.old + 2 * WORDS }
-    ensures ticked { meter.old + vec_len changes.new ≤ meter.new + vec_len changes.old }
+    ensures edited { Edited cells.old cells.new changes.old changes.new meter.old meter.new
+        WORDS (2 * WORDS) }
 {
     for word in 0..words_of(size) {
         let place = word_place(label, word);
@@ -177,11 +162,8 @@ pub fn occupy<A: Allocator + Copy>(
     requires room { vec_len changes.old + (WORDS + 8) ≤ vec_capacity changes.old }
     ensures occupied { IsOccupied (lines_of size * lines_of size) (IsAdjacent (lines_of size))
         (tables_of cells.old.numbers) (tables_of cells.new.numbers) point colour }
-    ensures logged { Logged cells.old cells.new changes.old.items changes.new.items (WORDS + 8) }
-    ensures capacity { vec_capacity changes.old ≤ vec_capacity changes.new }
-    ensures length { vec_len changes.new ≤ vec_len changes.old + (WORDS + 8) }
-    ensures count { meter.new ≤ meter.old + (2 * WORDS + 27) }
-    ensures ticked { meter.old + vec_len changes.new ≤ meter.new + vec_len changes.old }
+    ensures edited { Edited cells.old cells.new changes.old changes.new meter.old meter.new
+        (WORDS + 8) (2 * WORDS + 27) }
 {
     let words = empty_of(cells, meter, beside);
     deprive(cells, changes, meter, beside, point);

@@ -1,6 +1,6 @@
 //! A play over the cells: the stone placed and joined, the opponent's chains captured, and then its
 //! own chain taken off if that has no liberty.
-ghost use Rattle.std.specs.Prelude.{◌≡◌, ◌<◌, ◌≤◌, ◌+◌, ◌*◌, Some, slice_set, vec_capacity, vec_len};
+ghost use Rattle.std.specs.Prelude.{◌≡◌, ◌<◌, ◌≤◌, ◌+◌, ◌-◌, ◌*◌, Some, slice_set, vec_capacity, vec_len};
 ghost use Rattle.go_board.specs.Colours.{other};
 ghost use Rattle.go_board.specs.Reaching.{moved, vanished};
 ghost use Rattle.go_board.specs.Sizes.{lines_of};
@@ -8,7 +8,7 @@ ghost use Rattle.go_chains.specs.declared.place.TheConstants.{ROOM};
 ghost use Rattle.go_chains.specs.Beside.{AreBeside};
 ghost use Rattle.go_chains.specs.Cells.{colour_of};
 ghost use Rattle.go_chains.specs.Playing.{most_of};
-ghost use Rattle.go_chains.specs.Rewound.{Logged};
+ghost use Rattle.go_chains.specs.Edits.{Edited};
 ghost use Rattle.go_chains.specs.Sound.{IsKept, colouring_of};
 
 use crate::capture::{capture, take_one};
@@ -49,11 +49,8 @@ pub fn place<A: Allocator + Copy>(
     ensures own { result.own ≡ vanished (lines_of size)
         (slice_set (colouring_of (lines_of size) cells.old.numbers) point (Some colour))
         (colouring_of (lines_of size) cells.new.numbers) colour }
-    ensures logged { Logged cells.old cells.new changes.old.items changes.new.items
-        (most_of (lines_of size) (colouring_of (lines_of size) cells.old.numbers) colour point) }
-    ensures count { meter.new + 1 ≤ meter.old
-        + 3 * most_of (lines_of size) (colouring_of (lines_of size) cells.old.numbers) colour point }
-    ensures ticked { meter.old + vec_len changes.new ≤ meter.new + vec_len changes.old }
+    ensures edited { let most = most_of (lines_of size) (colouring_of (lines_of size) cells.old.numbers) colour point in
+        Edited cells.old cells.new changes.old changes.new meter.old meter.new most (3 * most - 1) }
 {
     joined_by_a_path();
     reaches_by_a_path();

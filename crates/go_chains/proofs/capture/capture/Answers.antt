@@ -1,11 +1,11 @@
-use Rattle.std.proofs.Common.{arith, ◌≡◌, ◌+◌, ◌*◌, ℕ, subst, inl, inr, slice_index}
+use Rattle.std.proofs.Common.{arith, ◌≡◌, ◌*◌, ℕ, subst, inl, inr, slice_index}
 use Rattle.std.proofs.lemmas.Bool.{cases_lt}
 use Rattle.go_board.specs.Paths.{IsAdjacent}
 use Rattle.go_board.specs.Sizes.{lines_of}
 use Rattle.go_chains.specs.Cells.{colour_of, label_of, tables_of}
 use Rattle.go_chains.specs.Tables.{IsDead}
 use Rattle.go_chains.proofs.Capturing.{IsCapturing_none}
-use Rattle.go_chains.proofs.Rewinding.{Logged_then}
+use Rattle.go_chains.proofs.Editing.{Edited_then}
 use Rattle.go_chains.proofs.Taking.{counts_then, stays_empty, still_dead, still_two}
 use Rattle.go_chains.proofs.capture.capture.Goals as goal
 
@@ -41,9 +41,5 @@ loop-near-preserved g c =
           ];
       stones = counts_then (n * n) (IsAdjacent n) (tables_of old) (tables_of mid) (tables_of new) own j k c.requires.own inv.capturing after inv.stones one.stones;
       few = let e = inv.few in let f = one.few in omega arith;
-      logged = Logged_then c.args.cells.now c.loop-near.cells c.take_one-taken.new.cells c.args.changes.now.items c.loop-near.changes.items c.take_one-taken.new.changes.items (5 * j) (5 * k) (5 * (j + k)) inv.logged one.logged (omega arith);
-      capacity = let e = inv.capacity in let f = one.capacity in omega arith;
-      length = let e = inv.length in let f = one.length in omega arith;
-      count = let e = inv.count in let f = one.count in omega arith;
-      ticked = let e = inv.ticked in let f = one.ticked in omega arith;
+      edited = Edited_then inv.edited one.edited (omega arith) (omega arith) (omega arith);
     }

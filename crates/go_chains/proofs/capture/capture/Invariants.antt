@@ -1,10 +1,10 @@
-use Rattle.std.proofs.Common.{◌≡◌, ◌<◌, ◌≤◌, ◌+◌, ◌*◌, ℕ, vec_capacity, vec_len, slice_index}
+use Rattle.std.proofs.Common.{◌≡◌, ◌<◌, ◌≤◌, ◌+◌, ◌*◌, ℕ, slice_index}
 use Rattle.go_board.specs.Paths.{IsAdjacent}
 use Rattle.go_board.specs.Sizes.{lines_of}
 use Rattle.go_board.specs.declared.size.TheConstants.{MAX_POINTS}
 use Rattle.go_chains.specs.declared.cells.TheConstants.{WORDS}
 use Rattle.go_chains.specs.Cells.{colour_of, label_of, tables_of}
-use Rattle.go_chains.specs.Rewound.{Logged}
+use Rattle.go_chains.specs.Edits.{Edited}
 use Rattle.go_chains.specs.Steps.{CountsTaken, IsCapturing}
 use Rattle.go_chains.specs.Tables.{IsDead}
 use Rattle.go_chains.proofs.capture.capture.Given as goal
@@ -18,9 +18,5 @@ invariant-loop-near g l =
       gone : (i : ℕ) → i < l.near-index → colour_of old (slice_index l.fn.beside i) ≡ l.fn.own → IsDead (n * n) (tables_of old) (label_of old (slice_index l.fn.beside i)) → colour_of l.cells.numbers (slice_index l.fn.beside i) ≡ 0;
       stones : CountsTaken (n * n) (tables_of old) (tables_of l.cells.numbers) l.fn.own l.taken;
       few : l.taken ≤ l.near-index * MAX_POINTS;
-      logged : Logged l.fn.cells l.cells l.fn.changes.items l.changes.items (5 * l.taken);
-      capacity : vec_capacity l.fn.changes ≤ vec_capacity l.changes;
-      length : vec_len l.changes ≤ vec_len l.fn.changes + l.near-index * (5 * MAX_POINTS);
-      count : l.meter ≤ l.fn.meter + (l.near-index * (WORDS + 5) + 18 * l.taken);
-      ticked : l.fn.meter + vec_len l.changes ≤ l.meter + vec_len l.fn.changes;
+      edited : Edited l.fn.cells l.cells l.fn.changes l.changes l.fn.meter l.meter (5 * l.taken) (l.near-index * (WORDS + 5) + 18 * l.taken);
     }

@@ -5,6 +5,7 @@ use Rattle.go_chains.specs.Cells.{colour_of, tables_of}
 use Rattle.go_chains.specs.Steps.{CountsTaken}
 use Rattle.go_chains.specs.Tables.{IsDead, IsStone}
 use Rattle.go_chains.proofs.Capturing.{IsCapturing_more}
+use Rattle.go_chains.proofs.Editing.{Edited_none}
 use Rattle.go_chains.proofs.Neighbours.{flip, inside}
 use Rattle.go_chains.proofs.Small.{label_small, size_small}
 use Rattle.go_chains.proofs.Taking.{counts_ring}
@@ -19,6 +20,9 @@ is_dead-requires g c =
     let stone : IsStone (n * n) (tables_of old) c.args.near = (c.requires.near, omega arith) in
     let h = label_small n (IsAdjacent n) (tables_of old) (omega arith) c.requires.tidy c.args.near stone in
     let e = c.get-label.ensures.value in omega arith
+
+pub returns-then-not-is_dead-clause-edited : goal.returns-then-not-is_dead-clause-edited
+returns-then-not-is_dead-clause-edited g c = Edited_none (omega arith) (omega arith)
 
 pub returns-clause-capturing : goal.returns-clause-capturing
 returns-clause-capturing g c t tidy capturing =

@@ -1,14 +1,13 @@
-use Rattle.std.proofs.Common.{arith, ◌≡◌, ◌<◌, ◌≤◌, ◌+◌, ◌-◌, ◌*◌, ℕ, ap, sym, ◌∙◌, List}
+use Rattle.std.proofs.Common.{arith, ◌≡◌, ◌<◌, ◌≤◌, ◌*◌, ℕ, ap, sym, ◌∙◌, List}
 use Rattle.go_board.specs.Paths.{IsAdjacent}
 use Rattle.go_board.specs.Sizes.{lines_of}
 use Rattle.go_board.specs.declared.size.TheConstants.{MAX_LINES, MAX_POINTS}
-use Rattle.go_chains.specs.declared.cells.TheConstants.{WORDS}
-use Rattle.go_chains.specs.Cells.{colour_of, label_of, size_of, tables_of}
+use Rattle.go_chains.specs.Cells.{chain_size, colour_of, label_of, size_of, tables_of}
 use Rattle.go_chains.specs.Tables.{IsStone, IsTidy}
 use Rattle.go_chains.proofs.Connecting.{IsConnected-first, IsConnected-second, beside_stone, grown-second}
+use Rattle.go_chains.proofs.Editing.{Edited_none, Edited_within}
 use Rattle.go_chains.proofs.Joining.{IsTidy-join}
 use Rattle.go_chains.proofs.Neighbours.{flip, inside}
-use Rattle.go_chains.proofs.Rewinding.{Logged_within}
 use Rattle.go_chains.proofs.Small.{label_small, size_small}
 use Rattle.go_chains.proofs.connect.connect_one.Goals as goal
 
@@ -44,6 +43,9 @@ join-requires-else-get-2-clause-room g c =
     let s = near_small (lines_of c.args.size) c.args.cells.now.numbers c.args.point c.args.near c.get.result c.get-2.result (omega arith) c.requires.tidy c.requires.stone c.requires.beside c.get.ensures.value c.get-2.ensures.value c.if-get.false in
     let h = s.4 in let r = c.requires.room in omega arith
 
+pub returns-then-there-here-clause-edited : goal.returns-then-there-here-clause-edited
+returns-then-there-here-clause-edited g c = Edited_none (omega arith) (omega arith)
+
 pub returns-then-get-2-clause-tidy : goal.returns-then-get-2-clause-tidy
 returns-then-get-2-clause-tidy g c =
     let n = lines_of c.args.size in
@@ -53,11 +55,6 @@ pub returns-then-get-2-clause-connected : goal.returns-then-get-2-clause-connect
 returns-then-get-2-clause-connected g c =
     let n = lines_of c.args.size in
     IsConnected-first (n * n) (tables_of c.args.cells.now.numbers) (tables_of c.join.new.cells.numbers) c.args.point c.args.near c.join.ensures.joined
-
-pub returns-then-get-2-clause-length : goal.returns-then-get-2-clause-length
-returns-then-get-2-clause-length g c =
-    let s = near_small (lines_of c.args.size) c.args.cells.now.numbers c.args.point c.args.near c.get.result c.get-2.result (omega arith) c.requires.tidy c.requires.stone c.requires.beside c.get.ensures.value c.get-2.ensures.value c.if-get.false in
-    let h = s.2 in let r = c.join.ensures.length in omega arith
 
 pub returns-else-get-2-clause-tidy : goal.returns-else-get-2-clause-tidy
 returns-else-get-2-clause-tidy g c =
@@ -69,19 +66,12 @@ returns-else-get-2-clause-connected g c =
     let n = lines_of c.args.size in
     IsConnected-second (n * n) (tables_of c.args.cells.now.numbers) (tables_of c.join-else-get-2.new.cells.numbers) c.args.point c.args.near c.join-else-get-2.ensures.joined
 
-pub returns-else-get-2-clause-logged : goal.returns-else-get-2-clause-logged
-returns-else-get-2-clause-logged g c =
+pub returns-else-get-2-clause-edited : goal.returns-else-get-2-clause-edited
+returns-else-get-2-clause-edited g c =
     let n = lines_of c.args.size in
     let old = c.args.cells.now.numbers in
     let new = c.join-else-get-2.new.cells.numbers in
-    let s = near_small n old c.args.point c.args.near c.get.result c.get-2.result (omega arith) c.requires.tidy c.requires.stone c.requires.beside c.get.ensures.value c.get-2.ensures.value c.if-get.false in
     let grown = grown-second (n * n) (tables_of old) (tables_of new) c.args.point c.args.near c.join-else-get-2.ensures.joined in
-    let more : size_of old (label_of old c.args.point) < size_of old (label_of old c.args.near) =
+    let more : chain_size old c.args.point < chain_size old c.args.near =
     (let e = c.get-3.ensures.value ∙ ap (size_of old) c.get-there.ensures.value in let f = c.get-4.ensures.value ∙ ap (size_of old) c.get-here.ensures.value in let h = c.if-get-2.false in omega arith) in
-    Logged_within c.args.cells.now c.join-else-get-2.new.cells c.args.changes.now.items c.join-else-get-2.new.changes.items (size_of old (label_of old c.args.point) + WORDS + 3)
-    (size_of new (label_of new c.args.point) - size_of old (label_of old c.args.point) + WORDS + 3) c.join-else-get-2.ensures.logged (omega arith)
-
-pub returns-else-get-2-clause-length : goal.returns-else-get-2-clause-length
-returns-else-get-2-clause-length g c =
-    let s = near_small (lines_of c.args.size) c.args.cells.now.numbers c.args.point c.args.near c.get.result c.get-2.result (omega arith) c.requires.tidy c.requires.stone c.requires.beside c.get.ensures.value c.get-2.ensures.value c.if-get.false in
-    let h = s.4 in let r = c.join-else-get-2.ensures.length in omega arith
+    Edited_within c.join-else-get-2.ensures.edited (omega arith) (omega arith) (omega arith) (omega arith)

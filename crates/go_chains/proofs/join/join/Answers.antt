@@ -1,11 +1,11 @@
 use Rattle.std.proofs.Common.{arith, ◌≡◌, ◌<◌, ◌+◌, ◌*◌, ap, sym, ◌∙◌}
 use Rattle.go_board.specs.Paths.{IsAdjacent}
 use Rattle.go_board.specs.Sizes.{lines_of}
-use Rattle.go_chains.specs.declared.cells.TheConstants.{LINKS, SIZES, WORDS}
-use Rattle.go_chains.specs.Cells.{label_of, size_of, tables_of, words_for}
+use Rattle.go_chains.specs.declared.cells.TheConstants.{LINKS, SIZES}
+use Rattle.go_chains.specs.Cells.{chain_size, label_of, size_of, tables_of, words_for}
 use Rattle.go_chains.proofs.Joined.{IsJoin_written}
 use Rattle.go_chains.proofs.Neighbours.{square-le}
-use Rattle.go_chains.proofs.Rewinding.{Logged_then}
+use Rattle.go_chains.proofs.Editing.{Edited_next, Edited_within}
 use Rattle.go_chains.proofs.Small.{label_small, ring_small, size_small}
 use Rattle.go_chains.proofs.join.join.Goals as goal
 
@@ -84,13 +84,11 @@ returns-clause-joined g c =
     c.relabel.ensures.relabelled c.get-first_next.ensures.value c.get-second_next.ensures.value
     c.replace.ensures.written c.replace-2.ensures.written c.replace-3.ensures.written (words_for (n * n)) (omega arith) c.merge_words.ensures.merged
 
-pub returns-clause-logged : goal.returns-clause-logged
-returns-clause-logged g c =
-    let old = c.args.cells.now.numbers in
-    let xs = c.args.changes.now.items in
+pub returns-clause-edited : goal.returns-clause-edited
+returns-clause-edited g c =
     let k = c.get-stones.result in
-    let is : k ≡ size_of old (label_of old c.args.second) = c.get-stones.ensures.value ∙ ap (size_of old) c.get-gone.ensures.value in
-    let one = Logged_then c.args.cells.now c.relabel.new.cells c.replace.new.cells xs c.relabel.new.changes.items c.replace.new.changes.items k 1 (k + 1) c.relabel.ensures.logged c.replace.ensures.logged (omega arith) in
-    let two = Logged_then c.args.cells.now c.replace.new.cells c.replace-2.new.cells xs c.replace.new.changes.items c.replace-2.new.changes.items (k + 1) 1 (k + 2) one c.replace-2.ensures.logged (omega arith) in
-    let three = Logged_then c.args.cells.now c.replace-2.new.cells c.replace-3.new.cells xs c.replace-2.new.changes.items c.replace-3.new.changes.items (k + 2) 1 (k + 3) two c.replace-3.ensures.logged (omega arith) in
-    Logged_then c.args.cells.now c.replace-3.new.cells c.merge_words.new.cells xs c.replace-3.new.changes.items c.merge_words.new.changes.items (k + 3) WORDS (size_of old (label_of old c.args.second) + WORDS + 3) three c.merge_words.ensures.logged (omega arith)
+    let is : k ≡ chain_size c.args.cells.now.numbers c.args.second = c.get-stones.ensures.value ∙ ap (size_of c.args.cells.now.numbers) c.get-gone.ensures.value in
+    let one = Edited_next c.relabel.ensures.edited c.replace.ensures.edited (omega arith) in
+    let two = Edited_next one c.replace-2.ensures.edited (omega arith) in
+    let three = Edited_next two c.replace-3.ensures.edited (omega arith) in
+    Edited_within (Edited_next three c.merge_words.ensures.edited (omega arith)) (omega arith) (omega arith) (omega arith) (omega arith)

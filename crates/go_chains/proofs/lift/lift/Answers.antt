@@ -3,7 +3,7 @@ use Rattle.go_board.specs.Sizes.{lines_of}
 use Rattle.go_chains.specs.Beside.{AreBeside}
 use Rattle.go_chains.proofs.Giving.{IsLifted_given}
 use Rattle.go_chains.proofs.Neighbours.{square-le}
-use Rattle.go_chains.proofs.Rewinding.{Logged_then}
+use Rattle.go_chains.proofs.Editing.{Edited_then}
 use Rattle.go_chains.proofs.lift.lift.Goals as goal
 
 pub returns-clause-lifted : goal.returns-clause-lifted
@@ -14,6 +14,5 @@ returns-clause-lifted g c =
     IsLifted_given n c.args.cells.now.numbers c.replace.new.cells.numbers c.give_back.new.cells.numbers c.args.point c.args.other c.as_slice.result.now (square-le n (omega arith)) c.requires.point
     (subst P (sym c.as_slice.ensures.value) (subst Q c.numbered.ensures.back c.beside-near.ensures)) c.replace.ensures.written c.give_back.ensures.given
 
-pub returns-clause-logged : goal.returns-clause-logged
-returns-clause-logged g c =
-    Logged_then c.args.cells.now c.replace.new.cells c.give_back.new.cells c.args.changes.now.items c.replace.new.changes.items c.give_back.new.changes.items 1 4 5 c.replace.ensures.logged c.give_back.ensures.logged (omega arith)
+pub returns-clause-edited : goal.returns-clause-edited
+returns-clause-edited g c = Edited_then c.replace.ensures.edited c.give_back.ensures.edited (omega arith) (omega arith) (omega arith)

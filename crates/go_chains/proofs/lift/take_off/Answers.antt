@@ -1,4 +1,4 @@
-use Rattle.std.proofs.Common.{arith, ◌≡◌, ◌+◌, ◌*◌, ℕ, ap, sym, ◌∙◌, subst}
+use Rattle.std.proofs.Common.{arith, ◌≡◌, ◌+◌, ℕ, ap, sym, ◌∙◌, subst}
 use Rattle.go_board.specs.Paths.{IsAdjacent}
 use Rattle.go_board.specs.Sizes.{lines_of}
 use Rattle.go_chains.specs.declared.cells.TheConstants.{LINKS}
@@ -6,7 +6,7 @@ use Rattle.go_chains.specs.Cells.{label_of, next_of, size_of, tables_of}
 use Rattle.go_chains.specs.Writes.{IsRingLifted}
 use Rattle.go_chains.proofs.Giving.{IsRemoved_ring, IsRingLifted_more, is_next, ring_point}
 use Rattle.go_chains.proofs.Neighbours.{square-le}
-use Rattle.go_chains.proofs.Rewinding.{Logged_then}
+use Rattle.go_chains.proofs.Editing.{Edited_then}
 use Rattle.go_chains.proofs.Ringing.{steps-add}
 use Rattle.go_chains.proofs.Small.{label_small, size_small}
 use Rattle.go_chains.proofs.lift.take_off.Goals as goal
@@ -67,7 +67,7 @@ lift-requires-clause-room g c =
     let old = c.args.cells.now.numbers in
     let is : c.get-stones.result ≡ size_of old (label_of old c.args.stone) = c.get-stones.ensures.value ∙ ap (size_of old) c.get-label.ensures.value in
     let few = size_small n (IsAdjacent n) (tables_of old) (omega arith) c.requires.tidy c.args.stone c.requires.stone in
-    let t = c.loop-test.true in let r = c.requires.room in let l = c.loop.invariant.length in let k = c.loop.invariant.capacity in omega arith
+    let t = c.loop-test.true in let r = c.requires.room in let l = c.loop.invariant.edited.length in let k = c.loop.invariant.edited.capacity in omega arith
 
 pub loop-preserved : goal.loop-preserved
 loop-preserved g c =
@@ -84,11 +84,7 @@ loop-preserved g c =
       at = c.get-next.ensures.value ∙ inv.lifted.above (LINKS + c.loop.at) (omega arith) (omega arith) ∙ ap (next_of old) inv.at ∙ sym (steps-add (next_of old) i 1 c.args.stone);
       lifted = IsRingLifted_more n (next_of old) old c.loop.cells.numbers c.lift.new.cells.numbers c.args.stone i c.args.other c.loop.at small c.requires.other inv.at
           (λ j below. (ring_point n old c.args.stone c.args.own c.requires.tidy c.requires.stone c.requires.own j (omega arith)).0) next.apart_of inv.lifted c.lift.ensures.lifted;
-      logged = Logged_then c.args.cells.now c.loop.cells c.lift.new.cells c.args.changes.now.items c.loop.changes.items c.lift.new.changes.items (5 * i) 5 (5 * (i + 1)) inv.logged c.lift.ensures.logged (omega arith);
-      capacity = let e = inv.capacity in let f = c.lift.ensures.capacity in omega arith;
-      length = let e = inv.length in let f = c.lift.ensures.length in omega arith;
-      count = let e = inv.count in let f = c.lift.ensures.count in let h = c.get-next.ensures.count in omega arith;
-      ticked = let e = inv.ticked in let f = c.lift.ensures.ticked in let h = c.get-next.ensures.count in omega arith;
+      edited = Edited_then inv.edited c.lift.ensures.edited (omega arith) (omega arith) (omega arith);
     }
 
 pub returns-clause-removed : goal.returns-clause-removed
@@ -100,11 +96,3 @@ returns-clause-removed g c =
     let P : ℕ → Type 0 = λ k. IsRingLifted n (next_of old) old c.loop.cells.numbers c.args.stone k c.args.other in
     IsRemoved_ring n old c.loop.cells.numbers c.args.stone c.args.own c.args.other (square-le n (omega arith)) c.requires.other c.requires.tidy c.requires.whole c.requires.stone c.requires.own c.requires.two
     (subst P end c.loop.invariant.lifted)
-
-pub returns-clause-length : goal.returns-clause-length
-returns-clause-length g c =
-    let n = lines_of c.args.size in
-    let old = c.args.cells.now.numbers in
-    let is : c.get-stones.result ≡ size_of old (label_of old c.args.stone) = c.get-stones.ensures.value ∙ ap (size_of old) c.get-label.ensures.value in
-    let few = size_small n (IsAdjacent n) (tables_of old) (omega arith) c.requires.tidy c.args.stone c.requires.stone in
-    let a = c.loop-test.false in let b = c.loop.auto.counter-end in let l = c.loop.invariant.length in omega arith

@@ -1,6 +1,6 @@
-use Rattle.std.proofs.Common.{arith, ◌+◌}
+use Rattle.std.proofs.Common.{arith}
 use Rattle.go_chains.proofs.Depriving.{IsDeprived_more}
-use Rattle.go_chains.proofs.Rewinding.{Logged_then}
+use Rattle.go_chains.proofs.Editing.{Edited_then}
 use Rattle.go_chains.proofs.occupy.deprive.Goals as goal
 
 pub loop-near-preserved : goal.loop-near-preserved
@@ -10,9 +10,5 @@ loop-near-preserved g c =
     let i = c.loop-near.near-index in
     record {
       deprived = IsDeprived_more c.args.cells.now.numbers c.loop-near.cells.numbers c.deprive_one.new.cells.numbers c.args.point c.args.beside.now i c.requires.point (c.requires.on i 0 c.loop-near-test.true) inv.deprived one.deprived;
-      logged = Logged_then c.args.cells.now c.loop-near.cells c.deprive_one.new.cells c.args.changes.now.items c.loop-near.changes.items c.deprive_one.new.changes.items i 1 (i + 1) inv.logged one.logged (omega arith);
-      capacity = let e = inv.capacity in let f = one.capacity in omega arith;
-      length = let e = inv.length in let f = one.length in omega arith;
-      count = let e = inv.count in let f = one.count in omega arith;
-      ticked = let e = inv.ticked in let f = one.ticked in omega arith;
+      edited = Edited_then inv.edited one.edited (omega arith) (omega arith) (omega arith);
     }

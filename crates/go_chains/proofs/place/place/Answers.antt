@@ -1,15 +1,14 @@
-use Rattle.std.proofs.Common.{arith, ◌+◌, ◌-◌, ◌*◌, inl, inr, refl}
+use Rattle.std.proofs.Common.{arith, ◌*◌, inl, inr, refl}
 use Rattle.go_board.specs.Paths.{IsAdjacent}
 use Rattle.go_board.specs.Sizes.{lines_of}
-use Rattle.go_chains.specs.declared.cells.TheConstants.{WORDS}
-use Rattle.go_chains.specs.Cells.{label_of, size_of, tables_of}
+use Rattle.go_chains.specs.Cells.{tables_of}
 use Rattle.go_chains.specs.Playing.{stones_beside, stones_taken}
 use Rattle.go_chains.specs.Sound.{colouring_of}
 use Rattle.go_chains.proofs.Bridge.{tidy-kept}
+use Rattle.go_chains.proofs.Editing.{Edited_next, Edited_within}
 use Rattle.go_chains.proofs.Neighbours.{apart, inside}
 use Rattle.go_chains.proofs.Occupying.{IsTidy-occupied}
 use Rattle.go_chains.proofs.Placing.{begins, joins, kept_end, moved_end, own_end, size_end, size_then, taken_end, takes, theirs_end, two_then, whole_of}
-use Rattle.go_chains.proofs.Rewinding.{Logged_then}
 use Rattle.go_chains.proofs.Taking.{still_two}
 use Rattle.go_chains.proofs.place.place.Goals as goal
 
@@ -113,8 +112,8 @@ returns-clause-own g c =
     let t = takes n c.connect.new.cells.numbers c.capture-theirs.new.cells.numbers c.take_one-taken.new.cells.numbers p own theirs beside c.capture-theirs.ensures.capturing c.capture-theirs.ensures.gone c.take_one-taken.ensures.capturing c.take_one-taken.ensures.gone in
     own_end n old c.occupy.new.cells.numbers c.connect.new.cells.numbers c.capture-theirs.new.cells.numbers c.take_one-taken.new.cells.numbers p c.args.colour own theirs beside b j t c.take_one-taken.result c.take_one-taken.ensures.stones
 
-pub returns-clause-logged : goal.returns-clause-logged
-returns-clause-logged g c =
+pub returns-clause-edited : goal.returns-clause-edited
+returns-clause-edited g c =
     let n = lines_of c.args.size in
     let old = c.args.cells.now.numbers in
     let p = c.args.point in
@@ -130,31 +129,6 @@ returns-clause-logged g c =
     let captured = size_end n old c.occupy.new.cells.numbers c.connect.new.cells.numbers c.capture-theirs.new.cells.numbers c.take_one-taken.new.cells.numbers p c.args.colour own theirs beside b j t c.joined_by_a_path.ensures in
     let taken_is = taken_end n old c.occupy.new.cells.numbers c.connect.new.cells.numbers c.capture-theirs.new.cells.numbers c.take_one-taken.new.cells.numbers p c.args.colour own theirs beside b j t c.reaches_by_a_path.ensures c.capture-theirs.result (theirs_end n old c.occupy.new.cells.numbers c.connect.new.cells.numbers c.capture-theirs.new.cells.numbers c.take_one-taken.new.cells.numbers p c.args.colour own theirs beside b j t c.capture-theirs.result c.capture-theirs.ensures.stones) in
     let bound = c.take_one-taken.ensures.bound in
-    let xs = c.args.changes.now.items in
-    let j1 = size_of c.connect.new.cells.numbers (label_of c.connect.new.cells.numbers p) - size_of c.occupy.new.cells.numbers (label_of c.occupy.new.cells.numbers p) + 4 * (WORDS + 3) in
-    let one = Logged_then c.args.cells.now c.occupy.new.cells c.connect.new.cells xs c.occupy.new.changes.items c.connect.new.changes.items (WORDS + 8) j1 (WORDS + 8 + j1) c.occupy.ensures.logged c.connect.ensures.logged (omega arith) in
-    let two = Logged_then c.args.cells.now c.connect.new.cells c.capture-theirs.new.cells xs c.connect.new.changes.items c.capture-theirs.new.changes.items (WORDS + 8 + j1) (5 * c.capture-theirs.result) (WORDS + 8 + j1 + 5 * c.capture-theirs.result) one c.capture-theirs.ensures.logged (omega arith) in
-    Logged_then c.args.cells.now c.capture-theirs.new.cells c.take_one-taken.new.cells xs c.capture-theirs.new.changes.items c.take_one-taken.new.changes.items (WORDS + 8 + j1 + 5 * c.capture-theirs.result) (5 * c.take_one-taken.result) (128 + 8 * (m + taken)) two c.take_one-taken.ensures.logged (omega arith)
-
-pub returns-clause-count : goal.returns-clause-count
-returns-clause-count g c =
-    let n = lines_of c.args.size in
-    let old = c.args.cells.now.numbers in
-    let p = c.args.point in
-    let own = c.code_of-own.result in
-    let theirs = c.code_of-other.result in
-    let beside = c.args.near.now in
-    let b = begins n old p c.args.colour c.other.result own theirs c.requires.kept c.requires.point c.requires.empty c.code_of-own.ensures.value c.code_of-own.ensures.range c.other.ensures c.code_of-other.ensures.value c.code_of-other.ensures.range in
-    let j = joins n old c.occupy.new.cells.numbers c.connect.new.cells.numbers p own beside beside c.requires.near refl c.occupy.ensures.occupied c.connect.ensures.connected c.connect.ensures.tidy in
-    let t = takes n c.connect.new.cells.numbers c.capture-theirs.new.cells.numbers c.take_one-taken.new.cells.numbers p own theirs beside c.capture-theirs.ensures.capturing c.capture-theirs.ensures.gone c.take_one-taken.ensures.capturing c.take_one-taken.ensures.gone in
-    let m = stones_beside n (colouring_of n old) c.args.colour p in
-    let taken = stones_taken n (colouring_of n old) c.args.colour p in
-    let joined = size_then n old c.occupy.new.cells.numbers c.connect.new.cells.numbers p c.args.colour own theirs beside b j c.joined_by_a_path.ensures in
-    let captured = size_end n old c.occupy.new.cells.numbers c.connect.new.cells.numbers c.capture-theirs.new.cells.numbers c.take_one-taken.new.cells.numbers p c.args.colour own theirs beside b j t c.joined_by_a_path.ensures in
-    let taken_is = taken_end n old c.occupy.new.cells.numbers c.connect.new.cells.numbers c.capture-theirs.new.cells.numbers c.take_one-taken.new.cells.numbers p c.args.colour own theirs beside b j t c.reaches_by_a_path.ensures c.capture-theirs.result (theirs_end n old c.occupy.new.cells.numbers c.connect.new.cells.numbers c.capture-theirs.new.cells.numbers c.take_one-taken.new.cells.numbers p c.args.colour own theirs beside b j t c.capture-theirs.result c.capture-theirs.ensures.stones) in
-    let bound = c.take_one-taken.ensures.bound in
-    let a = c.occupy.ensures.count in
-    let e = c.connect.ensures.count in
-    let f = c.capture-theirs.ensures.count in
-    let h = c.take_one-taken.ensures.count in
-    omega arith
+    let one = Edited_next c.occupy.ensures.edited c.connect.ensures.edited (omega arith) in
+    let two = Edited_next one c.capture-theirs.ensures.edited (omega arith) in
+    Edited_within (Edited_next two c.take_one-taken.ensures.edited (omega arith)) (omega arith) (omega arith) (omega arith) (omega arith)

@@ -13,7 +13,7 @@ invariant_of-log-2 g c =
     (closed n n c.self.inside.cells c.place-taken.new.cells c.log.inside.changes.items c.reserve_play.new.changes.items c.place-taken.new.changes.items
     c.log.inside.lengths.items c.reserve_play.new.lengths.items c.seal.new.lengths.items c.args.log.now (most_of n (colouring_of n c.self.inside.cells.numbers) c.args.colour c.from-point.result)
     (c.len.result - c.len-before.result) c.log.invariant c.log.view_is
-    c.in_ok-reserve_play.ensures.changes c.in_ok-reserve_play.ensures.lengths c.place-taken.ensures.logged (omega arith) c.seal.ensures).whole
+    c.in_ok-reserve_play.ensures.changes c.in_ok-reserve_play.ensures.lengths c.place-taken.ensures.edited.logged (omega arith) c.seal.ensures).whole
 
 pub returns-clause-logged : goal.returns-clause-logged
 returns-clause-logged g c =
@@ -27,7 +27,7 @@ returns-clause-logged g c =
     c.log.inside.lengths.items c.reserve_play.new.lengths.items c.seal.new.lengths.items c.args.log.now
     (most_of c.args.self.now.lines (grid_of c.args.self.now) c.args.colour (number_of c.args.self.now.lines c.args.p))
     (c.len.result - c.len-before.result) c.log.invariant c.log.view_is
-    c.in_ok-reserve_play.ensures.changes c.in_ok-reserve_play.ensures.lengths (subst There c.self.view_is (subst Here at c.place-taken.ensures.logged)) (omega arith) c.seal.ensures).logged
+    c.in_ok-reserve_play.ensures.changes c.in_ok-reserve_play.ensures.lengths (subst There c.self.view_is (subst Here at c.place-taken.ensures.edited.logged)) (omega arith) c.seal.ensures).logged
 
 pub returns-clause-ticked : goal.returns-clause-ticked
 returns-clause-ticked g c changes split =
@@ -35,15 +35,15 @@ returns-clause-ticked g c changes split =
     let size = (closed n n c.self.inside.cells c.place-taken.new.cells c.log.inside.changes.items c.reserve_play.new.changes.items c.place-taken.new.changes.items
     c.log.inside.lengths.items c.reserve_play.new.lengths.items c.seal.new.lengths.items c.args.log.now (most_of n (colouring_of n c.self.inside.cells.numbers) c.args.colour c.from-point.result)
     (c.len.result - c.len-before.result) c.log.invariant c.log.view_is
-    c.in_ok-reserve_play.ensures.changes c.in_ok-reserve_play.ensures.lengths c.place-taken.ensures.logged (omega arith) c.seal.ensures).size changes split in
+    c.in_ok-reserve_play.ensures.changes c.in_ok-reserve_play.ensures.lengths c.place-taken.ensures.edited.logged (omega arith) c.seal.ensures).size changes split in
     let read = c.get.ensures.count in
-    let each = c.place-taken.ensures.ticked in
+    let each = c.place-taken.ensures.edited.ticked in
     omega arith
 
 pub returns-clause-onward : goal.returns-clause-onward
 returns-clause-onward g c =
-    let logged = c.place-taken.ensures.logged in
+    let logged = c.place-taken.ensures.edited.logged in
     let longer = length-append c.reserve_play.new.changes.items logged.added in
     let read = c.get.ensures.count in
-    let each = c.place-taken.ensures.ticked in
+    let each = c.place-taken.ensures.edited.ticked in
     omega (arith, ap length logged.grown)
