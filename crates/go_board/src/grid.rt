@@ -16,27 +16,25 @@ impl Model for Grid {
     ghost use Rattle.std.specs.Prelude.{◌≡◌, ◌≤◌, ◌*◌, length, take};
     ghost use Rattle.go_board.specs.declared.size.TheConstants.{MAX_LINES, MAX_POINTS};
     ghost use Rattle.go_board.specs.Grids.{GridValue};
-    ghost use Rattle.go_board.specs.Sizes.{lines_of};
 
     ghost Value = { GridValue };
 
     ghost view = { λ g. record {
-      lines = lines_of g.size;
-      colours = take (lines_of g.size * lines_of g.size) g.cells;
+      lines = g.size;
+      colours = take (g.size * g.size) g.cells;
     } };
 
     ghost invariant = { λ g. (length g.cells ≡ MAX_POINTS) × (g.size ≤ MAX_LINES) };
 }
 
 impl Grid {
-    ghost use Rattle.go_board.specs.Sizes.{lines_of};
     ghost use Rattle.go_board.specs.Colours.{colour_at};
     ghost use Rattle.go_board.specs.Points.{IsOn, number_of};
 
     /// A board of this size with no stone.
     pub fn new(size: Size) -> Grid
-        ensures lines { result.lines ≡ lines_of size }
-        ensures colours { result.colours ≡ replicate (lines_of size * lines_of size) None }
+        ensures lines { result.lines ≡ size }
+        ensures colours { result.colours ≡ replicate (size * size) None }
     {
         Grid {
             size,
@@ -46,8 +44,8 @@ impl Grid {
 
     /// The size of the board.
     pub fn size(&self) -> Size
-        ensures lines { lines_of result ≡ self.now.lines }
-        ensures whole { length self.now.colours ≡ lines_of result * lines_of result }
+        ensures lines { result ≡ self.now.lines }
+        ensures whole { length self.now.colours ≡ result * result }
     {
         self.size
     }

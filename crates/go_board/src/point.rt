@@ -1,7 +1,6 @@
 ghost use Rattle.std.specs.Prelude.{◌≡◌, ◌<◌, ◌≤◌, ◌*◌, ◌↔◌, ℕ, [], IsTrue, IsSome, IfSome, All, Contains, map};
 ghost use Rattle.std.specs.List.Sorted.{IsStrictlyIncreasing};
 ghost use Rattle.go_board.specs.Points.{IsOn, are_beside, number_of, point_at};
-ghost use Rattle.go_board.specs.Sizes.{lines_of};
 
 use crate::Size;
 use arrayvec::ArrayVec;
@@ -17,7 +16,7 @@ pub struct Point {
 impl Point {
     /// The point in this column and row, or none off the board.
     pub fn at(size: Size, col: u8, row: u8) -> Option<Point>
-        ensures range { IsSome result ↔ ((col < lines_of size) × (row < lines_of size)) }
+        ensures range { IsSome result ↔ ((col < size) × (row < size)) }
         ensures value { IfSome result (λ p. (p.col ≡ col) × (p.row ≡ row)) }
     {
         let point = Point { col, row };
@@ -26,10 +25,9 @@ impl Point {
 
     /// The point with this number in point order, or none past the last.
     pub fn nth(size: Size, number: u16) -> Option<Point>
-        ensures range { IsSome result ↔ (number < lines_of size * lines_of size) }
-        ensures value { IfSome result (λ p. p ≡ point_at (lines_of size) number) }
-        ensures back { IfSome result
-            (λ p. IsOn (lines_of size) p × (number_of (lines_of size) p ≡ number)) }
+        ensures range { IsSome result ↔ (number < size * size) }
+        ensures value { IfSome result (λ p. p ≡ point_at size number) }
+        ensures back { IfSome result (λ p. IsOn size p × (number_of size p ≡ number)) }
     {
         if number < size.points() {
             Some(Point::numbered(size, number))
@@ -40,10 +38,10 @@ impl Point {
 
     /// The point with this number in point order, for a number that is known to have one.
     pub fn numbered(size: Size, number: u16) -> Point
-        requires { number < lines_of size * lines_of size }
-        ensures value { result ≡ point_at (lines_of size) number }
-        ensures on { IsOn (lines_of size) result }
-        ensures back { number_of (lines_of size) result ≡ number }
+        requires { number < size * size }
+        ensures value { result ≡ point_at size number }
+        ensures on { IsOn size result }
+        ensures back { number_of size result ≡ number }
     {
         let lines = u16::from(size.lines());
         Point {
@@ -68,17 +66,17 @@ impl Point {
 
     /// Whether the point is on a board of this size.
     pub fn on(self, size: Size) -> bool
-        ensures { IsTrue result ↔ IsOn (lines_of size) self }
+        ensures { IsTrue result ↔ IsOn size self }
     {
         self.col < size.lines() && self.row < size.lines()
     }
 
     /// Its number in point order, from 0.
     pub fn index(self, size: Size) -> u16
-        requires { IsOn (lines_of size) self }
-        ensures value { result ≡ number_of (lines_of size) self }
-        ensures bound { result < lines_of size * lines_of size }
-        ensures back { point_at (lines_of size) result ≡ self }
+        requires { IsOn size self }
+        ensures value { result ≡ number_of size self }
+        ensures bound { result < size * size }
+        ensures back { point_at size result ≡ self }
     {
         u16::from(self.row) * u16::from(size.lines()) + u16::from(self.col)
     }
@@ -86,12 +84,11 @@ impl Point {
 
 /// The points that share a side with this one, in point order.
 pub fn neighbours(p: Point, size: Size) -> ArrayVec<Point, 4>
-    requires { IsOn (lines_of size) p }
-    ensures on { All (λ q. IsOn (lines_of size) q) result.items }
+    requires { IsOn size p }
+    ensures on { All (λ q. IsOn size q) result.items }
     ensures beside { All (λ q. IsTrue (are_beside p q)) result.items }
-    ensures each { (q : Point) → IsOn (lines_of size) q → IsTrue (are_beside p q)
-        → Contains result.items q }
-    ensures order { IsStrictlyIncreasing (map (number_of (lines_of size)) result.items) }
+    ensures each { (q : Point) → IsOn size q → IsTrue (are_beside p q) → Contains result.items q }
+    ensures order { IsStrictlyIncreasing (map (number_of size) result.items) }
 {
     let mut beside = ArrayVec::new();
     put_neighbours(p, size, &mut beside);
@@ -101,13 +98,13 @@ pub fn neighbours(p: Point, size: Size) -> ArrayVec<Point, 4>
 /// Puts the points that share a side with this one into an empty list, in point order. A loop
 /// that is run often does without the copy of a list that is handed back.
 pub fn put_neighbours(p: Point, size: Size, beside: &mut ArrayVec<Point, 4>)
-    requires on { IsOn (lines_of size) p }
+    requires on { IsOn size p }
     requires empty { beside.old.items ≡ [] }
-    ensures on { All (λ q. IsOn (lines_of size) q) beside.new.items }
+    ensures on { All (λ q. IsOn size q) beside.new.items }
     ensures beside { All (λ q. IsTrue (are_beside p q)) beside.new.items }
-    ensures each { (q : Point) → IsOn (lines_of size) q → IsTrue (are_beside p q)
+    ensures each { (q : Point) → IsOn size q → IsTrue (are_beside p q)
         → Contains beside.new.items q }
-    ensures order { IsStrictlyIncreasing (map (number_of (lines_of size)) beside.new.items) }
+    ensures order { IsStrictlyIncreasing (map (number_of size) beside.new.items) }
 {
     let last = size.lines() - 1;
     if p.row > 0 {

@@ -98,8 +98,7 @@ fn sweep(marks: &mut Rows, free: &Rows, lines: usize) -> bool
     requires { lines ≤ ROWS }
     ensures spread { Spread marks.old free.now marks.new }
     ensures more { result ≡ true → total marks.old < total marks.new }
-    ensures closed { result ≡ false → (row : ℕ) → row < lines
-        → IsClosedAt marks.new free.now row }
+    ensures closed { result ≡ false → (row : ℕ) → row < lines → IsClosedAt marks.new free.now row }
 {
     let mut more = false;
     for row in 0..lines {

@@ -29,12 +29,11 @@ impl Model for Size {
 }
 
 impl Size {
-    ghost use Rattle.go_board.specs.Sizes.{lines_of};
 
     /// The size with this number of lines, or none where no board has so many or so few.
     pub fn new(lines: u8) -> Option<Size>
         ensures range { IsSome result ↔ ((0 < lines) × (lines ≤ MAX_LINES)) }
-        ensures value { IfSome result (λ size. lines_of size ≡ lines) }
+        ensures value { IfSome result (λ size. size ≡ lines) }
     {
         if lines == 0 || lines > MAX_LINES {
             None
@@ -45,7 +44,7 @@ impl Size {
 
     /// The number of lines.
     pub fn lines(self) -> u8
-        ensures value { result ≡ lines_of self }
+        ensures value { result ≡ self }
         ensures range { (0 < result) × (result ≤ MAX_LINES) }
     {
         self.lines
@@ -53,7 +52,7 @@ impl Size {
 
     /// The number of points: the square of the number of lines.
     pub fn points(self) -> u16
-        ensures value { result ≡ lines_of self * lines_of self }
+        ensures value { result ≡ self * self }
         ensures range { (0 < result) × (result ≤ MAX_POINTS) }
     {
         let lines = u16::from(self.lines);

@@ -1,5 +1,4 @@
 ghost use Rattle.std.specs.Prelude.{◌≡◌, ◌<◌, ◌↔◌, ◌∷◌, ◌+◌, ◌==◌, [], Some, None, Err, IfOk, IsTrue, codes, IfSome, decimal, option_map, position};
-ghost use Rattle.go_board.specs.Sizes.{lines_of};
 ghost use Rattle.go_board.specs.Vertices.{IsOnBoard, SpellsOffBoard, column_letters, column_of, letter_of, point_of, row_numbered, row_of, vertex_of, vertex_on, vertex_word};
 
 use crate::{Colour, Point, Size};
@@ -41,17 +40,17 @@ pub enum VertexError {
 /// The vertex that a word spells on a board of this size: `pass`, or the letter of a column and the
 /// number of a row from 1 in one or two digits, both in either case (Go Text Protocol version 2).
 pub fn read_vertex(word: &[u8], size: Size) -> Result<Vertex, VertexError>
-    ensures value { result ≡ vertex_on (lines_of size) (vertex_of word.now) }
+    ensures value { result ≡ vertex_on size (vertex_of word.now) }
     ensures malformed { (result ≡ Err VertexError.Malformed) ↔ (vertex_of word.now ≡ None) }
     ensures off_board { (result ≡ Err VertexError.OffBoard)
-        ↔ SpellsOffBoard (lines_of size) (vertex_of word.now) }
-    ensures ok { IfOk result (λ v. (vertex_of word.now ≡ Some v) × IsOnBoard (lines_of size) v) }
+        ↔ SpellsOffBoard size (vertex_of word.now) }
+    ensures ok { IfOk result (λ v. (vertex_of word.now ≡ Some v) × IsOnBoard size v) }
 {
     read_spelled(word, size)
 }
 
 fn read_spelled(word: &[u8], size: Size) -> Result<Vertex, VertexError>
-    ensures { result ≡ vertex_on (lines_of size) (vertex_of word.now) }
+    ensures { result ≡ vertex_on size (vertex_of word.now) }
 {
     if word.eq_ignore_ascii_case(b"pass".as_slice()) {
         return Ok(Vertex::Pass);
@@ -63,7 +62,7 @@ fn read_spelled(word: &[u8], size: Size) -> Result<Vertex, VertexError>
 }
 
 fn on_board(point: Point, size: Size) -> Result<Vertex, VertexError>
-    ensures { result ≡ vertex_on (lines_of size) (Some (Vertex.At point)) }
+    ensures { result ≡ vertex_on size (Some (Vertex.At point)) }
 {
     if point.on(size) {
         Ok(Vertex::At(point))

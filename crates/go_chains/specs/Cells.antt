@@ -28,8 +28,8 @@ abbrev pub chain_size : List ℕ → ℕ → ℕ
 chain_size cells p = size_of cells (label_of cells p)
 
 -- how many stones the chain of a stone has gained
-abbrev pub growth : List ℕ → List ℕ → ℕ → ℕ
-growth old new p = chain_size new p - chain_size old p
+abbrev pub growth : CellsValue → CellsValue → ℕ → ℕ
+growth old new p = chain_size new.numbers p - chain_size old.numbers p
 
 abbrev pub word_of : List ℕ → ℕ → ℕ → ℕ
 word_of cells l w = slice_index cells (LIBERTIES + WORDS * l + w)

@@ -7,6 +7,7 @@ pub mod Writes
 pub mod Sound
 pub mod Rewound
 pub mod Edits
+pub mod CellSteps
 pub mod Beside
 pub mod Words
 pub mod Parts

@@ -14,9 +14,13 @@ abbrev pub is_labelled : Option Colour → ℕ → ℕ → Bool
 is_labelled None label l = false
 is_labelled (Some c) label l = nat_eq l label
 
+-- q holds a stone with label l
+abbrev pub has_label : List ℕ → ℕ → ℕ → Bool
+has_label cells l q = is_labelled (value_of (colour_of cells q)) (label_of cells q) l
+
 -- q is in this part of the chain with label l
 abbrev pub is_in_part : List ℕ → Part → ℕ → ℕ → Bool
-is_in_part cells Stones l q = is_labelled (value_of (colour_of cells q)) (label_of cells q) l
+is_in_part cells Stones l q = has_label cells l q
 is_in_part cells Liberties l q = nat_eq (lib_of cells l q) 1
 
 -- the points of this part from number k on

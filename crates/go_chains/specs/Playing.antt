@@ -1,8 +1,11 @@
 -- How many stones a play has to do with, and how many changes it may make.
 use Rattle.std.specs.Prelude.{ℕ, Bool, ◌&&◌, ◌+◌, ◌*◌, Some, count_by, slice_set}
 use Rattle.go_board.specs.declared.colour.Colour.{Colour}
+use Rattle.go_board.specs.declared.point.Point.{Point}
 use Rattle.go_board.specs.Colours.{Colouring, other}
+use Rattle.go_board.specs.Points.{number_of}
 use Rattle.go_board.specs.Reaching.{has_colour, joined, moved, points, some_neighbour, vanished}
+use Rattle.go_chains.specs.Sound.{BoardValue, grid_of}
 
 -- q is a stone of c in a chain with a stone beside p
 abbrev pub is_beside_own : ℕ → Colouring → Colour → ℕ → ℕ → Bool
@@ -19,3 +22,19 @@ stones_taken n g c p = vanished n (slice_set g p (Some c)) (moved n g c p) (othe
 -- the most changes that a play of c at p makes
 abbrev pub most_of : ℕ → Colouring → Colour → ℕ → ℕ
 most_of n g c p = 128 + 8 * (stones_beside n g c p + stones_taken n g c p)
+
+-- the same of a board and a point
+abbrev pub most_at : BoardValue → Colour → Point → ℕ
+most_at b c p = most_of b.lines (grid_of b) c (number_of b.lines p)
+
+-- the colouring of a board after a play of c at p
+abbrev pub played : BoardValue → Colour → Point → Colouring
+played b c p = moved b.lines (grid_of b) c (number_of b.lines p)
+
+-- how many stones of a colour went, from one colouring with a stone of c at p to another
+abbrev pub lost : ℕ → Colouring → Colouring → Colour → ℕ → Colour → ℕ
+lost n old new c p colour = vanished n (slice_set old p (Some c)) new colour
+
+-- the same of a board where c was played at p
+abbrev pub went : BoardValue → BoardValue → Colour → Point → Colour → ℕ
+went old new c p colour = lost old.lines (grid_of old) (grid_of new) c (number_of old.lines p) colour

@@ -1,5 +1,5 @@
 -- Changes of cells, put back from the last to the first, and lists of plays made of them.
-use Rattle.std.specs.Prelude.{ℕ, List, [], ◌∷◌, ◌++◌, ◌≡◌, ◌≤◌, ◌<◌, ◌+◌, length, slice_index, slice_set, take, drop, All}
+use Rattle.std.specs.Prelude.{ℕ, List, [], ◌∷◌, ◌++◌, ◌≡◌, ◌≤◌, ◌<◌, ◌+◌, ◌-◌, length, slice_index, slice_set, take, drop, All}
 use Rattle.go_chains.specs.declared.cells.TheConstants.{COUNT}
 use Rattle.go_chains.specs.declared.change.Change.{Change}
 use Rattle.go_chains.specs.Cells.{CellsValue}
@@ -29,6 +29,17 @@ pub record Logged (old new : CellsValue) (before after : List Change) (most : �
   pub back : rewound new.numbers added ≡ old.numbers
   pub few : length added ≤ most
   pub names : NamesCells COUNT added
+
+-- what holds of the last play of a log, and of the plays before it
+abbrev pub ForLast : List (List Change) → (List (List Change) → List Change → Type 0) → Type 0
+ForLast log Holds = (earlier : List (List Change)) (changes : List Change) → log ≡ earlier ++ changes ∷ [] → Holds earlier changes
+
+-- the last so many changes, and those before them
+abbrev pub end_of : ℕ → List Change → List Change
+end_of count changes = drop (length changes - count) changes
+
+abbrev pub before_end : ℕ → List Change → List Change
+before_end count changes = take (length changes - count) changes
 
 -- the changes of each play: as many of the changes as its length says
 abbrev pub plays_of : List ℕ → List Change → List (List Change)

@@ -1,5 +1,4 @@
 ghost use Rattle.go_board.specs.Points.{IsOn, number_of};
-ghost use Rattle.go_board.specs.Sizes.{lines_of};
 ghost use Rattle.go_chains.specs.Beside.{AreBeside};
 
 use arrayvec::ArrayVec;
@@ -8,8 +7,8 @@ use go_board::{Point, Size, put_neighbours};
 
 /// The numbers of the points that share a side with this one.
 pub fn beside(size: Size, p: Point) -> ArrayVec<usize, 4>
-    requires { IsOn (lines_of size) p }
-    ensures { AreBeside (lines_of size) (number_of (lines_of size) p) result.items }
+    requires { IsOn size p }
+    ensures { AreBeside size (number_of size p) result.items }
 {
     points_by_number();
     let mut numbers = ArrayVec::new();

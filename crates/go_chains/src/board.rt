@@ -1,24 +1,22 @@
-ghost use Rattle.std.specs.Prelude.{◌≡◌, ◌<◌, ◌≤◌, ◌+◌, ◌*◌, ◌/◌, ◌++◌, ◌∷◌, ◌↔◌, ℕ, [], List, None, Some, IfNone, IfOk, IfSome, IsErrOf, OnErr, OnOk, length, map, nat_eq, replicate, slice_set};
+ghost use Rattle.std.specs.Prelude.{◌≡◌, ◌<◌, ◌≤◌, ◌+◌, ◌*◌, ◌/◌, ◌++◌, ◌∷◌, ◌↔◌, ℕ, [], List, None, IfNone, IfOk, IfSome, IsErrOf, OnErr, OnOk, length, nat_eq, replicate};
 ghost use Rattle.std.specs.Int.{bit_at};
-ghost use Rattle.go_board.specs.Chains.{liberties, members};
 ghost use Rattle.go_board.specs.Colours.{colour_at, other};
 ghost use Rattle.go_board.specs.PackBytes.{bytes_of};
 ghost use Rattle.go_board.specs.Packs.{byte_of, code_of, packed_of};
 ghost use Rattle.go_board.specs.Points.{IsOn, number_of, point_at};
-ghost use Rattle.go_board.specs.Reaching.{area, is_liberty_of, joined, moved, vanished};
-ghost use Rattle.go_board.specs.Rows.{AreStonesIn};
-ghost use Rattle.go_board.specs.Sizes.{lines_of};
+ghost use Rattle.go_board.specs.Reaching.{area, moved};
 ghost use Rattle.go_board.specs.declared.colour.Colour.{Colour};
 ghost use Rattle.go_board.specs.declared.pack.TheConstants.{PACK_BYTES};
 ghost use Rattle.go_board.specs.declared.size.TheConstants.{MAX_POINTS};
 ghost use Rattle.go_chains.specs.declared.cells.TheConstants.{COUNT, WORDS};
 ghost use Rattle.go_chains.specs.declared.change.Change.{Change};
 ghost use Rattle.go_chains.specs.Cells.{colour_of, label_of, lib_of};
-ghost use Rattle.go_chains.specs.Parts.{is_in_part, is_labelled, points_left};
-ghost use Rattle.go_chains.specs.Playing.{most_of};
-ghost use Rattle.go_chains.specs.Rewound.{IsRewound, NamesCells, PlayLogged, rewound};
-ghost use Rattle.go_chains.specs.Sound.{IsKept, IsStoneOf, grid_of, value_of};
+ghost use Rattle.go_chains.specs.Parts.{has_label, is_in_part, points_left};
+ghost use Rattle.go_chains.specs.Playing.{most_at, played, went};
+ghost use Rattle.go_chains.specs.Rewound.{ForLast, IsRewound, NamesCells, PlayLogged, rewound};
+ghost use Rattle.go_chains.specs.Sound.{AreStones, HoldsStone, IsKept, grid_of, shown};
 ghost use Rattle.go_chains.specs.Words.{free_in_word};
+ghost use Rattle.go_board.specs.Grids.{are_joined, chain_liberties, chain_stones, has_liberty, liberty_count, stone_at, stone_count};
 
 use crate::beside::beside;
 use crate::cells::{Cells, LABELS, SIZES, word_place};
@@ -49,25 +47,24 @@ pub struct Board {
 }
 
 impl Model for Board {
-    ghost use Rattle.go_board.specs.Sizes.{lines_of};
     ghost use Rattle.go_chains.specs.Sound.{BoardValue, IsKept};
 
     ghost Value = { BoardValue };
 
     ghost view = { λ b. record {
-      lines = lines_of b.size;
+      lines = b.size;
       cells = b.cells.numbers;
       trace = b.cells.trace;
     } };
 
-    ghost invariant = { λ b. IsKept (lines_of b.size) b.cells.numbers };
+    ghost invariant = { λ b. IsKept b.size b.cells.numbers };
 }
 
 impl Board {
     /// A board of this size with no stone.
     pub fn new(size: Size) -> Board
-        ensures lines { result.lines ≡ lines_of size }
-        ensures colours { grid_of result ≡ replicate (lines_of size * lines_of size) None }
+        ensures lines { result.lines ≡ size }
+        ensures colours { grid_of result ≡ replicate (size * size) None }
         ensures cells { result.cells ≡ replicate COUNT 0 }
         ensures trace { result.trace ≡ [] }
         ensures kept { IsKept result.lines result.cells }
@@ -81,10 +78,9 @@ impl Board {
     /// Takes all stones off, and gives the board this size. It writes the colours of the points alone,
     /// and counts nothing.
     pub fn clear(&mut self, size: Size)
-        ensures lines { self.new.lines ≡ lines_of size }
-        ensures colours { grid_of self.new ≡ replicate (lines_of size * lines_of size) None }
-        ensures writes { length self.new.trace
-            ≡ length self.old.trace + lines_of size * lines_of size }
+        ensures lines { self.new.lines ≡ size }
+        ensures colours { grid_of self.new ≡ replicate (size * size) None }
+        ensures writes { length self.new.trace ≡ length self.old.trace + size * size }
         ensures kept { IsKept self.new.lines self.new.cells }
     {
         empty_points(&mut self.cells, usize::from(size.points()));
@@ -93,8 +89,8 @@ impl Board {
 
     /// The size of the board.
     pub fn size(&self) -> Size
-        ensures lines { lines_of result ≡ self.now.lines }
-        ensures whole { length (grid_of self.now) ≡ lines_of result * lines_of result }
+        ensures lines { result ≡ self.now.lines }
+        ensures whole { length (grid_of self.now) ≡ result * result }
         ensures kept { IsKept self.now.lines self.now.cells }
     {
         self.size
@@ -103,7 +99,7 @@ impl Board {
     /// The colour of a point of the board, or none where it is empty.
     pub fn colour_at(&self, p: Point) -> Option<Colour>
         requires { IsOn self.now.lines p }
-        ensures { result ≡ colour_at (grid_of self.now) (number_of self.now.lines p) }
+        ensures { result ≡ stone_at (shown self.now) p }
     {
         points_by_number();
         let mut meter = Meter::new();
@@ -128,8 +124,8 @@ impl Board {
     /// The stones of both colours in one row.
     fn stones_in(&self, row: usize) -> RowStones
         requires { row < self.now.lines }
-        ensures black { AreStonesIn self.now.lines (grid_of self.now) Colour.Black row result.black }
-        ensures white { AreStonesIn self.now.lines (grid_of self.now) Colour.White row result.white }
+        ensures black { AreStones self.now Colour.Black row result.black }
+        ensures white { AreStones self.now Colour.White row result.white }
     {
         let lines = usize::from(self.size().lines());
         let mut meter = Meter::new();
@@ -219,7 +215,7 @@ impl Board {
     /// The label of a stone's chain.
     fn label_at(&self, p: Point, meter: &mut Meter) -> usize
         requires on { IsOn self.now.lines p }
-        requires stone { IsStoneOf (grid_of self.now) (number_of self.now.lines p) }
+        requires stone { HoldsStone self.now p }
         ensures label { result ≡ label_of self.now.cells (number_of self.now.lines p) }
         ensures bound { result < MAX_POINTS }
         ensures kept { IsKept self.now.lines self.now.cells }
@@ -233,10 +229,9 @@ impl Board {
     pub fn same_chain(&self, p: Point, q: Point) -> bool
         requires p_on { IsOn self.now.lines p }
         requires q_on { IsOn self.now.lines q }
-        requires p_stone { IsStoneOf (grid_of self.now) (number_of self.now.lines p) }
-        requires q_stone { IsStoneOf (grid_of self.now) (number_of self.now.lines q) }
-        ensures { result ≡ joined self.now.lines (grid_of self.now) (number_of self.now.lines p)
-            (number_of self.now.lines q) }
+        requires p_stone { HoldsStone self.now p }
+        requires q_stone { HoldsStone self.now q }
+        ensures { result ≡ are_joined (shown self.now) p q }
     {
         points_by_number();
         joined_by_a_path();
@@ -248,9 +243,8 @@ impl Board {
     pub fn is_liberty(&self, p: Point, q: Point) -> bool
         requires p_on { IsOn self.now.lines p }
         requires q_on { IsOn self.now.lines q }
-        requires p_stone { IsStoneOf (grid_of self.now) (number_of self.now.lines p) }
-        ensures { result ≡ is_liberty_of self.now.lines (grid_of self.now)
-            (number_of self.now.lines p) (number_of self.now.lines q) }
+        requires p_stone { HoldsStone self.now p }
+        ensures { result ≡ has_liberty (shown self.now) p q }
     {
         points_by_number();
         liberty_by_a_path();
@@ -293,8 +287,7 @@ impl Board {
     /// Whether a point holds a stone with this label.
     fn has_label(&self, number: usize, label: usize) -> bool
         requires { number < MAX_POINTS }
-        ensures { result ≡ is_labelled (value_of (colour_of self.now.cells number))
-            (label_of self.now.cells number) label }
+        ensures { result ≡ has_label self.now.cells label number }
     {
         let mut meter = Meter::new();
         match colour_from(self.cells.get(number, &mut meter)) {
@@ -317,9 +310,8 @@ impl Board {
     /// The stones of the chain of a stone, in point order.
     pub fn chain_points(&self, p: Point) -> ChainPoints<'_>
         requires on { IsOn self.now.lines p }
-        requires stone { IsStoneOf (grid_of self.now) (number_of self.now.lines p) }
-        ensures { result ≡ map (point_at self.now.lines)
-            (members self.now.lines (grid_of self.now) (number_of self.now.lines p)) }
+        requires stone { HoldsStone self.now p }
+        ensures { result ≡ chain_stones (shown self.now) p }
     {
         points_by_number();
         joined_by_a_path();
@@ -330,9 +322,8 @@ impl Board {
     /// The liberties of the chain of a stone, in point order.
     pub fn liberty_points(&self, p: Point) -> ChainPoints<'_>
         requires on { IsOn self.now.lines p }
-        requires stone { IsStoneOf (grid_of self.now) (number_of self.now.lines p) }
-        ensures { result ≡ map (point_at self.now.lines)
-            (liberties self.now.lines (grid_of self.now) (number_of self.now.lines p)) }
+        requires stone { HoldsStone self.now p }
+        ensures { result ≡ chain_liberties (shown self.now) p }
     {
         points_by_number();
         liberty_by_a_path();
@@ -343,9 +334,8 @@ impl Board {
     /// How many stones the chain of a stone has.
     pub fn stones_of(&self, p: Point) -> u16
         requires on { IsOn self.now.lines p }
-        requires stone { IsStoneOf (grid_of self.now) (number_of self.now.lines p) }
-        ensures { result ≡ length (members self.now.lines (grid_of self.now)
-            (number_of self.now.lines p)) }
+        requires stone { HoldsStone self.now p }
+        ensures { result ≡ stone_count (shown self.now) p }
     {
         points_by_number();
         joined_by_a_path();
@@ -357,9 +347,8 @@ impl Board {
     /// How many liberties the chain of a stone has.
     pub fn liberties_of(&self, p: Point) -> u16
         requires on { IsOn self.now.lines p }
-        requires stone { IsStoneOf (grid_of self.now) (number_of self.now.lines p) }
-        ensures { result ≡ length (liberties self.now.lines (grid_of self.now)
-            (number_of self.now.lines p)) }
+        requires stone { HoldsStone self.now p }
+        ensures { result ≡ liberty_count (shown self.now) p }
     {
         points_by_number();
         liberty_by_a_path();
@@ -407,20 +396,14 @@ impl Board {
     ) -> Result<Taken, PlaceError>
         requires { IsOn self.old.lines p }
         ensures lines { self.new.lines ≡ self.old.lines }
-        ensures occupied { IsErrOf result PlaceError.Occupied
-            ↔ IsStoneOf (grid_of self.old) (number_of self.old.lines p) }
-        ensures moved { OnOk result (grid_of self.new ≡ moved self.old.lines (grid_of self.old)
-            colour (number_of self.old.lines p)) }
-        ensures theirs { IfOk result (λ taken. taken.theirs ≡ vanished self.old.lines
-            (slice_set (grid_of self.old) (number_of self.old.lines p) (Some colour))
-            (grid_of self.new) (other colour)) }
-        ensures own { IfOk result (λ taken. taken.own ≡ vanished self.old.lines
-            (slice_set (grid_of self.old) (number_of self.old.lines p) (Some colour))
-            (grid_of self.new) colour) }
+        ensures occupied { IsErrOf result PlaceError.Occupied ↔ HoldsStone self.old p }
+        ensures moved { OnOk result (grid_of self.new ≡ played self.old colour p) }
+        ensures theirs { IfOk result (λ taken. taken.theirs
+            ≡ went self.old self.new colour p (other colour)) }
+        ensures own { IfOk result (λ taken. taken.own ≡ went self.old self.new colour p colour) }
         ensures logged { OnOk result (PlayLogged self.old self.new log.old log.new
-            (most_of self.old.lines (grid_of self.old) colour (number_of self.old.lines p))) }
-        ensures count { meter.new ≤ meter.old
-            + 3 * most_of self.old.lines (grid_of self.old) colour (number_of self.old.lines p) }
+            (most_at self.old colour p)) }
+        ensures count { meter.new ≤ meter.old + 3 * most_at self.old colour p }
         ensures ticked { (changes : List Change) → log.new ≡ log.old ++ changes ∷ []
             → meter.old + length changes ≤ meter.new }
         ensures onward { meter.old ≤ meter.new }
@@ -455,12 +438,10 @@ impl Board {
     /// memory.
     pub fn rewind<A: Allocator + Copy>(&mut self, log: &mut Log<A>, meter: &mut Meter)
         requires play { 0 < length log.old }
-        requires cells { (earlier : List (List Change)) (changes : List Change)
-            → log.old ≡ earlier ++ changes ∷ []
-            → NamesCells COUNT changes × IsKept self.old.lines (rewound self.old.cells changes) }
-        ensures rewound { (earlier : List (List Change)) (changes : List Change)
-            → log.old ≡ earlier ++ changes ∷ []
-            → IsRewound self.old self.new log.new earlier changes meter.old meter.new }
+        requires cells { ForLast log.old (λ earlier changes.
+            NamesCells COUNT changes × IsKept self.old.lines (rewound self.old.cells changes)) }
+        ensures rewound { ForLast log.old (λ earlier changes.
+            IsRewound self.old self.new log.new earlier changes meter.old meter.new) }
         ensures kept { IsKept self.new.lines self.new.cells }
     {
         log.put_back(&mut self.cells, meter);

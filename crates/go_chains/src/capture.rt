@@ -1,14 +1,11 @@
 //! Chains without a liberty, found and taken off.
-ghost use Rattle.std.specs.Prelude.{◌≡◌, ◌≢◌, ◌<◌, ◌≤◌, ◌+◌, ◌*◌, ◌/◌, ◌⊎◌, ◌↔◌, ℕ, IsTrue, false, length, slice_index, vec_capacity, vec_len};
-ghost use Rattle.go_board.specs.Paths.{IsAdjacent};
-ghost use Rattle.go_board.specs.Sizes.{lines_of};
+ghost use Rattle.std.specs.Prelude.{◌≡◌, ◌≢◌, ◌<◌, ◌≤◌, ◌+◌, ◌*◌, ◌/◌, ◌↔◌, ℕ, IsTrue, false, length, slice_index, vec_capacity, vec_len};
 ghost use Rattle.go_board.specs.declared.size.TheConstants.{MAX_POINTS};
 ghost use Rattle.go_chains.specs.declared.cells.TheConstants.{WORDS};
-ghost use Rattle.go_chains.specs.Beside.{AreBeside};
-ghost use Rattle.go_chains.specs.Cells.{colour_of, label_of, lib_of, size_of, tables_of};
+ghost use Rattle.go_chains.specs.Cells.{chain_size, lib_of, tables_of};
 ghost use Rattle.go_chains.specs.Edits.{Edited};
-ghost use Rattle.go_chains.specs.Steps.{CountsTaken, IsCapturing};
-ghost use Rattle.go_chains.specs.Tables.{IsDead, IsStone, IsTidy, IsWhole, Tables};
+ghost use Rattle.go_chains.specs.Tables.{IsDead};
+ghost use Rattle.go_chains.specs.CellSteps.{AreTidy, AreWhole, Captures, CapturesMore, HasTwoColours, TakesDead, TakesStones};
 
 use crate::cells::{Cells, LABELS, word_place, words_of};
 use crate::change::Change;
@@ -40,9 +37,8 @@ fn has_liberty_in(
 /// with the bit of a near point is looked at first.
 pub fn is_dead(cells: &Cells, meter: &mut Meter, size: Size, label: usize, near: usize) -> bool
     requires label { label < MAX_POINTS }
-    requires near { near < lines_of size * lines_of size }
-    ensures dead { IsTrue result ↔ IsDead (lines_of size * lines_of size) (tables_of cells.now.numbers)
-        label }
+    requires near { near < size * size }
+    ensures dead { IsTrue result ↔ IsDead (size * size) (tables_of cells.now.numbers) label }
     ensures count { meter.new ≤ meter.old + (WORDS + 1) }
     ensures onward { meter.old ≤ meter.new }
 {
@@ -69,30 +65,19 @@ pub fn take_one<A: Allocator + Copy>(
     own: u64,
     other: u64,
 ) -> usize
-    requires tidy { IsTidy (lines_of size * lines_of size) (IsAdjacent (lines_of size))
-        (tables_of cells.old.numbers) }
-    requires whole { IsWhole (lines_of size * lines_of size) (IsAdjacent (lines_of size))
-        (tables_of cells.old.numbers) }
-    requires near { near < lines_of size * lines_of size }
+    requires tidy { AreTidy size cells.old }
+    requires whole { AreWhole size cells.old }
+    requires near { near < size * size }
     requires own { 0 < own }
     requires other { 0 < other }
     requires apart { own ≢ other }
-    requires two { (s : ℕ) → IsStone (lines_of size * lines_of size) (tables_of cells.old.numbers) s
-        → (colour_of cells.old.numbers s ≡ own) ⊎ (colour_of cells.old.numbers s ≡ other) }
+    requires two { HasTwoColours size cells.old own other }
     requires room { vec_len changes.old + 5 * MAX_POINTS ≤ vec_capacity changes.old }
-    ensures capturing { (t : Tables)
-        → IsTidy (lines_of size * lines_of size) (IsAdjacent (lines_of size)) t
-        → IsCapturing (lines_of size * lines_of size) (IsAdjacent (lines_of size)) t
-        (tables_of cells.old.numbers) own
-        → IsCapturing (lines_of size * lines_of size) (IsAdjacent (lines_of size)) t
-        (tables_of cells.new.numbers) own }
-    ensures gone { colour_of cells.old.numbers near ≡ own
-        → IsDead (lines_of size * lines_of size) (tables_of cells.old.numbers) (label_of cells.old.numbers near)
-        → colour_of cells.new.numbers near ≡ 0 }
-    ensures stones { CountsTaken (lines_of size * lines_of size) (tables_of cells.old.numbers)
-        (tables_of cells.new.numbers) own result }
+    ensures capturing { CapturesMore size cells.old cells.new own }
+    ensures gone { TakesDead size cells.old cells.new own near }
+    ensures stones { TakesStones size cells.old cells.new own result }
     ensures few { result ≤ MAX_POINTS }
-    ensures bound { result ≤ size_of cells.old.numbers (label_of cells.old.numbers near) }
+    ensures bound { result ≤ chain_size cells.old.numbers near }
     ensures edited { Edited cells.old cells.new changes.old changes.new meter.old meter.new
         (5 * result) (WORDS + 5 + 18 * result) }
 {
@@ -117,28 +102,19 @@ pub fn capture<A: Allocator + Copy>(
     own: u64,
     other: u64,
 ) -> usize
-    requires tidy { IsTidy (lines_of size * lines_of size) (IsAdjacent (lines_of size))
-        (tables_of cells.old.numbers) }
-    requires whole { IsWhole (lines_of size * lines_of size) (IsAdjacent (lines_of size))
-        (tables_of cells.old.numbers) }
+    requires tidy { AreTidy size cells.old }
+    requires whole { AreWhole size cells.old }
     requires few { length beside.now ≤ 4 }
-    requires on { (i : ℕ) → i < length beside.now
-        → slice_index beside.now i < lines_of size * lines_of size }
+    requires on { (i : ℕ) → i < length beside.now → slice_index beside.now i < size * size }
     requires own { 0 < own }
     requires other { 0 < other }
     requires apart { own ≢ other }
-    requires two { (s : ℕ) → IsStone (lines_of size * lines_of size) (tables_of cells.old.numbers) s
-        → (colour_of cells.old.numbers s ≡ own) ⊎ (colour_of cells.old.numbers s ≡ other) }
+    requires two { HasTwoColours size cells.old own other }
     requires room { vec_len changes.old + 20 * MAX_POINTS ≤ vec_capacity changes.old }
-    ensures capturing { IsCapturing (lines_of size * lines_of size) (IsAdjacent (lines_of size))
-        (tables_of cells.old.numbers) (tables_of cells.new.numbers) own }
+    ensures capturing { Captures size cells.old cells.new own }
     ensures gone { (i : ℕ) → i < length beside.now
-        → colour_of cells.old.numbers (slice_index beside.now i) ≡ own
-        → IsDead (lines_of size * lines_of size) (tables_of cells.old.numbers)
-        (label_of cells.old.numbers (slice_index beside.now i))
-        → colour_of cells.new.numbers (slice_index beside.now i) ≡ 0 }
-    ensures stones { CountsTaken (lines_of size * lines_of size) (tables_of cells.old.numbers)
-        (tables_of cells.new.numbers) own result }
+        → TakesDead size cells.old cells.new own (slice_index beside.now i) }
+    ensures stones { TakesStones size cells.old cells.new own result }
     ensures few { result ≤ 4 * MAX_POINTS }
     ensures edited { Edited cells.old cells.new changes.old changes.new meter.old meter.new
         (5 * result) (4 * (WORDS + 5) + 18 * result) }

@@ -1,7 +1,6 @@
 ghost use Rattle.std.specs.Prelude.{◌≡◌, ◌<◌, ◌≤◌, ◌+◌, ◌*◌, ◌++◌, ◌∷◌, [], slice_index, slice_set};
 ghost use Rattle.go_board.specs.Colours.{colour_at};
 ghost use Rattle.go_board.specs.Packs.{byte_of, code_of};
-ghost use Rattle.go_board.specs.Sizes.{lines_of};
 ghost use Rattle.go_board.specs.declared.pack.TheConstants.{PACK_BYTES};
 ghost use Rattle.go_board.specs.declared.size.TheConstants.{MAX_LINES, MAX_POINTS};
 ghost use Rattle.go_chains.specs.declared.cells.TheConstants.{COUNT, LIBERTIES, WORDS};
@@ -145,7 +144,7 @@ fn code_in(numbers: &[u64; COUNT], number: usize) -> u8
 /// How many words hold a bit for each point of a board of this size. Those past them are never
 /// looked at.
 pub fn words_of(size: Size) -> usize
-    ensures value { result ≡ words_for (lines_of size * lines_of size) }
+    ensures value { result ≡ words_for (size * size) }
     ensures bound { result ≤ WORDS }
 {
     (usize::from(size.points()) + 63) / 64

@@ -1,14 +1,12 @@
 //! The placed stone's chain takes in the chains of its colour beside it.
-ghost use Rattle.std.specs.Prelude.{◌≡◌, ◌<◌, ◌≤◌, ◌+◌, ◌-◌, ◌*◌, ℕ, length, vec_capacity, vec_len};
+ghost use Rattle.std.specs.Prelude.{◌≤◌, ◌+◌, ◌*◌, vec_capacity, vec_len};
 ghost use Rattle.go_board.specs.Paths.{IsAdjacent};
-ghost use Rattle.go_board.specs.Sizes.{lines_of};
 ghost use Rattle.go_board.specs.declared.size.TheConstants.{MAX_POINTS};
 ghost use Rattle.go_chains.specs.declared.cells.TheConstants.{WORDS};
 ghost use Rattle.go_chains.specs.Beside.{AreBeside};
-ghost use Rattle.go_chains.specs.Cells.{chain_size, growth, tables_of};
+ghost use Rattle.go_chains.specs.Cells.{chain_size, growth};
 ghost use Rattle.go_chains.specs.Edits.{Edited};
-ghost use Rattle.go_chains.specs.Steps.{IsConnected, IsConnectedTo};
-ghost use Rattle.go_chains.specs.Tables.{IsStone, IsTidy};
+ghost use Rattle.go_chains.specs.CellSteps.{AreTidy, Connects, ConnectsAll, HasStone};
 
 use crate::cells::{Cells, LABELS, SIZES};
 use crate::change::Change;
@@ -26,18 +24,15 @@ fn connect_one<A: Allocator + Copy>(
     point: usize,
     near: usize,
 )
-    requires tidy { IsTidy (lines_of size * lines_of size) (IsAdjacent (lines_of size))
-        (tables_of cells.old.numbers) }
-    requires stone { IsStone (lines_of size * lines_of size) (tables_of cells.old.numbers) point }
-    requires beside { IsAdjacent (lines_of size) point near }
+    requires tidy { AreTidy size cells.old }
+    requires stone { HasStone size cells.old point }
+    requires beside { IsAdjacent size point near }
     requires room { vec_len changes.old + (MAX_POINTS + WORDS + 3) ≤ vec_capacity changes.old }
-    ensures tidy { IsTidy (lines_of size * lines_of size) (IsAdjacent (lines_of size))
-        (tables_of cells.new.numbers) }
-    ensures connected { IsConnected (lines_of size * lines_of size) (tables_of cells.old.numbers)
-        (tables_of cells.new.numbers) point near }
+    ensures tidy { AreTidy size cells.new }
+    ensures connected { Connects size cells.old cells.new point near }
     ensures edited { Edited cells.old cells.new changes.old changes.new meter.old meter.new
-        (growth cells.old.numbers cells.new.numbers point + WORDS + 3)
-        (3 * growth cells.old.numbers cells.new.numbers point + 3 * WORDS + 15) }
+        (growth cells.old cells.new point + WORDS + 3)
+        (3 * growth cells.old cells.new point + 3 * WORDS + 15) }
 {
     if cells.get(near, meter) != cells.get(point, meter) {
         return;
@@ -63,19 +58,16 @@ pub fn connect<A: Allocator + Copy>(
     point: usize,
     beside: &[usize],
 )
-    requires tidy { IsTidy (lines_of size * lines_of size) (IsAdjacent (lines_of size))
-        (tables_of cells.old.numbers) }
-    requires stone { IsStone (lines_of size * lines_of size) (tables_of cells.old.numbers) point }
-    requires beside { AreBeside (lines_of size) point beside.now }
+    requires tidy { AreTidy size cells.old }
+    requires stone { HasStone size cells.old point }
+    requires beside { AreBeside size point beside.now }
     requires room { vec_len changes.old + 4 * (MAX_POINTS + WORDS + 3) ≤ vec_capacity changes.old }
-    ensures tidy { IsTidy (lines_of size * lines_of size) (IsAdjacent (lines_of size))
-        (tables_of cells.new.numbers) }
-    ensures connected { IsConnectedTo (lines_of size * lines_of size) (tables_of cells.old.numbers)
-        (tables_of cells.new.numbers) point beside.now (length beside.now) }
+    ensures tidy { AreTidy size cells.new }
+    ensures connected { ConnectsAll size cells.old cells.new point beside.now }
     ensures few { chain_size cells.new.numbers point ≤ MAX_POINTS }
     ensures edited { Edited cells.old cells.new changes.old changes.new meter.old meter.new
-        (growth cells.old.numbers cells.new.numbers point + 4 * (WORDS + 3))
-        (3 * growth cells.old.numbers cells.new.numbers point + 4 * (3 * WORDS + 15)) }
+        (growth cells.old cells.new point + 4 * (WORDS + 3))
+        (3 * growth cells.old cells.new point + 4 * (3 * WORDS + 15)) }
 {
     for near in beside {
         connect_one(cells, changes, meter, size, point, *near);

@@ -1,5 +1,5 @@
 //! Writes to the cells of a board that are logged.
-ghost use Rattle.std.specs.Prelude.{◌≡◌, ◌<◌, ◌≤◌, ◌+◌, slice_index, vec_capacity, vec_len};
+ghost use Rattle.std.specs.Prelude.{◌≡◌, ◌<◌, slice_index, vec_capacity, vec_len};
 ghost use Rattle.go_chains.specs.declared.cells.TheConstants.{COUNT};
 ghost use Rattle.go_chains.specs.Cells.{IsWritten};
 ghost use Rattle.go_chains.specs.Edits.{Edited};

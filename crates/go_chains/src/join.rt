@@ -1,15 +1,11 @@
 //! Two chains made one: relabelled, their rings spliced, their liberties together.
 ghost use Rattle.std.specs.Prelude.{◌≡◌, ◌≢◌, ◌<◌, ◌≤◌, ◌+◌, ◌*◌, ℕ, vec_capacity, vec_len};
-ghost use Rattle.go_board.specs.Paths.{IsAdjacent};
-ghost use Rattle.go_board.specs.Sizes.{lines_of};
 ghost use Rattle.go_board.specs.declared.size.TheConstants.{MAX_POINTS};
 ghost use Rattle.go_chains.specs.declared.cells.TheConstants.{WORDS};
-ghost use Rattle.go_chains.specs.Cells.{chain_size, colour_of, label_of, next_of, size_of, tables_of, words_for};
+ghost use Rattle.go_chains.specs.Cells.{chain_size, colour_of, label_of, next_of};
 ghost use Rattle.go_chains.specs.Edits.{Edited};
 ghost use Rattle.go_chains.specs.Rings.{steps};
-ghost use Rattle.go_chains.specs.Steps.{IsJoin};
-ghost use Rattle.go_chains.specs.Tables.{IsStone, IsTidy};
-ghost use Rattle.go_chains.specs.Writes.{IsMerged, IsRelabelled};
+ghost use Rattle.go_chains.specs.CellSteps.{AreTidy, HasStone, Joins, Merges, Relabels};
 
 use crate::cells::{Cells, LABELS, LINKS, SIZES, word_place, words_of};
 use crate::change::Change;
@@ -28,7 +24,7 @@ fn relabel<A: Allocator + Copy>(
 )
     requires on { (i : ℕ) → i < stones → steps (next_of cells.old.numbers) i from < MAX_POINTS }
     requires room { vec_len changes.old + stones ≤ vec_capacity changes.old }
-    ensures relabelled { IsRelabelled (next_of cells.old.numbers) cells.old.numbers cells.new.numbers from stones to }
+    ensures relabelled { Relabels cells.old cells.new from stones to }
     ensures edited { Edited cells.old cells.new changes.old changes.new meter.old meter.new
         stones (3 * stones) }
 {
@@ -52,8 +48,7 @@ fn merge_words<A: Allocator + Copy>(
     requires gone { gone < MAX_POINTS }
     requires apart { keep ≢ gone }
     requires room { vec_len changes.old + WORDS ≤ vec_capacity changes.old }
-    ensures merged { IsMerged cells.old.numbers cells.new.numbers keep gone
-        (words_for (lines_of size * lines_of size)) }
+    ensures merged { Merges size cells.old cells.new keep gone }
     ensures edited { Edited cells.old cells.new changes.old changes.new meter.old meter.new
         WORDS (3 * WORDS) }
 {
@@ -74,16 +69,14 @@ pub fn join<A: Allocator + Copy>(
     first: usize,
     second: usize,
 )
-    requires tidy { IsTidy (lines_of size * lines_of size) (IsAdjacent (lines_of size))
-        (tables_of cells.old.numbers) }
-    requires first { IsStone (lines_of size * lines_of size) (tables_of cells.old.numbers) first }
-    requires second { IsStone (lines_of size * lines_of size) (tables_of cells.old.numbers) second }
+    requires tidy { AreTidy size cells.old }
+    requires first { HasStone size cells.old first }
+    requires second { HasStone size cells.old second }
     requires same { colour_of cells.old.numbers first ≡ colour_of cells.old.numbers second }
     requires apart { label_of cells.old.numbers first ≢ label_of cells.old.numbers second }
     requires room { vec_len changes.old
-        + (size_of cells.old.numbers (label_of cells.old.numbers second) + WORDS + 3) ≤ vec_capacity changes.old }
-    ensures joined { IsJoin (lines_of size * lines_of size) (tables_of cells.old.numbers)
-        (tables_of cells.new.numbers) first second }
+        + (chain_size cells.old.numbers second + WORDS + 3) ≤ vec_capacity changes.old }
+    ensures joined { Joins size cells.old cells.new first second }
     ensures edited { Edited cells.old cells.new changes.old changes.new meter.old meter.new
         (chain_size cells.old.numbers second + WORDS + 3)
         (3 * chain_size cells.old.numbers second + 3 * WORDS + 9) }

@@ -1,13 +1,10 @@
 //! Stones taken off the board, and their points given back as liberties to the chains beside them.
-ghost use Rattle.std.specs.Prelude.{◌≡◌, ◌≢◌, ◌<◌, ◌≤◌, ◌+◌, ◌*◌, ◌⊎◌, ℕ, All, length, vec_capacity, vec_len};
-ghost use Rattle.go_board.specs.Paths.{IsAdjacent};
-ghost use Rattle.go_board.specs.Sizes.{lines_of};
+ghost use Rattle.std.specs.Prelude.{◌≡◌, ◌≢◌, ◌<◌, ◌≤◌, ◌+◌, ◌*◌, ℕ, All, length, vec_capacity, vec_len};
 ghost use Rattle.go_board.specs.declared.size.TheConstants.{MAX_POINTS};
-ghost use Rattle.go_chains.specs.Cells.{colour_of, label_of, size_of, tables_of};
+ghost use Rattle.go_chains.specs.Cells.{chain_size, colour_of};
 ghost use Rattle.go_chains.specs.Edits.{Edited};
-ghost use Rattle.go_chains.specs.Steps.{IsRemoved};
-ghost use Rattle.go_chains.specs.Tables.{IsStone, IsTidy, IsWhole};
-ghost use Rattle.go_chains.specs.Writes.{IsGiven, IsGivenBeside, IsLifted};
+ghost use Rattle.go_chains.specs.Writes.{IsGiven, IsLifted};
+ghost use Rattle.go_chains.specs.CellSteps.{AreTidy, AreWhole, FitsWith, GivesAll, GivesAt, HasStone, HasTwoColours, Removes};
 
 use crate::beside::beside;
 use crate::cells::{Cells, LABELS, LINKS, SIZES, word_place};
@@ -46,10 +43,9 @@ fn give_one<A: Allocator + Copy>(
 )
     requires near { near < MAX_POINTS }
     requires point { point < MAX_POINTS }
-    requires label { colour_of cells.old.numbers near ≡ colour → label_of cells.old.numbers near < MAX_POINTS }
+    requires label { FitsWith cells.old colour near }
     requires room { vec_len changes.old < vec_capacity changes.old }
-    ensures given { IsGiven cells.old.numbers cells.new.numbers point
-        (λ l. (colour_of cells.old.numbers near ≡ colour) × (label_of cells.old.numbers near ≡ l)) }
+    ensures given { GivesAt cells.old cells.new point near colour }
     ensures edited { Edited cells.old cells.new changes.old changes.new meter.old meter.new 1 4 }
 {
     if cells.get(near, meter) != colour {
@@ -71,11 +67,9 @@ fn give_back<A: Allocator + Copy>(
     requires few { length beside.now ≤ 4 }
     requires on { All (λ near. near < MAX_POINTS) beside.now }
     requires point { point < MAX_POINTS }
-    requires labels { All (λ near. colour_of cells.old.numbers near ≡ colour
-        → label_of cells.old.numbers near < MAX_POINTS) beside.now }
+    requires labels { All (FitsWith cells.old colour) beside.now }
     requires room { vec_len changes.old + 4 ≤ vec_capacity changes.old }
-    ensures given { IsGiven cells.old.numbers cells.new.numbers point
-        (IsGivenBeside cells.old.numbers beside.now colour (length beside.now)) }
+    ensures given { GivesAll cells.old cells.new point beside.now colour }
     ensures edited { Edited cells.old cells.new changes.old changes.new meter.old meter.new 4 16 }
 {
     for near in beside {
@@ -93,12 +87,11 @@ fn lift<A: Allocator + Copy>(
     own: u64,
     other: u64,
 )
-    requires point { point < lines_of size * lines_of size }
+    requires point { point < size * size }
     requires own { colour_of cells.old.numbers point ≡ own }
-    requires labels { (s : ℕ) → s < lines_of size * lines_of size → colour_of cells.old.numbers s ≡ other
-        → label_of cells.old.numbers s < MAX_POINTS }
+    requires labels { (s : ℕ) → s < size * size → FitsWith cells.old other s }
     requires room { vec_len changes.old + 5 ≤ vec_capacity changes.old }
-    ensures lifted { IsLifted (lines_of size) cells.old.numbers cells.new.numbers point other }
+    ensures lifted { IsLifted size cells.old.numbers cells.new.numbers point other }
     ensures edited { Edited cells.old cells.new changes.old changes.new meter.old meter.new 5 17 }
 {
     replace(cells, changes, meter, point, own, 0);
@@ -116,20 +109,16 @@ pub fn take_off<A: Allocator + Copy>(
     own: u64,
     other: u64,
 ) -> usize
-    requires tidy { IsTidy (lines_of size * lines_of size) (IsAdjacent (lines_of size))
-        (tables_of cells.old.numbers) }
-    requires whole { IsWhole (lines_of size * lines_of size) (IsAdjacent (lines_of size))
-        (tables_of cells.old.numbers) }
-    requires stone { IsStone (lines_of size * lines_of size) (tables_of cells.old.numbers) stone }
+    requires tidy { AreTidy size cells.old }
+    requires whole { AreWhole size cells.old }
+    requires stone { HasStone size cells.old stone }
     requires own { colour_of cells.old.numbers stone ≡ own }
     requires other { 0 < other }
     requires apart { own ≢ other }
-    requires two { (s : ℕ) → IsStone (lines_of size * lines_of size) (tables_of cells.old.numbers) s
-        → (colour_of cells.old.numbers s ≡ own) ⊎ (colour_of cells.old.numbers s ≡ other) }
+    requires two { HasTwoColours size cells.old own other }
     requires room { vec_len changes.old + 5 * MAX_POINTS ≤ vec_capacity changes.old }
-    ensures removed { IsRemoved (lines_of size * lines_of size) (IsAdjacent (lines_of size))
-        (tables_of cells.old.numbers) (tables_of cells.new.numbers) stone }
-    ensures stones { result ≡ size_of cells.old.numbers (label_of cells.old.numbers stone) }
+    ensures removed { Removes size cells.old cells.new stone }
+    ensures stones { result ≡ chain_size cells.old.numbers stone }
     ensures edited { Edited cells.old cells.new changes.old changes.new meter.old meter.new
         (5 * result) (2 + 18 * result) }
 {

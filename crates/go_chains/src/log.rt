@@ -1,6 +1,6 @@
-ghost use Rattle.std.specs.Prelude.{◌≡◌, ◌<◌, ◌≤◌, ◌+◌, ◌-◌, ◌++◌, ◌∷◌, [], List, ℕ, OnOk, length, drop, take, vec_capacity, vec_len};
+ghost use Rattle.std.specs.Prelude.{◌≡◌, ◌<◌, ◌≤◌, ◌+◌, ◌++◌, ◌∷◌, [], List, OnOk, length, vec_capacity, vec_len};
 ghost use Rattle.go_chains.specs.declared.cells.TheConstants.{COUNT};
-ghost use Rattle.go_chains.specs.Rewound.{IsPutBack, NamesCells, rewound, undone};
+ghost use Rattle.go_chains.specs.Rewound.{ForLast, IsPutBack, NamesCells, before_end, end_of, rewound, undone};
 
 use crate::cells::Cells;
 use crate::change::Change;
@@ -51,11 +51,9 @@ impl<A: Allocator + Copy> Log<A> {
     /// Puts the last play's changes back, from the last to the first, and drops that play.
     pub(crate) fn put_back(&mut self, cells: &mut Cells, meter: &mut Meter)
         requires play { 0 < length self.old }
-        requires names { (earlier : List (List Change)) (changes : List Change)
-            → self.old ≡ earlier ++ changes ∷ [] → NamesCells COUNT changes }
-        ensures { (earlier : List (List Change)) (changes : List Change)
-            → self.old ≡ earlier ++ changes ∷ []
-            → IsPutBack cells.old cells.new self.new earlier changes meter.old meter.new }
+        requires names { ForLast self.old (λ earlier changes. NamesCells COUNT changes) }
+        ensures { ForLast self.old (λ earlier changes.
+            IsPutBack cells.old cells.new self.new earlier changes meter.old meter.new) }
     {
         if let Some(count) = self.lengths.pop() {
             put_back_changes(cells, &mut self.changes, meter, count);
@@ -71,13 +69,11 @@ fn put_back_changes<A: Allocator + Copy>(
     count: usize,
 )
     requires enough { count ≤ length changes.old.items }
-    requires names { NamesCells COUNT (drop (length changes.old.items - count) changes.old.items) }
-    ensures cells { cells.new.numbers
-        ≡ rewound cells.old.numbers (drop (length changes.old.items - count) changes.old.items) }
+    requires names { NamesCells COUNT (end_of count changes.old.items) }
+    ensures cells { cells.new.numbers ≡ rewound cells.old.numbers (end_of count changes.old.items) }
     ensures traced { cells.new.trace ≡ cells.old.trace
-        ++ undone cells.old.numbers (drop (length changes.old.items - count) changes.old.items) }
-    ensures changes { changes.new.items
-        ≡ take (length changes.old.items - count) changes.old.items }
+        ++ undone cells.old.numbers (end_of count changes.old.items) }
+    ensures changes { changes.new.items ≡ before_end count changes.old.items }
     ensures count { meter.new ≡ meter.old + count }
 {
     for _ in 0..count {

@@ -1,15 +1,12 @@
 //! A stone on an empty point: a chain of its own, and no liberty of the chains beside it any more.
-ghost use Rattle.std.specs.Prelude.{◌≡◌, ◌<◌, ◌≤◌, ◌+◌, ◌*◌, ℕ, All, length, vec_capacity, vec_len};
-ghost use Rattle.go_board.specs.Paths.{IsAdjacent};
-ghost use Rattle.go_board.specs.Sizes.{lines_of};
+ghost use Rattle.std.specs.Prelude.{◌≡◌, ◌<◌, ◌≤◌, ◌+◌, ◌*◌, All, length, vec_capacity, vec_len};
 ghost use Rattle.go_board.specs.declared.size.TheConstants.{MAX_POINTS};
 ghost use Rattle.go_chains.specs.declared.cells.TheConstants.{WORDS};
 ghost use Rattle.go_chains.specs.Beside.{AreBeside};
-ghost use Rattle.go_chains.specs.Cells.{colour_of, label_of, tables_of, words_for};
+ghost use Rattle.go_chains.specs.Cells.{colour_of};
 ghost use Rattle.go_chains.specs.Edits.{Edited};
-ghost use Rattle.go_chains.specs.Steps.{IsOccupied};
-ghost use Rattle.go_chains.specs.Tables.{IsTidy};
-ghost use Rattle.go_chains.specs.Writes.{IsDeprived, IsFilled, IsMarked, IsStoneBeside, MarksEmpty};
+ghost use Rattle.go_chains.specs.Writes.{IsDeprived, IsMarked, MarksEmpty};
+ghost use Rattle.go_chains.specs.CellSteps.{AreTidy, DeprivesAll, DeprivesAt, Fills, Fits, Occupies};
 
 use crate::cells::{Cells, LABELS, LINKS, SIZES, WORDS, word_place, words_of};
 use crate::change::Change;
@@ -84,10 +81,9 @@ fn deprive_one<A: Allocator + Copy>(
 )
     requires near { near < MAX_POINTS }
     requires point { point < MAX_POINTS }
-    requires label { 0 < colour_of cells.old.numbers near → label_of cells.old.numbers near < MAX_POINTS }
+    requires label { Fits cells.old near }
     requires room { vec_len changes.old < vec_capacity changes.old }
-    ensures deprived { IsDeprived cells.old.numbers cells.new.numbers point
-        (λ l. (0 < colour_of cells.old.numbers near) × (label_of cells.old.numbers near ≡ l)) }
+    ensures deprived { DeprivesAt cells.old cells.new point near }
     ensures edited { Edited cells.old cells.new changes.old changes.new meter.old meter.new 1 4 }
 {
     if cells.get(near, meter) == 0 {
@@ -108,11 +104,9 @@ fn deprive<A: Allocator + Copy>(
     requires few { length beside.now ≤ 4 }
     requires on { All (λ near. near < MAX_POINTS) beside.now }
     requires point { point < MAX_POINTS }
-    requires labels { All (λ near. 0 < colour_of cells.old.numbers near
-        → label_of cells.old.numbers near < MAX_POINTS) beside.now }
+    requires labels { All (Fits cells.old) beside.now }
     requires room { vec_len changes.old + 4 ≤ vec_capacity changes.old }
-    ensures deprived { IsDeprived cells.old.numbers cells.new.numbers point
-        (IsStoneBeside cells.old.numbers beside.now (length beside.now)) }
+    ensures deprived { DeprivesAll cells.old cells.new point beside.now }
     ensures edited { Edited cells.old cells.new changes.old changes.new meter.old meter.new 4 16 }
 {
     for near in beside {
@@ -132,8 +126,7 @@ fn fill_words<A: Allocator + Copy>(
     requires label { label < MAX_POINTS }
     requires words { length words.now ≡ WORDS }
     requires room { vec_len changes.old + WORDS ≤ vec_capacity changes.old }
-    ensures filled { IsFilled cells.old.numbers cells.new.numbers label words.now
-        (words_for (lines_of size * lines_of size)) }
+    ensures filled { Fills size cells.old cells.new label words.now }
     ensures edited { Edited cells.old cells.new changes.old changes.new meter.old meter.new
         WORDS (2 * WORDS) }
 {
@@ -153,15 +146,13 @@ pub fn occupy<A: Allocator + Copy>(
     point: usize,
     beside: &[usize],
 )
-    requires tidy { IsTidy (lines_of size * lines_of size) (IsAdjacent (lines_of size))
-        (tables_of cells.old.numbers) }
-    requires point { point < lines_of size * lines_of size }
+    requires tidy { AreTidy size cells.old }
+    requires point { point < size * size }
     requires empty { colour_of cells.old.numbers point ≡ 0 }
     requires colour { 0 < colour }
-    requires beside { AreBeside (lines_of size) point beside.now }
+    requires beside { AreBeside size point beside.now }
     requires room { vec_len changes.old + (WORDS + 8) ≤ vec_capacity changes.old }
-    ensures occupied { IsOccupied (lines_of size * lines_of size) (IsAdjacent (lines_of size))
-        (tables_of cells.old.numbers) (tables_of cells.new.numbers) point colour }
+    ensures occupied { Occupies size cells.old cells.new point colour }
     ensures edited { Edited cells.old cells.new changes.old changes.new meter.old meter.new
         (WORDS + 8) (2 * WORDS + 27) }
 {

@@ -1,15 +1,14 @@
 //! A play over the cells: the stone placed and joined, the opponent's chains captured, and then its
 //! own chain taken off if that has no liberty.
-ghost use Rattle.std.specs.Prelude.{◌≡◌, ◌<◌, ◌≤◌, ◌+◌, ◌-◌, ◌*◌, Some, slice_set, vec_capacity, vec_len};
+ghost use Rattle.std.specs.Prelude.{◌≡◌, ◌<◌, ◌≤◌, ◌+◌, ◌-◌, ◌*◌, vec_capacity, vec_len};
 ghost use Rattle.go_board.specs.Colours.{other};
-ghost use Rattle.go_board.specs.Reaching.{moved, vanished};
-ghost use Rattle.go_board.specs.Sizes.{lines_of};
+ghost use Rattle.go_board.specs.Reaching.{moved};
 ghost use Rattle.go_chains.specs.declared.place.TheConstants.{ROOM};
 ghost use Rattle.go_chains.specs.Beside.{AreBeside};
 ghost use Rattle.go_chains.specs.Cells.{colour_of};
-ghost use Rattle.go_chains.specs.Playing.{most_of};
+ghost use Rattle.go_chains.specs.Playing.{lost, most_of};
 ghost use Rattle.go_chains.specs.Edits.{Edited};
-ghost use Rattle.go_chains.specs.Sound.{IsKept, colouring_of};
+ghost use Rattle.go_chains.specs.Sound.{IsKept, colours_in};
 
 use crate::capture::{capture, take_one};
 use crate::cells::{Cells, WORDS};
@@ -35,21 +34,19 @@ pub fn place<A: Allocator + Copy>(
     point: usize,
     near: &[usize],
 ) -> Taken
-    requires kept { IsKept (lines_of size) cells.old.numbers }
-    requires point { point < lines_of size * lines_of size }
+    requires kept { IsKept size cells.old.numbers }
+    requires point { point < size * size }
     requires empty { colour_of cells.old.numbers point ≡ 0 }
-    requires near { AreBeside (lines_of size) point near.now }
+    requires near { AreBeside size point near.now }
     requires room { vec_len changes.old + ROOM ≤ vec_capacity changes.old }
-    ensures kept { IsKept (lines_of size) cells.new.numbers }
-    ensures colours { colouring_of (lines_of size) cells.new.numbers
-        ≡ moved (lines_of size) (colouring_of (lines_of size) cells.old.numbers) colour point }
-    ensures theirs { result.theirs ≡ vanished (lines_of size)
-        (slice_set (colouring_of (lines_of size) cells.old.numbers) point (Some colour))
-        (colouring_of (lines_of size) cells.new.numbers) (other colour) }
-    ensures own { result.own ≡ vanished (lines_of size)
-        (slice_set (colouring_of (lines_of size) cells.old.numbers) point (Some colour))
-        (colouring_of (lines_of size) cells.new.numbers) colour }
-    ensures edited { let most = most_of (lines_of size) (colouring_of (lines_of size) cells.old.numbers) colour point in
+    ensures kept { IsKept size cells.new.numbers }
+    ensures colours { colours_in size cells.new
+        ≡ moved size (colours_in size cells.old) colour point }
+    ensures theirs { result.theirs ≡ lost size (colours_in size cells.old)
+        (colours_in size cells.new) colour point (other colour) }
+    ensures own { result.own ≡ lost size (colours_in size cells.old)
+        (colours_in size cells.new) colour point colour }
+    ensures edited { let most = most_of size (colours_in size cells.old) colour point in
         Edited cells.old cells.new changes.old changes.new meter.old meter.new most (3 * most - 1) }
 {
     joined_by_a_path();

@@ -1,6 +1,5 @@
 use Rattle.std.proofs.Common.{◌<◌, ◌*◌, ◌≤◌, length, map, ap, ◌∙◌, sym, arith}
 use Rattle.std.proofs.lemmas.List.{take_all}
-use Rattle.go_board.specs.Sizes.{lines_of}
 use Rattle.go_board.specs.declared.size.TheConstants.{MAX_POINTS}
 use Rattle.go_board.specs.Points.{number_of}
 use Rattle.go_chains.proofs.Neighbours.{are_beside_by_number, square-le}
@@ -8,7 +7,7 @@ use Rattle.go_chains.proofs.beside.beside.Goals as goal
 
 pub returns : goal.returns
 returns c =
-    let n = lines_of c.args.size in
+    let n = c.args.size in
     let p = number_of n c.args.p in
     let shown = c.as_slice-q-items in
     let p_in : p < n * n = c.points_by_number.ensures.number n c.args.p c.requires in

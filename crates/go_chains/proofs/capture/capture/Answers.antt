@@ -1,7 +1,6 @@
 use Rattle.std.proofs.Common.{arith, ◌≡◌, ◌*◌, ℕ, subst, inl, inr, slice_index}
 use Rattle.std.proofs.lemmas.Bool.{cases_lt}
 use Rattle.go_board.specs.Paths.{IsAdjacent}
-use Rattle.go_board.specs.Sizes.{lines_of}
 use Rattle.go_chains.specs.Cells.{colour_of, label_of, tables_of}
 use Rattle.go_chains.specs.Tables.{IsDead}
 use Rattle.go_chains.proofs.Capturing.{IsCapturing_none}
@@ -11,12 +10,12 @@ use Rattle.go_chains.proofs.capture.capture.Goals as goal
 
 pub take_one-taken-requires-clause-two : goal.take_one-taken-requires-clause-two
 take_one-taken-requires-clause-two g c =
-    let n = lines_of c.args.size in
+    let n = c.args.size in
     still_two (n * n) (IsAdjacent n) (tables_of c.args.cells.now.numbers) (tables_of c.loop-near.cells.numbers) c.args.own c.args.other c.loop-near.invariant.capturing c.requires.two
 
 pub loop-near-preserved : goal.loop-near-preserved
 loop-near-preserved g c =
-    let n = lines_of c.args.size in
+    let n = c.args.size in
     let old = c.args.cells.now.numbers in
     let mid = c.loop-near.cells.numbers in
     let new = c.take_one-taken.new.cells.numbers in

@@ -1,6 +1,5 @@
 use Rattle.std.proofs.Common.{◌≡◌, ◌<◌, ◌≤◌, ◌+◌, ◌*◌, ℕ, slice_index}
 use Rattle.go_board.specs.Paths.{IsAdjacent}
-use Rattle.go_board.specs.Sizes.{lines_of}
 use Rattle.go_board.specs.declared.size.TheConstants.{MAX_POINTS}
 use Rattle.go_chains.specs.declared.cells.TheConstants.{WORDS}
 use Rattle.go_chains.specs.Cells.{colour_of, label_of, tables_of}
@@ -11,7 +10,7 @@ use Rattle.go_chains.proofs.capture.capture.Given as goal
 
 abbrev pub invariant-loop-near : goal.invariant-loop-near
 invariant-loop-near g l =
-    let n = lines_of l.fn.size in
+    let n = l.fn.size in
     let old = l.fn.cells.numbers in
     record {
       capturing : IsCapturing (n * n) (IsAdjacent n) (tables_of old) (tables_of l.cells.numbers) l.fn.own;

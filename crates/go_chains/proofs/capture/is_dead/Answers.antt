@@ -1,11 +1,10 @@
 use Rattle.std.proofs.Common.{arith, ◌≡◌, ◌∙◌, ◌*◌}
-use Rattle.go_board.specs.Sizes.{lines_of}
 use Rattle.go_chains.proofs.Dying.{dead_more}
 use Rattle.go_chains.proofs.capture.is_dead.Goals as goal
 
 pub loop-word-preserved : goal.loop-word-preserved
 loop-word-preserved c =
-    let n = lines_of c.args.size in
+    let n = c.args.size in
     let points_is : c.from-points.result ≡ n * n = c.from-points.ensures ∙ c.points.ensures.value in
     record {
       none = dead_more c.args.cells.now.numbers c.args.label (n * n) c.loop-word.word c.loop-word.invariant.none

@@ -1,6 +1,5 @@
 use Rattle.std.proofs.Common.{arith, ◌≡◌, ◌*◌, ℕ, sym, ◌∙◌, subst}
 use Rattle.go_board.specs.Paths.{IsAdjacent}
-use Rattle.go_board.specs.Sizes.{lines_of}
 use Rattle.go_chains.specs.Cells.{colour_of, tables_of}
 use Rattle.go_chains.specs.Steps.{CountsTaken}
 use Rattle.go_chains.specs.Tables.{IsDead, IsStone}
@@ -13,7 +12,7 @@ use Rattle.go_chains.proofs.capture.take_one.Goals as goal
 
 pub is_dead-requires : goal.is_dead-requires
 is_dead-requires g c =
-    let n = lines_of c.args.size in
+    let n = c.args.size in
     let old = c.args.cells.now.numbers in
     let is : colour_of old c.args.near ≡ c.args.own = sym c.get.ensures.value ∙ c.if-get-own.false in
     let some = c.requires.own in
@@ -26,7 +25,7 @@ returns-then-not-is_dead-clause-edited g c = Edited_none (omega arith) (omega ar
 
 pub returns-clause-capturing : goal.returns-clause-capturing
 returns-clause-capturing g c t tidy capturing =
-    let n = lines_of c.args.size in
+    let n = c.args.size in
     let old = c.args.cells.now.numbers in
     let is : colour_of old c.args.near ≡ c.args.own = sym c.get.ensures.value ∙ c.if-get-own.false in
     let D : ℕ → Type 0 = λ l. IsDead (n * n) (tables_of old) l in
@@ -35,7 +34,7 @@ returns-clause-capturing g c t tidy capturing =
 
 pub returns-clause-stones : goal.returns-clause-stones
 returns-clause-stones g c =
-    let n = lines_of c.args.size in
+    let n = c.args.size in
     let old = c.args.cells.now.numbers in
     let is : colour_of old c.args.near ≡ c.args.own = sym c.get.ensures.value ∙ c.if-get-own.false in
     let P : ℕ → Type 0 = λ k. CountsTaken (n * n) (tables_of old) (tables_of c.take_off.new.cells.numbers) c.args.own k in
@@ -43,7 +42,7 @@ returns-clause-stones g c =
 
 pub returns-clause-few : goal.returns-clause-few
 returns-clause-few g c =
-    let n = lines_of c.args.size in
+    let n = c.args.size in
     let old = c.args.cells.now.numbers in
     let h = size_small n (IsAdjacent n) (tables_of old) (omega arith) c.requires.tidy c.args.near c.take_off.ensures.removed.stone in
     let e = c.take_off.ensures.stones in omega arith

@@ -1,5 +1,4 @@
 use Rattle.std.proofs.Common.{arith, ◌*◌, slice_index, refl}
-use Rattle.go_board.specs.Sizes.{lines_of}
 use Rattle.go_chains.specs.Cells.{tables_of}
 use Rattle.go_chains.proofs.Connecting.{IsConnectedTo_more}
 use Rattle.go_chains.proofs.Editing.{Edited_then}
@@ -8,14 +7,14 @@ use Rattle.go_chains.proofs.connect.connect.Goals as goal
 
 pub connect_one-requires-clause-room : goal.connect_one-requires-clause-room
 connect_one-requires-clause-room g c =
-    let n = lines_of c.args.size in
+    let n = c.args.size in
     let inv = c.loop-near.invariant in
     let few = size_still n c.args.cells.now.numbers c.loop-near.cells.numbers c.args.point (omega arith) inv.tidy c.requires.stone inv.connected.colours in
     let e = inv.edited.length in let t = c.loop-near-test.true in let h = c.requires.beside in omega arith
 
 pub loop-near-preserved : goal.loop-near-preserved
 loop-near-preserved g c =
-    let n = lines_of c.args.size in
+    let n = c.args.size in
     let old = c.args.cells.now.numbers in
     let mid = c.loop-near.cells.numbers in
     let new = c.connect_one.new.cells.numbers in
@@ -35,4 +34,4 @@ loop-near-preserved g c =
 pub returns-clause-few : goal.returns-clause-few
 returns-clause-few g c =
     let inv = c.loop-near.invariant in
-    size_still (lines_of c.args.size) c.args.cells.now.numbers c.loop-near.cells.numbers c.args.point (omega arith) inv.tidy c.requires.stone inv.connected.colours
+    size_still c.args.size c.args.cells.now.numbers c.loop-near.cells.numbers c.args.point (omega arith) inv.tidy c.requires.stone inv.connected.colours

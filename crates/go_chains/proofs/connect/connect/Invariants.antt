@@ -1,6 +1,5 @@
 use Rattle.std.proofs.Common.{◌+◌, ◌*◌}
 use Rattle.go_board.specs.Paths.{IsAdjacent}
-use Rattle.go_board.specs.Sizes.{lines_of}
 use Rattle.go_chains.specs.declared.cells.TheConstants.{WORDS}
 use Rattle.go_chains.specs.Cells.{growth, tables_of}
 use Rattle.go_chains.specs.Edits.{Edited}
@@ -10,8 +9,8 @@ use Rattle.go_chains.proofs.connect.connect.Given as goal
 
 abbrev pub invariant-loop-near : goal.invariant-loop-near
 invariant-loop-near g l =
-    let n = lines_of l.fn.size in
-    let grown = growth l.fn.cells.numbers l.cells.numbers l.fn.point in
+    let n = l.fn.size in
+    let grown = growth l.fn.cells l.cells l.fn.point in
     record {
       tidy : IsTidy (n * n) (IsAdjacent n) (tables_of l.cells.numbers);
       connected : IsConnectedTo (n * n) (tables_of l.fn.cells.numbers) (tables_of l.cells.numbers) l.fn.point l.fn.beside l.near-index;

@@ -1,6 +1,5 @@
 use Rattle.std.proofs.Common.{arith, ◌≡◌, ◌<◌, ◌≤◌, ◌*◌, ℕ, ap, sym, ◌∙◌, List}
 use Rattle.go_board.specs.Paths.{IsAdjacent}
-use Rattle.go_board.specs.Sizes.{lines_of}
 use Rattle.go_board.specs.declared.size.TheConstants.{MAX_LINES, MAX_POINTS}
 use Rattle.go_chains.specs.Cells.{chain_size, colour_of, label_of, size_of, tables_of}
 use Rattle.go_chains.specs.Tables.{IsStone, IsTidy}
@@ -25,22 +24,22 @@ near_small n cells point near a b small tidy stone beside a_is b_is same =
 
 pub get-requires-3 : goal.get-requires-3
 get-requires-3 g c =
-    let s = near_small (lines_of c.args.size) c.args.cells.now.numbers c.args.point c.args.near c.get.result c.get-2.result (omega arith) c.requires.tidy c.requires.stone c.requires.beside c.get.ensures.value c.get-2.ensures.value c.if-get.false in
+    let s = near_small c.args.size c.args.cells.now.numbers c.args.point c.args.near c.get.result c.get-2.result (omega arith) c.requires.tidy c.requires.stone c.requires.beside c.get.ensures.value c.get-2.ensures.value c.if-get.false in
     let e = c.get-there.ensures.value in let h = s.1 in omega arith
 
 pub get-requires-4 : goal.get-requires-4
 get-requires-4 g c =
-    let s = near_small (lines_of c.args.size) c.args.cells.now.numbers c.args.point c.args.near c.get.result c.get-2.result (omega arith) c.requires.tidy c.requires.stone c.requires.beside c.get.ensures.value c.get-2.ensures.value c.if-get.false in
+    let s = near_small c.args.size c.args.cells.now.numbers c.args.point c.args.near c.get.result c.get-2.result (omega arith) c.requires.tidy c.requires.stone c.requires.beside c.get.ensures.value c.get-2.ensures.value c.if-get.false in
     let e = c.get-here.ensures.value in let h = s.3 in omega arith
 
 pub join-requires-clause-room : goal.join-requires-clause-room
 join-requires-clause-room g c =
-    let s = near_small (lines_of c.args.size) c.args.cells.now.numbers c.args.point c.args.near c.get.result c.get-2.result (omega arith) c.requires.tidy c.requires.stone c.requires.beside c.get.ensures.value c.get-2.ensures.value c.if-get.false in
+    let s = near_small c.args.size c.args.cells.now.numbers c.args.point c.args.near c.get.result c.get-2.result (omega arith) c.requires.tidy c.requires.stone c.requires.beside c.get.ensures.value c.get-2.ensures.value c.if-get.false in
     let h = s.2 in let r = c.requires.room in omega arith
 
 pub join-requires-else-get-2-clause-room : goal.join-requires-else-get-2-clause-room
 join-requires-else-get-2-clause-room g c =
-    let s = near_small (lines_of c.args.size) c.args.cells.now.numbers c.args.point c.args.near c.get.result c.get-2.result (omega arith) c.requires.tidy c.requires.stone c.requires.beside c.get.ensures.value c.get-2.ensures.value c.if-get.false in
+    let s = near_small c.args.size c.args.cells.now.numbers c.args.point c.args.near c.get.result c.get-2.result (omega arith) c.requires.tidy c.requires.stone c.requires.beside c.get.ensures.value c.get-2.ensures.value c.if-get.false in
     let h = s.4 in let r = c.requires.room in omega arith
 
 pub returns-then-there-here-clause-edited : goal.returns-then-there-here-clause-edited
@@ -48,27 +47,27 @@ returns-then-there-here-clause-edited g c = Edited_none (omega arith) (omega ari
 
 pub returns-then-get-2-clause-tidy : goal.returns-then-get-2-clause-tidy
 returns-then-get-2-clause-tidy g c =
-    let n = lines_of c.args.size in
+    let n = c.args.size in
     IsTidy-join (n * n) (IsAdjacent n) (flip n) (inside n) (tables_of c.args.cells.now.numbers) (tables_of c.join.new.cells.numbers) c.args.point c.args.near c.requires.tidy c.join.ensures.joined c.requires.beside
 
 pub returns-then-get-2-clause-connected : goal.returns-then-get-2-clause-connected
 returns-then-get-2-clause-connected g c =
-    let n = lines_of c.args.size in
+    let n = c.args.size in
     IsConnected-first (n * n) (tables_of c.args.cells.now.numbers) (tables_of c.join.new.cells.numbers) c.args.point c.args.near c.join.ensures.joined
 
 pub returns-else-get-2-clause-tidy : goal.returns-else-get-2-clause-tidy
 returns-else-get-2-clause-tidy g c =
-    let n = lines_of c.args.size in
+    let n = c.args.size in
     IsTidy-join (n * n) (IsAdjacent n) (flip n) (inside n) (tables_of c.args.cells.now.numbers) (tables_of c.join-else-get-2.new.cells.numbers) c.args.near c.args.point c.requires.tidy c.join-else-get-2.ensures.joined (flip n c.args.point c.args.near c.requires.beside)
 
 pub returns-else-get-2-clause-connected : goal.returns-else-get-2-clause-connected
 returns-else-get-2-clause-connected g c =
-    let n = lines_of c.args.size in
+    let n = c.args.size in
     IsConnected-second (n * n) (tables_of c.args.cells.now.numbers) (tables_of c.join-else-get-2.new.cells.numbers) c.args.point c.args.near c.join-else-get-2.ensures.joined
 
 pub returns-else-get-2-clause-edited : goal.returns-else-get-2-clause-edited
 returns-else-get-2-clause-edited g c =
-    let n = lines_of c.args.size in
+    let n = c.args.size in
     let old = c.args.cells.now.numbers in
     let new = c.join-else-get-2.new.cells.numbers in
     let grown = grown-second (n * n) (tables_of old) (tables_of new) c.args.point c.args.near c.join-else-get-2.ensures.joined in

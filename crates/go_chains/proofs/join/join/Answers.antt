@@ -1,6 +1,5 @@
 use Rattle.std.proofs.Common.{arith, ◌≡◌, ◌<◌, ◌+◌, ◌*◌, ap, sym, ◌∙◌}
 use Rattle.go_board.specs.Paths.{IsAdjacent}
-use Rattle.go_board.specs.Sizes.{lines_of}
 use Rattle.go_chains.specs.declared.cells.TheConstants.{LINKS, SIZES}
 use Rattle.go_chains.specs.Cells.{chain_size, label_of, size_of, tables_of, words_for}
 use Rattle.go_chains.proofs.Joined.{IsJoin_written}
@@ -11,25 +10,25 @@ use Rattle.go_chains.proofs.join.join.Goals as goal
 
 pub get-kept-requires : goal.get-kept-requires
 get-kept-requires g c =
-    let n = lines_of c.args.size in
+    let n = c.args.size in
     let h = label_small n (IsAdjacent n) (tables_of c.args.cells.now.numbers) (omega arith) c.requires.tidy c.args.first c.requires.first in
     let e = c.get-keep.ensures.value in omega arith
 
 pub get-stones-requires : goal.get-stones-requires
 get-stones-requires g c =
-    let n = lines_of c.args.size in
+    let n = c.args.size in
     let h = label_small n (IsAdjacent n) (tables_of c.args.cells.now.numbers) (omega arith) c.requires.tidy c.args.second c.requires.second in
     let e = c.get-gone.ensures.value in omega arith
 
 pub relabel-requires-clause-on : goal.relabel-requires-clause-on
 relabel-requires-clause-on g c i below =
-    let n = lines_of c.args.size in
+    let n = c.args.size in
     let is : c.get-stones.result ≡ size_of c.args.cells.now.numbers (label_of c.args.cells.now.numbers c.args.second) = c.get-stones.ensures.value ∙ ap (size_of c.args.cells.now.numbers) c.get-gone.ensures.value in
     ring_small n (IsAdjacent n) (tables_of c.args.cells.now.numbers) (omega arith) c.requires.tidy c.args.second c.requires.second i (omega arith)
 
 pub overflow_add-stones : goal.overflow_add-stones
 overflow_add-stones g c =
-    let n = lines_of c.args.size in
+    let n = c.args.size in
     let is : c.get-stones.result ≡ size_of c.args.cells.now.numbers (label_of c.args.cells.now.numbers c.args.second) = c.get-stones.ensures.value ∙ ap (size_of c.args.cells.now.numbers) c.get-gone.ensures.value in
     let first_is : c.get-kept.result ≡ size_of c.args.cells.now.numbers (label_of c.args.cells.now.numbers c.args.first) = c.get-kept.ensures.value ∙ ap (size_of c.args.cells.now.numbers) c.get-keep.ensures.value in
     let a = size_small n (IsAdjacent n) (tables_of c.args.cells.now.numbers) (omega arith) c.requires.tidy c.args.second c.requires.second in
@@ -38,7 +37,7 @@ overflow_add-stones g c =
 
 pub get-first_next-requires : goal.get-first_next-requires
 get-first_next-requires g c =
-    let n = lines_of c.args.size in
+    let n = c.args.size in
     let s = square-le n (omega arith) in
     let below : c.args.first < n * n = c.requires.first.0 in omega arith
 
@@ -49,13 +48,13 @@ replace-requires-2-clause-old g c =
 
 pub replace-requires-3-clause-place : goal.replace-requires-3-clause-place
 replace-requires-3-clause-place g c =
-    let n = lines_of c.args.size in
+    let n = c.args.size in
     let h = label_small n (IsAdjacent n) (tables_of c.args.cells.now.numbers) (omega arith) c.requires.tidy c.args.first c.requires.first in
     let e = c.get-keep.ensures.value in omega arith
 
 pub replace-requires-3-clause-old : goal.replace-requires-3-clause-old
 replace-requires-3-clause-old g c =
-    let n = lines_of c.args.size in
+    let n = c.args.size in
     let k = SIZES + c.get-keep.result in
     let s = square-le n (omega arith) in
     let first_below : c.args.first < n * n = c.requires.first.0 in let second_below : c.args.second < n * n = c.requires.second.0 in
@@ -63,19 +62,19 @@ replace-requires-3-clause-old g c =
 
 pub merge_words-requires-clause-keep : goal.merge_words-requires-clause-keep
 merge_words-requires-clause-keep g c =
-    let n = lines_of c.args.size in
+    let n = c.args.size in
     let h = label_small n (IsAdjacent n) (tables_of c.args.cells.now.numbers) (omega arith) c.requires.tidy c.args.first c.requires.first in
     let e = c.get-keep.ensures.value in omega arith
 
 pub merge_words-requires-clause-gone : goal.merge_words-requires-clause-gone
 merge_words-requires-clause-gone g c =
-    let n = lines_of c.args.size in
+    let n = c.args.size in
     let h = label_small n (IsAdjacent n) (tables_of c.args.cells.now.numbers) (omega arith) c.requires.tidy c.args.second c.requires.second in
     let e = c.get-gone.ensures.value in omega arith
 
 pub returns-clause-joined : goal.returns-clause-joined
 returns-clause-joined g c =
-    let n = lines_of c.args.size in
+    let n = c.args.size in
     IsJoin_written (n * n) (IsAdjacent n) (square-le n (omega arith))
     c.args.cells.now.numbers c.relabel.new.cells.numbers c.replace.new.cells.numbers c.replace-2.new.cells.numbers c.replace-3.new.cells.numbers c.merge_words.new.cells.numbers
     c.args.first c.args.second c.get-keep.result c.get-gone.result c.get-kept.result c.get-stones.result c.get-first_next.result c.get-second_next.result

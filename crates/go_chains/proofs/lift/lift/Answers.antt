@@ -1,5 +1,4 @@
 use Rattle.std.proofs.Common.{arith, ℕ, sym, subst, List}
-use Rattle.go_board.specs.Sizes.{lines_of}
 use Rattle.go_chains.specs.Beside.{AreBeside}
 use Rattle.go_chains.proofs.Giving.{IsLifted_given}
 use Rattle.go_chains.proofs.Neighbours.{square-le}
@@ -8,7 +7,7 @@ use Rattle.go_chains.proofs.lift.lift.Goals as goal
 
 pub returns-clause-lifted : goal.returns-clause-lifted
 returns-clause-lifted g c =
-    let n = lines_of c.args.size in
+    let n = c.args.size in
     let P : List ℕ → Type 0 = λ xs. AreBeside n c.args.point xs in
     let Q : ℕ → Type 0 = λ k. AreBeside n k c.beside-near.result.items in
     IsLifted_given n c.args.cells.now.numbers c.replace.new.cells.numbers c.give_back.new.cells.numbers c.args.point c.args.other c.as_slice.result.now (square-le n (omega arith)) c.requires.point

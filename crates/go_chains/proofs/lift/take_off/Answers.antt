@@ -1,6 +1,5 @@
 use Rattle.std.proofs.Common.{arith, ◌≡◌, ◌+◌, ℕ, ap, sym, ◌∙◌, subst}
 use Rattle.go_board.specs.Paths.{IsAdjacent}
-use Rattle.go_board.specs.Sizes.{lines_of}
 use Rattle.go_chains.specs.declared.cells.TheConstants.{LINKS}
 use Rattle.go_chains.specs.Cells.{label_of, next_of, size_of, tables_of}
 use Rattle.go_chains.specs.Writes.{IsRingLifted}
@@ -13,13 +12,13 @@ use Rattle.go_chains.proofs.lift.take_off.Goals as goal
 
 pub get-stones-requires : goal.get-stones-requires
 get-stones-requires g c =
-    let n = lines_of c.args.size in
+    let n = c.args.size in
     let h = label_small n (IsAdjacent n) (tables_of c.args.cells.now.numbers) (omega arith) c.requires.tidy c.args.stone c.requires.stone in
     let e = c.get-label.ensures.value in omega arith
 
 pub overflow_add-at : goal.overflow_add-at
 overflow_add-at g c =
-    let n = lines_of c.args.size in
+    let n = c.args.size in
     let old = c.args.cells.now.numbers in
     let is : c.get-stones.result ≡ size_of old (label_of old c.args.stone) = c.get-stones.ensures.value ∙ ap (size_of old) c.get-label.ensures.value in
     let t = c.loop-test.true in
@@ -29,7 +28,7 @@ overflow_add-at g c =
 
 pub get-next-requires : goal.get-next-requires
 get-next-requires g c =
-    let n = lines_of c.args.size in
+    let n = c.args.size in
     let old = c.args.cells.now.numbers in
     let is : c.get-stones.result ≡ size_of old (label_of old c.args.stone) = c.get-stones.ensures.value ∙ ap (size_of old) c.get-label.ensures.value in
     let t = c.loop-test.true in
@@ -39,7 +38,7 @@ get-next-requires g c =
 
 pub lift-requires-clause-point : goal.lift-requires-clause-point
 lift-requires-clause-point g c =
-    let n = lines_of c.args.size in
+    let n = c.args.size in
     let old = c.args.cells.now.numbers in
     let is : c.get-stones.result ≡ size_of old (label_of old c.args.stone) = c.get-stones.ensures.value ∙ ap (size_of old) c.get-label.ensures.value in
     let t = c.loop-test.true in
@@ -47,7 +46,7 @@ lift-requires-clause-point g c =
 
 pub lift-requires-clause-own : goal.lift-requires-clause-own
 lift-requires-clause-own g c =
-    let n = lines_of c.args.size in
+    let n = c.args.size in
     let old = c.args.cells.now.numbers in
     let is : c.get-stones.result ≡ size_of old (label_of old c.args.stone) = c.get-stones.ensures.value ∙ ap (size_of old) c.get-label.ensures.value in
     let t = c.loop-test.true in
@@ -55,7 +54,7 @@ lift-requires-clause-own g c =
 
 pub lift-requires-clause-labels : goal.lift-requires-clause-labels
 lift-requires-clause-labels g c =
-    let n = lines_of c.args.size in
+    let n = c.args.size in
     let old = c.args.cells.now.numbers in
     let is : c.get-stones.result ≡ size_of old (label_of old c.args.stone) = c.get-stones.ensures.value ∙ ap (size_of old) c.get-label.ensures.value in
     let t = c.loop-test.true in
@@ -63,7 +62,7 @@ lift-requires-clause-labels g c =
 
 pub lift-requires-clause-room : goal.lift-requires-clause-room
 lift-requires-clause-room g c =
-    let n = lines_of c.args.size in
+    let n = c.args.size in
     let old = c.args.cells.now.numbers in
     let is : c.get-stones.result ≡ size_of old (label_of old c.args.stone) = c.get-stones.ensures.value ∙ ap (size_of old) c.get-label.ensures.value in
     let few = size_small n (IsAdjacent n) (tables_of old) (omega arith) c.requires.tidy c.args.stone c.requires.stone in
@@ -71,7 +70,7 @@ lift-requires-clause-room g c =
 
 pub loop-preserved : goal.loop-preserved
 loop-preserved g c =
-    let n = lines_of c.args.size in
+    let n = c.args.size in
     let old = c.args.cells.now.numbers in
     let i = c.loop.counter in
     let inv = c.loop.invariant in
@@ -89,7 +88,7 @@ loop-preserved g c =
 
 pub returns-clause-removed : goal.returns-clause-removed
 returns-clause-removed g c =
-    let n = lines_of c.args.size in
+    let n = c.args.size in
     let old = c.args.cells.now.numbers in
     let is : c.get-stones.result ≡ size_of old (label_of old c.args.stone) = c.get-stones.ensures.value ∙ ap (size_of old) c.get-label.ensures.value in
     let end : c.loop.counter ≡ size_of old (label_of old c.args.stone) = (let a = c.loop-test.false in let b = c.loop.auto.counter-end in omega arith) in

@@ -1,7 +1,6 @@
 use Rattle.std.proofs.Common.{arith, ◌<◌, ◌*◌, ℕ, slice_index, subst, sym}
 use Rattle.std.proofs.lemmas.List.{get_or_default}
 use Rattle.go_board.specs.Paths.{IsAdjacent}
-use Rattle.go_board.specs.Sizes.{lines_of}
 use Rattle.go_board.specs.declared.size.TheConstants.{MAX_POINTS}
 use Rattle.go_chains.specs.Cells.{colour_of, label_of, tables_of, words_for}
 use Rattle.go_chains.proofs.Neighbours.{square-le}
@@ -12,7 +11,7 @@ use Rattle.go_chains.proofs.occupy.occupy.Goals as goal
 
 pub deprive-requires-clause-labels : goal.deprive-requires-clause-labels
 deprive-requires-clause-labels g c k d below =
-    let n = lines_of c.args.size in
+    let n = c.args.size in
     let same = get_or_default c.args.beside.now k d 0 below in
     let P : ℕ → Type 0 = λ x. 0 < colour_of c.args.cells.now.numbers x → label_of c.args.cells.now.numbers x < MAX_POINTS in
     subst P (sym same) (λ some. label_small n (IsAdjacent n) (tables_of c.args.cells.now.numbers) (omega arith) c.requires.tidy (slice_index c.args.beside.now k)
@@ -20,7 +19,7 @@ deprive-requires-clause-labels g c k d below =
 
 pub returns-clause-occupied : goal.returns-clause-occupied
 returns-clause-occupied g c =
-    let n = lines_of c.args.size in
+    let n = c.args.size in
     IsOccupied_written n (square-le n (omega arith))
     c.args.cells.now.numbers c.deprive.new.cells.numbers c.replace.new.cells.numbers c.put.new.cells.numbers c.put-2.new.cells.numbers c.put-3.new.cells.numbers c.fill_words.new.cells.numbers
     c.empty_of-words.result c.args.beside.now c.args.point c.args.colour

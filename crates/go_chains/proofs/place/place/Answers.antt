@@ -1,6 +1,5 @@
 use Rattle.std.proofs.Common.{arith, ◌*◌, inl, inr, refl}
 use Rattle.go_board.specs.Paths.{IsAdjacent}
-use Rattle.go_board.specs.Sizes.{lines_of}
 use Rattle.go_chains.specs.Cells.{tables_of}
 use Rattle.go_chains.specs.Playing.{stones_beside, stones_taken}
 use Rattle.go_chains.specs.Sound.{colouring_of}
@@ -13,17 +12,17 @@ use Rattle.go_chains.proofs.Taking.{still_two}
 use Rattle.go_chains.proofs.place.place.Goals as goal
 
 pub occupy-requires-clause-tidy : goal.occupy-requires-clause-tidy
-occupy-requires-clause-tidy g c = tidy-kept (lines_of c.args.size) c.args.cells.now.numbers c.requires.kept
+occupy-requires-clause-tidy g c = tidy-kept c.args.size c.args.cells.now.numbers c.requires.kept
 
 pub connect-requires-clause-tidy : goal.connect-requires-clause-tidy
 connect-requires-clause-tidy g c =
-    let n = lines_of c.args.size in
+    let n = c.args.size in
     IsTidy-occupied (n * n) (IsAdjacent n) (inside n) (apart n) (tables_of c.args.cells.now.numbers) (tables_of c.occupy.new.cells.numbers) c.args.point c.code_of-own.result
     (tidy-kept n c.args.cells.now.numbers c.requires.kept) c.occupy.ensures.occupied
 
 pub capture-theirs-requires-clause-whole : goal.capture-theirs-requires-clause-whole
 capture-theirs-requires-clause-whole g c =
-    let n = lines_of c.args.size in
+    let n = c.args.size in
     let old = c.args.cells.now.numbers in
     let p = c.args.point in
     let own = c.code_of-own.result in
@@ -35,7 +34,7 @@ capture-theirs-requires-clause-whole g c =
 
 pub capture-theirs-requires-clause-two : goal.capture-theirs-requires-clause-two
 capture-theirs-requires-clause-two g c =
-    let n = lines_of c.args.size in
+    let n = c.args.size in
     let old = c.args.cells.now.numbers in
     let p = c.args.point in
     let own = c.code_of-own.result in
@@ -47,7 +46,7 @@ capture-theirs-requires-clause-two g c =
 
 pub take_one-taken-requires-clause-two : goal.take_one-taken-requires-clause-two
 take_one-taken-requires-clause-two g c =
-    let n = lines_of c.args.size in
+    let n = c.args.size in
     let old = c.args.cells.now.numbers in
     let p = c.args.point in
     let own = c.code_of-own.result in
@@ -62,7 +61,7 @@ take_one-taken-requires-clause-two g c =
 
 pub returns-clause-kept : goal.returns-clause-kept
 returns-clause-kept g c =
-    let n = lines_of c.args.size in
+    let n = c.args.size in
     let old = c.args.cells.now.numbers in
     let p = c.args.point in
     let own = c.code_of-own.result in
@@ -75,7 +74,7 @@ returns-clause-kept g c =
 
 pub returns-clause-colours : goal.returns-clause-colours
 returns-clause-colours g c =
-    let n = lines_of c.args.size in
+    let n = c.args.size in
     let old = c.args.cells.now.numbers in
     let p = c.args.point in
     let own = c.code_of-own.result in
@@ -88,7 +87,7 @@ returns-clause-colours g c =
 
 pub returns-clause-theirs : goal.returns-clause-theirs
 returns-clause-theirs g c =
-    let n = lines_of c.args.size in
+    let n = c.args.size in
     let old = c.args.cells.now.numbers in
     let p = c.args.point in
     let own = c.code_of-own.result in
@@ -101,7 +100,7 @@ returns-clause-theirs g c =
 
 pub returns-clause-own : goal.returns-clause-own
 returns-clause-own g c =
-    let n = lines_of c.args.size in
+    let n = c.args.size in
     let old = c.args.cells.now.numbers in
     let p = c.args.point in
     let own = c.code_of-own.result in
@@ -114,7 +113,7 @@ returns-clause-own g c =
 
 pub returns-clause-edited : goal.returns-clause-edited
 returns-clause-edited g c =
-    let n = lines_of c.args.size in
+    let n = c.args.size in
     let old = c.args.cells.now.numbers in
     let p = c.args.point in
     let own = c.code_of-own.result in

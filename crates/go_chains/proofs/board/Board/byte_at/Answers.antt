@@ -1,6 +1,5 @@
 use Rattle.std.proofs.Common.{◌≡◌, ◌*◌, ◌<◌, ◌+◌, ◌∙◌, ap, subst, sym, ℕ}
 use Rattle.go_board.specs.Packs.{byte_of}
-use Rattle.go_board.specs.Sizes.{lines_of}
 use Rattle.go_chains.specs.Sound.{BoardValue, grid_of}
 use Rattle.go_chains.proofs.Neighbours.{square-le}
 use Rattle.go_chains.proofs.Packing.{byte_within}
@@ -8,7 +7,7 @@ use Rattle.go_chains.proofs.board.Board.byte_at.Goals as goal
 
 pub returns : goal.returns
 returns c =
-    let n = lines_of c.self.inside.size in
+    let n = c.self.inside.size in
     let lines : n ≡ c.args.self.now.lines = ap (λ (b : BoardValue). b.lines) c.self.view_is in
     c.packed_byte.ensures
     ∙ byte_within n c.self.inside.cells.numbers c.args.place c.self.invariant.small (square-le n c.self.invariant.small)

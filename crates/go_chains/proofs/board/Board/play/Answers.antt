@@ -1,6 +1,5 @@
 use Rattle.std.proofs.Common.{arith, ◌≡◌, ◌-◌, ◌∙◌, ℕ, ap, length, length-append, subst}
 use Rattle.go_board.specs.Points.{number_of}
-use Rattle.go_board.specs.Sizes.{lines_of}
 use Rattle.go_chains.specs.Playing.{most_of}
 use Rattle.go_chains.specs.Rewound.{Logged}
 use Rattle.go_chains.specs.Sound.{BoardValue, colouring_of, grid_of}
@@ -9,7 +8,7 @@ use Rattle.go_chains.proofs.board.Board.play.Goals as goal
 
 pub invariant_of-log-2 : goal.invariant_of-log-2
 invariant_of-log-2 g c =
-    let n = lines_of c.self.inside.size in
+    let n = c.self.inside.size in
     (closed n n c.self.inside.cells c.place-taken.new.cells c.log.inside.changes.items c.reserve_play.new.changes.items c.place-taken.new.changes.items
     c.log.inside.lengths.items c.reserve_play.new.lengths.items c.seal.new.lengths.items c.args.log.now (most_of n (colouring_of n c.self.inside.cells.numbers) c.args.colour c.from-point.result)
     (c.len.result - c.len-before.result) c.log.invariant c.log.view_is
@@ -17,7 +16,7 @@ invariant_of-log-2 g c =
 
 pub returns-clause-logged : goal.returns-clause-logged
 returns-clause-logged g c =
-    let n = lines_of c.self.inside.size in
+    let n = c.self.inside.size in
     let at : c.from-point.result ≡ number_of n c.args.p = c.from-point.ensures ∙ c.index.ensures.value in
     let new = c.place-taken.new in
     let xs = c.reserve_play.new.changes.items in
@@ -31,7 +30,7 @@ returns-clause-logged g c =
 
 pub returns-clause-ticked : goal.returns-clause-ticked
 returns-clause-ticked g c changes split =
-    let n = lines_of c.self.inside.size in
+    let n = c.self.inside.size in
     let size = (closed n n c.self.inside.cells c.place-taken.new.cells c.log.inside.changes.items c.reserve_play.new.changes.items c.place-taken.new.changes.items
     c.log.inside.lengths.items c.reserve_play.new.lengths.items c.seal.new.lengths.items c.args.log.now (most_of n (colouring_of n c.self.inside.cells.numbers) c.args.colour c.from-point.result)
     (c.len.result - c.len-before.result) c.log.invariant c.log.view_is

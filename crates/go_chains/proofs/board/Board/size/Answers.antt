@@ -1,8 +1,7 @@
 use Rattle.std.proofs.Common.{length, ap, sym, ◌∙◌}
-use Rattle.go_board.specs.Sizes.{lines_of}
 use Rattle.go_chains.specs.Sound.{grid_of}
 use Rattle.go_chains.proofs.Bridge.{length-colouring}
 use Rattle.go_chains.proofs.board.Board.size.Goals as goal
 
 pub returns-clause-whole : goal.returns-clause-whole
-returns-clause-whole c = ap (λ b. length (grid_of b)) (sym c.self.view_is) ∙ length-colouring (lines_of c.self.inside.size) c.self.inside.cells.numbers
+returns-clause-whole c = ap (λ b. length (grid_of b)) (sym c.self.view_is) ∙ length-colouring c.self.inside.size c.self.inside.cells.numbers
