@@ -2,7 +2,7 @@
 use Rattle.std.specs.Prelude.{ℕ, List, ◌≡◌, ◌≢◌, ◌+◌, ◌-◌, ◌*◌, ◌/◌, ◌%◌, slice_index}
 use Rattle.std.specs.Int.{bit_at}
 use Rattle.go_chains.specs.declared.cells.TheConstants.{LABELS, LINKS, SIZES, LIBERTIES, WORDS}
-use Rattle.go_chains.specs.Tables.{Tables}
+use Rattle.go_chains.specs.inner.Tables.{Tables}
 use Rattle.go_chains.specs.declared.change.Change.{Change}
 
 -- what contracts see of cells: their numbers, and all writes to them

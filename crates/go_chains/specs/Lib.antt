@@ -1,14 +1,6 @@
 pub mod Rings
-pub mod Tables
-pub mod Steps
-pub mod Traces
 pub mod Cells
-pub mod Writes
 pub mod Sound
 pub mod Rewound
-pub mod Edits
-pub mod CellSteps
-pub mod Beside
-pub mod Words
-pub mod Parts
 pub mod Playing
+pub mod inner

@@ -1,5 +1,5 @@
 ghost use Rattle.go_board.specs.Points.{IsOn, number_of};
-ghost use Rattle.go_chains.specs.Beside.{AreBeside};
+ghost use Rattle.go_chains.specs.inner.Beside.{AreBeside};
 
 use arrayvec::ArrayVec;
 use go_board::laws::points_by_number;

@@ -11,11 +11,11 @@ ghost use Rattle.go_board.specs.declared.size.TheConstants.{MAX_POINTS};
 ghost use Rattle.go_chains.specs.declared.cells.TheConstants.{COUNT, WORDS};
 ghost use Rattle.go_chains.specs.declared.change.Change.{Change};
 ghost use Rattle.go_chains.specs.Cells.{colour_of, label_of, lib_of};
-ghost use Rattle.go_chains.specs.Parts.{has_label, is_in_part, points_left};
+ghost use Rattle.go_chains.specs.inner.Parts.{has_label, is_in_part, points_left};
 ghost use Rattle.go_chains.specs.Playing.{most_at, played, went};
 ghost use Rattle.go_chains.specs.Rewound.{ForLast, IsRewound, NamesCells, PlayLogged, rewound};
 ghost use Rattle.go_chains.specs.Sound.{AreStones, HoldsStone, IsKept, grid_of, shown};
-ghost use Rattle.go_chains.specs.Words.{free_in_word};
+ghost use Rattle.go_chains.specs.inner.Words.{free_in_word};
 ghost use Rattle.go_board.specs.Grids.{are_joined, chain_liberties, chain_stones, has_liberty, liberty_count, stone_at, stone_count};
 
 use crate::beside::beside;
@@ -178,7 +178,7 @@ impl Board {
         self.cells.packed_byte(place)
     }
 
-    /// The byte of the points that four don't go into, of which there are three at most.
+    /// The last byte: of the points that are left where the others are taken four by four.
     fn last_byte(&self) -> u8
         ensures { result ≡ byte_of (grid_of self.now) (self.now.lines * self.now.lines / 4) }
     {
@@ -385,8 +385,8 @@ impl Board {
     }
 
     /// Places a stone, takes off the opponent's chains that have no liberty then, and after them the
-    /// stone's own chain if that has none: how many stones that were. It judges no repetition, so a
-    /// stone that is taken off alone is a play. The log gets the play's changes.
+    /// stone's own chain if that has none. It says how many stones were taken off. Repetitions aren't
+    /// looked for, and suicide is a play. The log gets the play's changes.
     pub fn play<A: Allocator + Copy>(
         &mut self,
         log: &mut Log<A>,

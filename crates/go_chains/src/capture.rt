@@ -3,9 +3,9 @@ ghost use Rattle.std.specs.Prelude.{◌≡◌, ◌≢◌, ◌<◌, ◌≤◌, �
 ghost use Rattle.go_board.specs.declared.size.TheConstants.{MAX_POINTS};
 ghost use Rattle.go_chains.specs.declared.cells.TheConstants.{WORDS};
 ghost use Rattle.go_chains.specs.Cells.{chain_size, lib_of, tables_of};
-ghost use Rattle.go_chains.specs.Edits.{Edited};
-ghost use Rattle.go_chains.specs.Tables.{IsDead};
-ghost use Rattle.go_chains.specs.CellSteps.{AreTidy, AreWhole, Captures, CapturesMore, HasTwoColours, TakesDead, TakesStones};
+ghost use Rattle.go_chains.specs.inner.Edits.{Edited};
+ghost use Rattle.go_chains.specs.inner.Tables.{IsDead};
+ghost use Rattle.go_chains.specs.inner.CellSteps.{AreTidy, AreWhole, Captures, CapturesMore, HasTwoColours, TakesDead, TakesStones};
 
 use crate::cells::{Cells, LABELS, word_place, words_of};
 use crate::change::Change;

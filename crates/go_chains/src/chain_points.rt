@@ -1,7 +1,7 @@
 ghost use Rattle.std.specs.Prelude.{◌≡◌, ◌<◌};
 ghost use Rattle.std.specs.Iterator.{YieldsFirst, item_count};
 ghost use Rattle.go_board.specs.declared.size.TheConstants.{MAX_POINTS};
-ghost use Rattle.go_chains.specs.Parts.{points_left};
+ghost use Rattle.go_chains.specs.inner.Parts.{points_left};
 
 use crate::Board;
 use go_board::Point;
@@ -20,7 +20,9 @@ pub(crate) enum Part {
 pub struct ChainPoints<'a> {
     board: &'a Board,
     part: Part,
+    /// The label of the chain.
     label: usize,
+    /// The number of the first point that wasn't looked at yet.
     number: u16,
 }
 
@@ -28,7 +30,7 @@ impl<'a> Model for ChainPoints<'a> {
     ghost use Rattle.std.specs.Prelude.{◌<◌, List};
     ghost use Rattle.go_board.specs.declared.point.Point.{Point};
     ghost use Rattle.go_board.specs.declared.size.TheConstants.{MAX_POINTS};
-    ghost use Rattle.go_chains.specs.Parts.{points_left};
+    ghost use Rattle.go_chains.specs.inner.Parts.{points_left};
 
     ghost Value = { List Point };
 

@@ -3,10 +3,10 @@ ghost use Rattle.std.specs.Prelude.{◌≤◌, ◌+◌, ◌*◌, vec_capacity, v
 ghost use Rattle.go_board.specs.Paths.{IsAdjacent};
 ghost use Rattle.go_board.specs.declared.size.TheConstants.{MAX_POINTS};
 ghost use Rattle.go_chains.specs.declared.cells.TheConstants.{WORDS};
-ghost use Rattle.go_chains.specs.Beside.{AreBeside};
+ghost use Rattle.go_chains.specs.inner.Beside.{AreBeside};
 ghost use Rattle.go_chains.specs.Cells.{chain_size, growth};
-ghost use Rattle.go_chains.specs.Edits.{Edited};
-ghost use Rattle.go_chains.specs.CellSteps.{AreTidy, Connects, ConnectsAll, HasStone};
+ghost use Rattle.go_chains.specs.inner.Edits.{Edited};
+ghost use Rattle.go_chains.specs.inner.CellSteps.{AreTidy, Connects, ConnectsAll, HasStone};
 
 use crate::cells::{Cells, LABELS, SIZES};
 use crate::change::Change;

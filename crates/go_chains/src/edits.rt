@@ -2,7 +2,7 @@
 ghost use Rattle.std.specs.Prelude.{◌≡◌, ◌<◌, slice_index, vec_capacity, vec_len};
 ghost use Rattle.go_chains.specs.declared.cells.TheConstants.{COUNT};
 ghost use Rattle.go_chains.specs.Cells.{IsWritten};
-ghost use Rattle.go_chains.specs.Edits.{Edited};
+ghost use Rattle.go_chains.specs.inner.Edits.{Edited};
 
 use crate::cells::Cells;
 use crate::change::Change;

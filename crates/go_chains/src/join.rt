@@ -3,9 +3,9 @@ ghost use Rattle.std.specs.Prelude.{◌≡◌, ◌≢◌, ◌<◌, ◌≤◌, �
 ghost use Rattle.go_board.specs.declared.size.TheConstants.{MAX_POINTS};
 ghost use Rattle.go_chains.specs.declared.cells.TheConstants.{WORDS};
 ghost use Rattle.go_chains.specs.Cells.{chain_size, colour_of, label_of, next_of};
-ghost use Rattle.go_chains.specs.Edits.{Edited};
+ghost use Rattle.go_chains.specs.inner.Edits.{Edited};
 ghost use Rattle.go_chains.specs.Rings.{steps};
-ghost use Rattle.go_chains.specs.CellSteps.{AreTidy, HasStone, Joins, Merges, Relabels};
+ghost use Rattle.go_chains.specs.inner.CellSteps.{AreTidy, HasStone, Joins, Merges, Relabels};
 
 use crate::cells::{Cells, LABELS, LINKS, SIZES, word_place, words_of};
 use crate::change::Change;

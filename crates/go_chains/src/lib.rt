@@ -1,5 +1,28 @@
-//! The chains of a board and their liberties in fixed tables, changed in place by each play, and a
-//! log of those changes that takes plays back cell by cell.
+//! A board that keeps its chains and their liberties in fixed tables. A play changes them in place,
+//! and a log of those changes takes it back cell by cell.
+//!
+//! - [`Board`]: the stones, and what a caller may ask of them and of their chains.
+//! - [`Log`]: the changes of the plays, from which [`Board::rewind`] takes the last play back.
+//! - [`PlaceError`]: why a stone can't be placed.
+//! - [`ChainPoints`]: the stones of a chain, or its liberties, one after another.
+//! - [`Change`] and [`COUNT`]: a write to a cell and the number of cells, of which contracts speak.
+//!
+//! A play and its way back, on a board of 9 lines:
+//!
+//! ```
+//! let size = Size::new(9).expect(&rt, "a size");
+//! let p = Point::numbered(size, 40);
+//! let mut board = Board::new(size);
+//! let mut log = Log::new(rt.alloc());
+//! let mut meter = Meter::new();
+//! let taken = board.play(&mut log, &mut meter, Colour::Black, p)?;
+//! board.rewind(&mut log, &mut meter);
+//! ```
+//!
+//! What is promised is in the clauses of `board.rt` and `log.rt`, and, as a law of whole logs, in
+//! `laws.rt`. Their words are in `specs/`: `Sound` says what the colours of a board are and when its
+//! tables are right, `Playing` what a play takes and how many changes it may make, and `Rewound` what
+//! putting changes back gives. The definitions in `specs/inner/` serve private functions alone.
 #![tactic(auto)]
 
 mod beside;

@@ -2,9 +2,9 @@
 ghost use Rattle.std.specs.Prelude.{◌≡◌, ◌≢◌, ◌<◌, ◌≤◌, ◌+◌, ◌*◌, ℕ, All, length, vec_capacity, vec_len};
 ghost use Rattle.go_board.specs.declared.size.TheConstants.{MAX_POINTS};
 ghost use Rattle.go_chains.specs.Cells.{chain_size, colour_of};
-ghost use Rattle.go_chains.specs.Edits.{Edited};
-ghost use Rattle.go_chains.specs.Writes.{IsGiven, IsLifted};
-ghost use Rattle.go_chains.specs.CellSteps.{AreTidy, AreWhole, FitsWith, GivesAll, GivesAt, HasStone, HasTwoColours, Removes};
+ghost use Rattle.go_chains.specs.inner.Edits.{Edited};
+ghost use Rattle.go_chains.specs.inner.Writes.{IsGiven, IsLifted};
+ghost use Rattle.go_chains.specs.inner.CellSteps.{AreTidy, AreWhole, FitsWith, GivesAll, GivesAt, HasStone, HasTwoColours, Removes};
 
 use crate::beside::beside;
 use crate::cells::{Cells, LABELS, LINKS, SIZES, word_place};

@@ -12,7 +12,9 @@ use std::marker::Model;
 /// allocator that it was made with.
 #[derive(Drop)]
 pub struct Log<A: Allocator + Copy> {
+    /// The changes of all plays, in the order in which they were made.
     pub(crate) changes: Vec<Change, A>,
+    /// How many changes each play made.
     pub(crate) lengths: Vec<usize, A>,
 }
 

@@ -2,11 +2,11 @@
 ghost use Rattle.std.specs.Prelude.{◌≡◌, ◌<◌, ◌≤◌, ◌+◌, ◌*◌, All, length, vec_capacity, vec_len};
 ghost use Rattle.go_board.specs.declared.size.TheConstants.{MAX_POINTS};
 ghost use Rattle.go_chains.specs.declared.cells.TheConstants.{WORDS};
-ghost use Rattle.go_chains.specs.Beside.{AreBeside};
+ghost use Rattle.go_chains.specs.inner.Beside.{AreBeside};
 ghost use Rattle.go_chains.specs.Cells.{colour_of};
-ghost use Rattle.go_chains.specs.Edits.{Edited};
-ghost use Rattle.go_chains.specs.Writes.{IsDeprived, IsMarked, MarksEmpty};
-ghost use Rattle.go_chains.specs.CellSteps.{AreTidy, DeprivesAll, DeprivesAt, Fills, Fits, Occupies};
+ghost use Rattle.go_chains.specs.inner.Edits.{Edited};
+ghost use Rattle.go_chains.specs.inner.Writes.{IsDeprived, IsMarked, MarksEmpty};
+ghost use Rattle.go_chains.specs.inner.CellSteps.{AreTidy, DeprivesAll, DeprivesAt, Fills, Fits, Occupies};
 
 use crate::cells::{Cells, LABELS, LINKS, SIZES, WORDS, word_place, words_of};
 use crate::change::Change;

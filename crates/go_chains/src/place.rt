@@ -4,10 +4,10 @@ ghost use Rattle.std.specs.Prelude.{◌≡◌, ◌<◌, ◌≤◌, ◌+◌, ◌-
 ghost use Rattle.go_board.specs.Colours.{other};
 ghost use Rattle.go_board.specs.Reaching.{moved};
 ghost use Rattle.go_chains.specs.declared.place.TheConstants.{ROOM};
-ghost use Rattle.go_chains.specs.Beside.{AreBeside};
+ghost use Rattle.go_chains.specs.inner.Beside.{AreBeside};
 ghost use Rattle.go_chains.specs.Cells.{colour_of};
 ghost use Rattle.go_chains.specs.Playing.{lost, most_of};
-ghost use Rattle.go_chains.specs.Edits.{Edited};
+ghost use Rattle.go_chains.specs.inner.Edits.{Edited};
 ghost use Rattle.go_chains.specs.Sound.{IsKept, colours_in};
 
 use crate::capture::{capture, take_one};

@@ -5,7 +5,8 @@ use std::marker::Model;
 use std::mem;
 use std::snapshot::Snapshot;
 
-/// A list of writes that only contracts see: none, or one more behind those before it.
+/// A list of writes that only contracts see: those before and the last one, or no write where there
+/// is no list before.
 #[derive(Drop)]
 struct Writes {
     before: Option<Snapshot<Writes>>,
@@ -14,7 +15,7 @@ struct Writes {
 
 impl Model for Writes {
     ghost use Rattle.std.specs.Prelude.{List, length};
-    ghost use Rattle.go_chains.specs.Traces.{writes_of};
+    ghost use Rattle.go_chains.specs.inner.Traces.{writes_of};
     ghost use Rattle.go_chains.specs.declared.change.Change.{Change};
 
     ghost Value = { List Change };
@@ -28,6 +29,7 @@ impl Model for Writes {
 /// see them, and they have no bytes when the program runs.
 #[derive(Drop)]
 pub struct Trace {
+    /// The list of all writes so far.
     at: Snapshot<Writes>,
 }
 

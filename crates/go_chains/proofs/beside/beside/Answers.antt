@@ -2,7 +2,7 @@ use Rattle.std.proofs.Common.{◌<◌, ◌*◌, ◌≤◌, length, map, ap, ◌�
 use Rattle.std.proofs.lemmas.List.{take_all}
 use Rattle.go_board.specs.declared.size.TheConstants.{MAX_POINTS}
 use Rattle.go_board.specs.Points.{number_of}
-use Rattle.go_chains.proofs.Neighbours.{are_beside_by_number, square-le}
+use Rattle.go_chains.proofs.writes.Neighbours.{are_beside_by_number, square-le}
 use Rattle.go_chains.proofs.beside.beside.Goals as goal
 
 pub returns : goal.returns

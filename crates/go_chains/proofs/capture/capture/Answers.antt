@@ -2,10 +2,10 @@ use Rattle.std.proofs.Common.{arith, ◌≡◌, ◌*◌, ℕ, subst, inl, inr, s
 use Rattle.std.proofs.lemmas.Bool.{cases_lt}
 use Rattle.go_board.specs.Paths.{IsAdjacent}
 use Rattle.go_chains.specs.Cells.{colour_of, label_of, tables_of}
-use Rattle.go_chains.specs.Tables.{IsDead}
-use Rattle.go_chains.proofs.Capturing.{IsCapturing_none}
-use Rattle.go_chains.proofs.Editing.{Edited_then}
-use Rattle.go_chains.proofs.Taking.{counts_then, stays_empty, still_dead, still_two}
+use Rattle.go_chains.specs.inner.Tables.{IsDead}
+use Rattle.go_chains.proofs.tables.Capturing.{IsCapturing_none}
+use Rattle.go_chains.proofs.writes.Editing.{Edited_then}
+use Rattle.go_chains.proofs.tables.Taking.{counts_then, stays_empty, still_dead, still_two}
 use Rattle.go_chains.proofs.capture.capture.Goals as goal
 
 pub take_one-taken-requires-clause-two : goal.take_one-taken-requires-clause-two

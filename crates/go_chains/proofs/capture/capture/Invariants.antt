@@ -3,9 +3,9 @@ use Rattle.go_board.specs.Paths.{IsAdjacent}
 use Rattle.go_board.specs.declared.size.TheConstants.{MAX_POINTS}
 use Rattle.go_chains.specs.declared.cells.TheConstants.{WORDS}
 use Rattle.go_chains.specs.Cells.{colour_of, label_of, tables_of}
-use Rattle.go_chains.specs.Edits.{Edited}
-use Rattle.go_chains.specs.Steps.{CountsTaken, IsCapturing}
-use Rattle.go_chains.specs.Tables.{IsDead}
+use Rattle.go_chains.specs.inner.Edits.{Edited}
+use Rattle.go_chains.specs.inner.Steps.{CountsTaken, IsCapturing}
+use Rattle.go_chains.specs.inner.Tables.{IsDead}
 use Rattle.go_chains.proofs.capture.capture.Given as goal
 
 abbrev pub invariant-loop-near : goal.invariant-loop-near

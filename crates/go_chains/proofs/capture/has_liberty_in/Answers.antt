@@ -2,7 +2,7 @@ use Rattle.std.specs.Prelude.{slice_index}
 use Rattle.std.proofs.Common.{arith, ◌≡◌, ◌≢◌, ◌∙◌, ap, bit_and}
 use Rattle.std.proofs.lemmas.Bool.Decides.{nat_tests}
 use Rattle.std.proofs.lemmas.Nat.{and_le_l}
-use Rattle.go_chains.proofs.Dying.{alive_in, dead_in}
+use Rattle.go_chains.proofs.answers.Dead.{alive_in, dead_in}
 use Rattle.go_chains.proofs.capture.has_liberty_in.Goals as goal
 
 pub returns-clause-some : goal.returns-clause-some

@@ -1,5 +1,5 @@
 use Rattle.std.proofs.Common.{arith, ◌≡◌, ◌∙◌, ◌*◌}
-use Rattle.go_chains.proofs.Dying.{dead_more}
+use Rattle.go_chains.proofs.answers.Dead.{dead_more}
 use Rattle.go_chains.proofs.capture.is_dead.Goals as goal
 
 pub loop-word-preserved : goal.loop-word-preserved

@@ -1,13 +1,13 @@
 use Rattle.std.proofs.Common.{arith, ◌≡◌, ◌*◌, ℕ, sym, ◌∙◌, subst}
 use Rattle.go_board.specs.Paths.{IsAdjacent}
 use Rattle.go_chains.specs.Cells.{colour_of, tables_of}
-use Rattle.go_chains.specs.Steps.{CountsTaken}
-use Rattle.go_chains.specs.Tables.{IsDead, IsStone}
-use Rattle.go_chains.proofs.Capturing.{IsCapturing_more}
-use Rattle.go_chains.proofs.Editing.{Edited_none}
-use Rattle.go_chains.proofs.Neighbours.{flip, inside}
-use Rattle.go_chains.proofs.Small.{label_small, size_small}
-use Rattle.go_chains.proofs.Taking.{counts_ring}
+use Rattle.go_chains.specs.inner.Steps.{CountsTaken}
+use Rattle.go_chains.specs.inner.Tables.{IsDead, IsStone}
+use Rattle.go_chains.proofs.tables.Capturing.{IsCapturing_more}
+use Rattle.go_chains.proofs.writes.Editing.{Edited_none}
+use Rattle.go_chains.proofs.writes.Neighbours.{flip, inside}
+use Rattle.go_chains.proofs.writes.Bounds.{label_small, size_small}
+use Rattle.go_chains.proofs.tables.Taking.{counts_ring}
 use Rattle.go_chains.proofs.capture.take_one.Goals as goal
 
 pub is_dead-requires : goal.is_dead-requires

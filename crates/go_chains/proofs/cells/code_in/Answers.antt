@@ -1,7 +1,7 @@
 use Rattle.std.proofs.Common.{arith, ◌∙◌, Some, ap, sym}
 use Rattle.go_board.specs.declared.colour.Colour.{Colour}
 use Rattle.go_board.specs.Packs.{code_of}
-use Rattle.go_chains.proofs.Packing.{code-at, code-past}
+use Rattle.go_chains.proofs.answers.Packs.{code-at, code-past}
 use Rattle.go_chains.proofs.cells.code_in.Goals as goal
 
 pub returns-then-number-ge-MAX_POINTS-clause-value : goal.returns-then-number-ge-MAX_POINTS-clause-value

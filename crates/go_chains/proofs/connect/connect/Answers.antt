@@ -1,8 +1,8 @@
 use Rattle.std.proofs.Common.{arith, ◌*◌, slice_index, refl}
 use Rattle.go_chains.specs.Cells.{tables_of}
-use Rattle.go_chains.proofs.Connecting.{IsConnectedTo_more}
-use Rattle.go_chains.proofs.Editing.{Edited_then}
-use Rattle.go_chains.proofs.Small.{size_still}
+use Rattle.go_chains.proofs.tables.Connecting.{IsConnectedTo_more}
+use Rattle.go_chains.proofs.writes.Editing.{Edited_then}
+use Rattle.go_chains.proofs.writes.Bounds.{size_still}
 use Rattle.go_chains.proofs.connect.connect.Goals as goal
 
 pub connect_one-requires-clause-room : goal.connect_one-requires-clause-room

@@ -2,12 +2,12 @@ use Rattle.std.proofs.Common.{arith, ◌≡◌, ◌<◌, ◌≤◌, ◌*◌, ℕ
 use Rattle.go_board.specs.Paths.{IsAdjacent}
 use Rattle.go_board.specs.declared.size.TheConstants.{MAX_LINES, MAX_POINTS}
 use Rattle.go_chains.specs.Cells.{chain_size, colour_of, label_of, size_of, tables_of}
-use Rattle.go_chains.specs.Tables.{IsStone, IsTidy}
-use Rattle.go_chains.proofs.Connecting.{IsConnected-first, IsConnected-second, beside_stone, grown-second}
-use Rattle.go_chains.proofs.Editing.{Edited_none, Edited_within}
-use Rattle.go_chains.proofs.Joining.{IsTidy-join}
-use Rattle.go_chains.proofs.Neighbours.{flip, inside}
-use Rattle.go_chains.proofs.Small.{label_small, size_small}
+use Rattle.go_chains.specs.inner.Tables.{IsStone, IsTidy}
+use Rattle.go_chains.proofs.tables.Connecting.{IsConnected-first, IsConnected-second, beside_stone, grown-second}
+use Rattle.go_chains.proofs.writes.Editing.{Edited_none, Edited_within}
+use Rattle.go_chains.proofs.tables.Joining.{IsTidy-join}
+use Rattle.go_chains.proofs.writes.Neighbours.{flip, inside}
+use Rattle.go_chains.proofs.writes.Bounds.{label_small, size_small}
 use Rattle.go_chains.proofs.connect.connect_one.Goals as goal
 
 near_small : (n : ℕ) (cells : List ℕ) (point near a b : ℕ) → n ≤ MAX_LINES → IsTidy (n * n) (IsAdjacent n) (tables_of cells) → IsStone (n * n) (tables_of cells) point → IsAdjacent n point near

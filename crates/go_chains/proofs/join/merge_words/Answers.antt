@@ -2,8 +2,8 @@ use Rattle.std.proofs.Common.{arith, ℕ, ap, ◌∙◌, subst}
 use Rattle.std.specs.Prelude.{slice_index}
 use Rattle.std.specs.Int.RustNames.{bit_or}
 use Rattle.go_chains.specs.Cells.{IsWritten}
-use Rattle.go_chains.proofs.Relabelling.{IsMerged_more}
-use Rattle.go_chains.proofs.Editing.{Edited_then, Edited_within}
+use Rattle.go_chains.proofs.writes.Relabelling.{IsMerged_more}
+use Rattle.go_chains.proofs.writes.Editing.{Edited_then, Edited_within}
 use Rattle.go_chains.proofs.join.merge_words.Goals as goal
 
 pub loop-word-preserved : goal.loop-word-preserved

@@ -1,6 +1,6 @@
 use Rattle.std.proofs.Common.{◌*◌}
-use Rattle.go_chains.specs.Edits.{Edited}
-use Rattle.go_chains.specs.Writes.{IsMerged}
+use Rattle.go_chains.specs.inner.Edits.{Edited}
+use Rattle.go_chains.specs.inner.Writes.{IsMerged}
 use Rattle.go_chains.proofs.join.merge_words.Given as goal
 
 abbrev pub invariant-loop-word : goal.invariant-loop-word

@@ -1,7 +1,7 @@
 use Rattle.std.proofs.Common.{arith}
 use Rattle.go_chains.specs.Cells.{next_of}
-use Rattle.go_chains.proofs.Relabelling.{IsRelabelled_more, relabelled_link}
-use Rattle.go_chains.proofs.Editing.{Edited_next, Edited_within}
+use Rattle.go_chains.proofs.writes.Relabelling.{IsRelabelled_more, relabelled_link}
+use Rattle.go_chains.proofs.writes.Editing.{Edited_next, Edited_within}
 use Rattle.go_chains.proofs.join.relabel.Goals as goal
 
 pub loop-preserved : goal.loop-preserved

@@ -1,4 +1,4 @@
-use Rattle.go_chains.proofs.Rewinding.{all_rewound-played}
+use Rattle.go_chains.proofs.writes.Rewinding.{all_rewound-played}
 use Rattle.go_chains.proofs.laws.rewinds_all.Goals as goal
 
 pub returns : goal.returns

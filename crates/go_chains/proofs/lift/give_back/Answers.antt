@@ -1,6 +1,6 @@
 use Rattle.std.proofs.Common.{arith}
-use Rattle.go_chains.proofs.Giving.{IsGiven_more}
-use Rattle.go_chains.proofs.Editing.{Edited_then}
+use Rattle.go_chains.proofs.writes.Lifting.{IsGiven_more}
+use Rattle.go_chains.proofs.writes.Editing.{Edited_then}
 use Rattle.go_chains.proofs.lift.give_back.Goals as goal
 
 pub loop-near-preserved : goal.loop-near-preserved

@@ -1,8 +1,8 @@
 use Rattle.std.proofs.Common.{arith, ℕ, sym, subst, List}
-use Rattle.go_chains.specs.Beside.{AreBeside}
-use Rattle.go_chains.proofs.Giving.{IsLifted_given}
-use Rattle.go_chains.proofs.Neighbours.{square-le}
-use Rattle.go_chains.proofs.Editing.{Edited_then}
+use Rattle.go_chains.specs.inner.Beside.{AreBeside}
+use Rattle.go_chains.proofs.writes.Lifting.{IsLifted_given}
+use Rattle.go_chains.proofs.writes.Neighbours.{square-le}
+use Rattle.go_chains.proofs.writes.Editing.{Edited_then}
 use Rattle.go_chains.proofs.lift.lift.Goals as goal
 
 pub returns-clause-lifted : goal.returns-clause-lifted

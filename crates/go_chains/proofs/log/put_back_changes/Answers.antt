@@ -3,7 +3,7 @@ use Rattle.std.proofs.lemmas.List.{length-take-le}
 use Rattle.go_chains.specs.declared.cells.TheConstants.{COUNT}
 use Rattle.go_chains.specs.Cells.{CellsValue}
 use Rattle.go_chains.specs.Rewound.{rewound}
-use Rattle.go_chains.proofs.Rewinding.{popped, popped_names, traced_more}
+use Rattle.go_chains.proofs.writes.Rewinding.{popped, popped_names, traced_more}
 use Rattle.go_chains.proofs.log.put_back_changes.Goals as goal
 use Rattle.go_chains.proofs.log.put_back_changes.Goals.{in-Some, in_default}
 

@@ -1,6 +1,6 @@
 use Rattle.std.proofs.Common.{◌*◌}
-use Rattle.go_chains.specs.Edits.{Edited}
-use Rattle.go_chains.specs.Writes.{IsDeprived, IsStoneBeside}
+use Rattle.go_chains.specs.inner.Edits.{Edited}
+use Rattle.go_chains.specs.inner.Writes.{IsDeprived, IsStoneBeside}
 use Rattle.go_chains.proofs.occupy.deprive.Given as goal
 
 abbrev pub invariant-loop-near : goal.invariant-loop-near

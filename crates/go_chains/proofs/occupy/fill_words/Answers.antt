@@ -1,7 +1,7 @@
 use Rattle.std.proofs.Common.{arith, ℕ, slice_index, subst, refl}
 use Rattle.go_chains.specs.Cells.{IsWritten}
-use Rattle.go_chains.proofs.Depriving.{IsFilled_more}
-use Rattle.go_chains.proofs.Editing.{Edited_then, Edited_within}
+use Rattle.go_chains.proofs.writes.Depriving.{IsFilled_more}
+use Rattle.go_chains.proofs.writes.Editing.{Edited_then, Edited_within}
 use Rattle.go_chains.proofs.occupy.fill_words.Goals as goal
 
 pub loop-word-preserved : goal.loop-word-preserved

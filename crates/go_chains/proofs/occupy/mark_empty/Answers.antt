@@ -1,5 +1,5 @@
 use Rattle.std.proofs.Common.{arith, sym, ◌∙◌, refl}
-use Rattle.go_chains.proofs.Marking.{IsMarked-set}
+use Rattle.go_chains.proofs.writes.Marking.{IsMarked-set}
 use Rattle.go_chains.proofs.occupy.mark_empty.Goals as goal
 
 pub returns-then-get-eq0-clause-marked : goal.returns-then-get-eq0-clause-marked

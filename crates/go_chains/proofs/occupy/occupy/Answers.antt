@@ -3,10 +3,10 @@ use Rattle.std.proofs.lemmas.List.{get_or_default}
 use Rattle.go_board.specs.Paths.{IsAdjacent}
 use Rattle.go_board.specs.declared.size.TheConstants.{MAX_POINTS}
 use Rattle.go_chains.specs.Cells.{colour_of, label_of, tables_of, words_for}
-use Rattle.go_chains.proofs.Neighbours.{square-le}
-use Rattle.go_chains.proofs.Occupied.{IsOccupied_written}
-use Rattle.go_chains.proofs.Editing.{Edited_next, Edited_within}
-use Rattle.go_chains.proofs.Small.{label_small}
+use Rattle.go_chains.proofs.writes.Neighbours.{square-le}
+use Rattle.go_chains.proofs.writes.Occupying.{IsOccupied_written}
+use Rattle.go_chains.proofs.writes.Editing.{Edited_next, Edited_within}
+use Rattle.go_chains.proofs.writes.Bounds.{label_small}
 use Rattle.go_chains.proofs.occupy.occupy.Goals as goal
 
 pub deprive-requires-clause-labels : goal.deprive-requires-clause-labels

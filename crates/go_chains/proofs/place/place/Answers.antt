@@ -3,12 +3,12 @@ use Rattle.go_board.specs.Paths.{IsAdjacent}
 use Rattle.go_chains.specs.Cells.{tables_of}
 use Rattle.go_chains.specs.Playing.{stones_beside, stones_taken}
 use Rattle.go_chains.specs.Sound.{colouring_of}
-use Rattle.go_chains.proofs.Bridge.{tidy-kept}
-use Rattle.go_chains.proofs.Editing.{Edited_next, Edited_within}
-use Rattle.go_chains.proofs.Neighbours.{apart, inside}
-use Rattle.go_chains.proofs.Occupying.{IsTidy-occupied}
-use Rattle.go_chains.proofs.Placing.{begins, joins, kept_end, moved_end, own_end, size_end, size_then, taken_end, takes, theirs_end, two_then, whole_of}
-use Rattle.go_chains.proofs.Taking.{still_two}
+use Rattle.go_chains.proofs.rules.Sound.{tidy-kept}
+use Rattle.go_chains.proofs.writes.Editing.{Edited_next, Edited_within}
+use Rattle.go_chains.proofs.writes.Neighbours.{apart, inside}
+use Rattle.go_chains.proofs.tables.Occupying.{IsTidy-occupied}
+use Rattle.go_chains.proofs.rules.Placing.{begins, joins, kept_end, moved_end, own_end, size_end, size_then, taken_end, takes, theirs_end, two_then, whole_of}
+use Rattle.go_chains.proofs.tables.Taking.{still_two}
 use Rattle.go_chains.proofs.place.place.Goals as goal
 
 pub occupy-requires-clause-tidy : goal.occupy-requires-clause-tidy

@@ -3,8 +3,8 @@ use Rattle.go_board.specs.Points.{number_of}
 use Rattle.go_board.specs.Reaching.{joined}
 use Rattle.go_chains.specs.Sound.{grid_of}
 use Rattle.go_chains.specs.declared.chain_points.Part.TheVariants.{Stones}
-use Rattle.go_chains.proofs.PartPoints.{left-all}
-use Rattle.go_chains.proofs.Queries.{stone_answers}
+use Rattle.go_chains.proofs.answers.ChainPoints.{left-all}
+use Rattle.go_chains.proofs.answers.Queries.{stone_answers}
 use Rattle.go_chains.proofs.board.Board.chain_points.Goals as goal
 
 pub returns : goal.returns

@@ -1,5 +1,5 @@
 use Rattle.std.proofs.Common.{arith}
-use Rattle.go_chains.proofs.Queries.{IsKept-empty, colouring-empty}
+use Rattle.go_chains.proofs.answers.Queries.{IsKept-empty, colouring-empty}
 use Rattle.go_chains.proofs.board.Board.clear.Goals as goal
 
 pub invariant_of-self : goal.invariant_of-self

@@ -1,5 +1,5 @@
 use Rattle.std.proofs.Common.{arith, ◌≡◌, ◌*◌, ◌∙◌, ap, ℕ}
-use Rattle.go_chains.proofs.Queries.{grid_filled}
+use Rattle.go_chains.proofs.answers.Queries.{grid_filled}
 use Rattle.go_chains.proofs.board.Board.grid.Goals as goal
 
 pub returns-clause-colours : goal.returns-clause-colours

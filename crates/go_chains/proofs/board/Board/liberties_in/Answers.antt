@@ -2,7 +2,7 @@ use Rattle.std.proofs.Common.{arith, ◌≡◌, ◌<◌, ◌^◌, ◌∙◌, ap,
 use Rattle.std.proofs.lemmas.Nat.{and_le_l}
 use Rattle.go_chains.specs.Cells.{word_of}
 use Rattle.go_chains.specs.Sound.{BoardValue}
-use Rattle.go_chains.proofs.Counting.{ones_counted}
+use Rattle.go_chains.proofs.answers.Liberties.{ones_counted}
 use Rattle.go_chains.proofs.board.Board.liberties_in.Goals as goal
 
 pub returns-clause-counted : goal.returns-clause-counted

@@ -5,9 +5,9 @@ use Rattle.go_board.specs.Points.{number_of}
 use Rattle.go_board.specs.Reaching.{is_liberty_of}
 use Rattle.go_board.specs.declared.size.TheConstants.{MAX_POINTS}
 use Rattle.go_chains.specs.Sound.{grid_of}
-use Rattle.go_chains.specs.Words.{free_in_word, is_marked_free}
-use Rattle.go_chains.proofs.Counting.{words_counted, words_more}
-use Rattle.go_chains.proofs.Queries.{liberty_answers, points-kept}
+use Rattle.go_chains.specs.inner.Words.{free_in_word, is_marked_free}
+use Rattle.go_chains.proofs.answers.Liberties.{words_counted, words_more}
+use Rattle.go_chains.proofs.answers.Queries.{liberty_answers, points-kept}
 use Rattle.go_chains.proofs.board.Board.liberties_of.Goals as goal
 
 pub loop-word-preserved : goal.loop-word-preserved

@@ -1,6 +1,6 @@
 use Rattle.std.proofs.Common.{◌≡◌, ◌≤◌, ◌*◌, count_by}
 use Rattle.std.specs.List.{range_with_len}
-use Rattle.go_chains.specs.Words.{is_marked_free}
+use Rattle.go_chains.specs.inner.Words.{is_marked_free}
 use Rattle.go_chains.proofs.board.Board.liberties_of.Given as goal
 
 abbrev pub invariant-loop-word : goal.invariant-loop-word

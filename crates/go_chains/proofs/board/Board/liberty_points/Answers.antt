@@ -3,8 +3,8 @@ use Rattle.go_board.specs.Points.{number_of}
 use Rattle.go_board.specs.Reaching.{is_liberty_of}
 use Rattle.go_chains.specs.Sound.{grid_of}
 use Rattle.go_chains.specs.declared.chain_points.Part.TheVariants.{Liberties}
-use Rattle.go_chains.proofs.PartPoints.{left-all}
-use Rattle.go_chains.proofs.Queries.{liberty_answers}
+use Rattle.go_chains.proofs.answers.ChainPoints.{left-all}
+use Rattle.go_chains.proofs.answers.Queries.{liberty_answers}
 use Rattle.go_chains.proofs.board.Board.liberty_points.Goals as goal
 
 pub returns : goal.returns

@@ -1,6 +1,6 @@
 use Rattle.std.proofs.Common.{arith}
 use Rattle.go_chains.specs.declared.cells.TheConstants.{COUNT}
-use Rattle.go_chains.proofs.Queries.{IsKept-empty, colouring-empty, zero_cell}
+use Rattle.go_chains.proofs.answers.Queries.{IsKept-empty, colouring-empty, zero_cell}
 use Rattle.go_chains.proofs.board.Board.new.Goals as goal
 
 pub invariant_of-result : goal.invariant_of-result

@@ -1,5 +1,5 @@
 use Rattle.std.proofs.Common.{arith, ◌≡◌, ◌*◌, ◌∙◌, ℕ, sym, ap}
-use Rattle.go_chains.proofs.PartPoints.{left-end, left-first, left-over}
+use Rattle.go_chains.proofs.answers.ChainPoints.{left-end, left-first, left-over}
 use Rattle.go_chains.proofs.board.Board.next_in_part.Goals as goal
 
 pub returns-then-has_in_part-clause-some : goal.returns-then-has_in_part-clause-some

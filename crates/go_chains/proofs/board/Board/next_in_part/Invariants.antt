@@ -1,5 +1,5 @@
 use Rattle.std.proofs.Common.{◌≡◌}
-use Rattle.go_chains.specs.Parts.{points_left}
+use Rattle.go_chains.specs.inner.Parts.{points_left}
 use Rattle.go_chains.proofs.board.Board.next_in_part.Given as goal
 
 abbrev pub invariant-loop-number : goal.invariant-loop-number

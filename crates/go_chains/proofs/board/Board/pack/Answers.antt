@@ -7,7 +7,7 @@ use Rattle.go_board.specs.declared.pack.TheConstants.{PACK_BYTES}
 use Rattle.go_board.specs.PackBytes.{bytes_of}
 use Rattle.go_board.specs.Packs.{byte_of}
 use Rattle.go_chains.specs.Sound.{grid_of}
-use Rattle.go_chains.proofs.Queries.{byte_none}
+use Rattle.go_chains.proofs.answers.Queries.{byte_none}
 use Rattle.go_chains.proofs.board.Board.pack.Goals as goal
 
 pub loop-place-init : goal.loop-place-init

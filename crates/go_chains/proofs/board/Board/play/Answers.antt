@@ -3,7 +3,7 @@ use Rattle.go_board.specs.Points.{number_of}
 use Rattle.go_chains.specs.Playing.{most_of}
 use Rattle.go_chains.specs.Rewound.{Logged}
 use Rattle.go_chains.specs.Sound.{BoardValue, colouring_of, grid_of}
-use Rattle.go_chains.proofs.Rewinding.{closed}
+use Rattle.go_chains.proofs.writes.Rewinding.{closed}
 use Rattle.go_chains.proofs.board.Board.play.Goals as goal
 
 pub invariant_of-log-2 : goal.invariant_of-log-2

@@ -1,7 +1,7 @@
 use Rattle.std.proofs.Common.{sym, subst}
 use Rattle.go_chains.specs.Rewound.{rewound}
 use Rattle.go_chains.specs.Sound.{BoardValue, IsKept}
-use Rattle.go_chains.proofs.Queries.{last_split}
+use Rattle.go_chains.proofs.answers.Queries.{last_split}
 use Rattle.go_chains.proofs.board.Board.rewind.Goals as goal
 
 pub invariant_of-self : goal.invariant_of-self

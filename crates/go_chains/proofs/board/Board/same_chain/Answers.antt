@@ -1,5 +1,5 @@
 use Rattle.go_board.specs.Points.{number_of}
-use Rattle.go_chains.proofs.Queries.{labels_joined}
+use Rattle.go_chains.proofs.answers.Queries.{labels_joined}
 use Rattle.go_chains.proofs.board.Board.same_chain.Goals as goal
 
 pub returns : goal.returns

@@ -3,7 +3,7 @@ use Rattle.go_board.specs.declared.colour.Colour.TheVariants.{Black, White}
 use Rattle.go_board.specs.Colours.{colour_at}
 use Rattle.go_chains.specs.Cells.{colour_of}
 use Rattle.go_chains.specs.Sound.{BoardValue, grid_of, value_of}
-use Rattle.go_chains.proofs.Rowing.{column_more, place_low, read_as}
+use Rattle.go_chains.proofs.answers.Rows.{column_more, place_low, read_as}
 use Rattle.go_chains.proofs.board.Board.stones_in.Goals as goal
 
 pub loop-col-preserved : goal.loop-col-preserved

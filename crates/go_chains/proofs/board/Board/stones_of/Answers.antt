@@ -3,7 +3,7 @@ use Rattle.go_board.specs.Points.{number_of}
 use Rattle.go_board.specs.declared.size.TheConstants.{MAX_POINTS}
 use Rattle.go_chains.specs.Cells.{size_of}
 use Rattle.go_chains.specs.Sound.{BoardValue}
-use Rattle.go_chains.proofs.Queries.{size_counts, size_few}
+use Rattle.go_chains.proofs.answers.Queries.{size_counts, size_few}
 use Rattle.go_chains.proofs.board.Board.stones_of.Goals as goal
 
 pub overflow_cast-result : goal.overflow_cast-result

@@ -1,7 +1,7 @@
 use Rattle.std.proofs.Common.{arith, ◌∙◌}
 use Rattle.std.proofs.Math.ListN.{length-set}
 use Rattle.go_board.specs.PackBytes.{bytes_of}
-use Rattle.go_chains.proofs.Packing.{pack_left, pack_written}
+use Rattle.go_chains.proofs.answers.Packs.{pack_left, pack_written}
 use Rattle.go_chains.proofs.cells.Cells.set.Goals as goal
 
 pub invariant_of-self : goal.invariant_of-self

@@ -1,5 +1,5 @@
 use Rattle.std.proofs.Common.{◌≡◌, length, ap, sym, ◌∙◌, arith}
-use Rattle.go_chains.proofs.Rewinding.{length-plays_of}
+use Rattle.go_chains.proofs.writes.Rewinding.{length-plays_of}
 use Rattle.go_chains.proofs.log.Log.plays.Goals as goal
 
 pub returns : goal.returns

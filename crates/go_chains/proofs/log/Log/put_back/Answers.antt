@@ -1,7 +1,7 @@
 use Rattle.std.proofs.Common.{◌≡◌, ◌∙◌, ◌++◌, ◌∷◌, [], length, ap, sym, arith, option_to_list}
 use Rattle.std.proofs.lemmas.List.{same_from_push}
 use Rattle.go_chains.specs.Rewound.{plays_of, rewound, undone}
-use Rattle.go_chains.proofs.Rewinding.{is_last}
+use Rattle.go_chains.proofs.writes.Rewinding.{is_last}
 use Rattle.go_chains.proofs.log.Log.put_back.Goals as goal
 
 pub put_back_changes-requires-clause-enough : goal.put_back_changes-requires-clause-enough

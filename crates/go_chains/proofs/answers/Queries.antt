@@ -1,0 +1,186 @@
+-- What the cells of a kept board answer.
+use Rattle.std.specs.Prelude.{Option, None, Some, replicate, IsTrue}
+use Rattle.std.specs.Int.{bit_at}
+use Rattle.std.proofs.Common.{zero, suc, ℕ, ◌+◌, ◌*◌, ◌/◌, ◌%◌, ◌^◌, ◌<◌, ◌≤◌, ◌≡◌, ◌↔◌, ◌++◌, ◌∷◌, [], refl, sym, ap, ◌∙◌, arith, inl, inr, Bool, true, false, List, length, nat_eq, bit_and, get_or}
+use Rattle.std.proofs.lemmas.Bool.{cases_lt, eq-eqb, eqb-true, false_from_ne_true}
+use Rattle.std.proofs.lemmas.List.{ext_get_or, get_or-replicate, get_or_past, length-replicate}
+use Rattle.std.proofs.lemmas.List.FromFn.{length-range_with_len}
+use Rattle.std.proofs.lemmas.List.Sums.{count_by-le-length, length-filter}
+use Rattle.std.proofs.lemmas.Nat.Bits.{shr_and_one}
+use Rattle.go_board.specs.declared.colour.Colour.{Colour}
+use Rattle.go_board.specs.declared.size.TheConstants.{MAX_LINES, MAX_POINTS}
+use Rattle.go_board.specs.Chains.{members}
+use Rattle.go_board.specs.Colours.{Colouring, colour_at}
+use Rattle.go_board.specs.Packs.{byte_of, code_of}
+use Rattle.go_board.specs.Paths.{Joined}
+use Rattle.go_board.specs.Points.{is_adjacent}
+use Rattle.go_board.specs.Reaching.{is_liberty_of, joined, points}
+use Rattle.go_chains.specs.Cells.{colour_of, label_of, lib_of, next_of, size_of, tables_of, word_of}
+use Rattle.go_chains.specs.inner.Parts.{is_labelled}
+use Rattle.go_chains.specs.Rings.{ring_from}
+use Rattle.go_chains.specs.Sound.{IsKept, IsStoneOf, colouring_of, value_of}
+use Rattle.go_chains.specs.inner.Tables.{IsStone}
+use Rattle.go_chains.proofs.rules.Sound.{IsKept-tidy, colouring-at, far_stone, length-colouring, length-ring_from, of_stone, stone-kept, tidy-kept, colouring-inside}
+use Rattle.go_chains.proofs.rules.Counting.{counted}
+use Rattle.go_chains.proofs.writes.Neighbours.{square-le}
+
+-- two tests that hold together have one answer
+pub same_answer : (a b : Bool) → (a ≡ true → b ≡ true) → (b ≡ true → a ≡ true) → a ≡ b
+same_answer true b there back = sym (there refl)
+same_answer false b there back = sym (false_from_ne_true b (λ t. (let e : false ≡ true = back t in absurd (cc))))
+
+none-some : (v : Option Colour) (c : Colour) → v ≡ None → v ≡ Some c → ⊥
+none-some v c e f = cc
+
+-- the law of the crate below on chains
+pub record JoinedByPath : Type 0 where
+  pub law : (n : ℕ) (g : Colouring) (p q : ℕ) → p < n * n → IsTrue (joined n g p q) ↔ Joined n g p q
+
+-- and on liberties
+pub record LibertyByPath : Type 0 where
+  pub law : (n : ℕ) (g : Colouring) (p q : ℕ) → p < n * n
+      → IsTrue (is_liberty_of n g p q) ↔ ((colour_at g q ≡ None) × ((r : ℕ) × Joined n g p r × IsTrue (is_adjacent n r q)))
+
+module _ (n : ℕ) (cells : List ℕ) (kept : IsKept n cells) where
+  pub points-kept : n * n ≤ MAX_POINTS
+  points-kept = square-le n kept.small
+
+  -- a stone's label names a point
+  pub label-small : (p : ℕ) → IsStoneOf (colouring_of n cells) p → label_of cells p < MAX_POINTS
+  label-small p stone =
+      let low = (tidy-kept n cells kept).head_in p (stone-kept n cells kept p stone) in
+      let few = points-kept in
+      omega arith
+
+  -- the stones joined to a stone are stones
+  far-kept : (p q : ℕ) → IsStoneOf (colouring_of n cells) p → Joined n (colouring_of n cells) p q → q < n * n
+  far-kept p q stone chain =
+      (far_stone n (colouring_of n cells) cells (colouring-inside n cells) kept.sound.colours kept.sound.coded p q (stone-kept n cells kept p stone) chain).0.0
+
+  pub labels_joined : JoinedByPath → (p q a b : ℕ) → IsStoneOf (colouring_of n cells) p → IsStoneOf (colouring_of n cells) q
+      → a ≡ label_of cells p → b ≡ label_of cells q → nat_eq a b ≡ joined n (colouring_of n cells) p q
+  labels_joined by p q a b p_stone q_stone a_is b_is =
+      let same = kept.sound.labels p q p_stone q_stone in
+      let path = by.law n (colouring_of n cells) p q (stone-kept n cells kept p p_stone).0 in
+      same_answer (nat_eq a b) (joined n (colouring_of n cells) p q)
+      (λ e. path.1 (same.0 (sym a_is ∙ eqb-true a b e ∙ b_is)))
+      (λ t. eq-eqb a b (a_is ∙ same.1 (path.0 t) ∙ sym b_is))
+
+  labelled : JoinedByPath → (p q l : ℕ) → IsStoneOf (colouring_of n cells) p → q < n * n → l ≡ label_of cells p
+      → (v : Option Colour) → value_of (colour_of cells q) ≡ v → is_labelled v (label_of cells q) l ≡ joined n (colouring_of n cells) p q
+  labelled by p q l stone q_in l_is None e =
+      sym (false_from_ne_true (joined n (colouring_of n cells) p q) (λ t. (
+      let j = (by.law n (colouring_of n cells) p q (stone-kept n cells kept p stone).0).0 t in
+      let far = far_stone n (colouring_of n cells) cells (colouring-inside n cells) kept.sound.colours kept.sound.coded p q (stone-kept n cells kept p stone) j in
+      let held = of_stone n (colouring_of n cells) cells (colouring-inside n cells) kept.sound.colours kept.sound.coded q far.0 in
+      none-some (value_of (colour_of cells q)) held.0 e (sym (colouring-at n cells q q_in) ∙ held.1))))
+  labelled by p q l stone q_in l_is (Some c) e =
+      labels_joined by p q l (label_of cells q) stone (c, colouring-at n cells q q_in ∙ e) l_is refl
+
+  -- a point with the label of a stone is in its chain
+  pub stone_answers : JoinedByPath → (p q l : ℕ) → IsStoneOf (colouring_of n cells) p → q < n * n → l ≡ label_of cells p
+      → is_labelled (value_of (colour_of cells q)) (label_of cells q) l ≡ joined n (colouring_of n cells) p q
+  stone_answers by p q l stone q_in l_is = labelled by p q l stone q_in l_is (value_of (colour_of cells q)) refl
+
+  pub size_counts : JoinedByPath → (p l : ℕ) → IsStoneOf (colouring_of n cells) p → l ≡ label_of cells p
+      → size_of cells l ≡ length (members n (colouring_of n cells) p)
+  size_counts by p l stone l_is =
+      let g = colouring_of n cells in
+      let ring = ring_from (next_of cells) (size_of cells (label_of cells p)) p in
+      let lists = kept.sound.rings p stone in
+      let p_in = (stone-kept n cells kept p stone).0 in
+      let as_many : length (members n g p) ≡ length ring = counted n (joined n g p) ring lists.0
+      (λ q has. let j = (lists.1 q).0 has in (far-kept p q stone j, (by.law n g p q p_in).1 j))
+      (λ q q_in t. (lists.1 q).1 ((by.law n g p q p_in).0 t)) in
+      ap (size_of cells) l_is ∙ sym (length-ring_from (next_of cells) (size_of cells (label_of cells p)) p) ∙ sym as_many
+
+  pub size_few : JoinedByPath → (p l : ℕ) → IsStoneOf (colouring_of n cells) p → l ≡ label_of cells p → size_of cells l ≤ MAX_POINTS
+  size_few by p l stone l_is =
+      let test = joined n (colouring_of n cells) p in
+      let e = size_counts by p l stone l_is in
+      let few = points-kept in
+      omega (arith, length-filter test (points n), count_by-le-length test (points n), length-range_with_len 0 (n * n))
+
+  pub liberty_answers : LibertyByPath → (p q l : ℕ) → IsStoneOf (colouring_of n cells) p → q < n * n → l ≡ label_of cells p
+      → nat_eq (lib_of cells l q) 1 ≡ is_liberty_of n (colouring_of n cells) p q
+  liberty_answers by p q l stone q_in l_is =
+      let g = colouring_of n cells in
+      let path = by.law n g p q (stone-kept n cells kept p stone).0 in
+      let bit = kept.sound.liberties p q stone q_in in
+      same_answer (nat_eq (lib_of cells l q) 1) (is_liberty_of n g p q)
+      (λ e. (let free = bit.0 (ap (λ k. lib_of cells k q) (sym l_is) ∙ eqb-true (lib_of cells l q) 1 e) in
+      path.1 (free.0, (free.1.0, free.1.1, free.1.2.2))))
+      (λ t. (let free = path.0 t in
+      eq-eqb (lib_of cells l q) 1 (ap (λ k. lib_of cells k q) l_is ∙ bit.1 (free.0, (free.1.0, free.1.1, (far-kept p free.1.0 stone free.1.1, q_in, free.1.2))))))
+
+-- the word that was read has the bit of a liberty
+pub bit_read : (cells : List ℕ) (word l q at : ℕ) → word ≡ word_of cells l (at / 64) → at ≡ q → nat_eq (bit_and (word / 2 ^ (at % 64)) 1) 1 ≡ nat_eq (lib_of cells l q) 1
+bit_read cells word l q at read is =
+    ap (λ b. nat_eq b 1) (shr_and_one word (at % 64) ∙ ap (λ w. bit_at w (at % 64)) read ∙ ap (λ k. lib_of cells l k) is)
+
+-- cells that are all 0 have no stone
+pub zero_cell : (count : ℕ) (cells : List ℕ) → cells ≡ replicate count 0 → (p : ℕ) → colour_of cells p ≡ 0
+zero_cell count cells zeros p = ap (λ l. get_or l p 0) zeros ∙ elim (cases_lt p count) [
+  | inl inside ↦ get_or-replicate count p 0 0 inside
+  | inr past ↦ get_or_past (replicate count 0) p 0 (omega (arith, length-replicate {A = ℕ} count 0))
+]
+
+-- a board without stones is kept, whatever its other cells have
+module _ (n : ℕ) (cells : List ℕ) (empty : (p : ℕ) → p < n * n → colour_of cells p ≡ 0) where
+  no_stone : (p : ℕ) → IsStone (n * n) (tables_of cells) p → ⊥
+  no_stone p stone = let z = empty p stone.0 in let some : 0 < colour_of cells p = stone.1 in omega arith
+
+  pub IsKept-empty : n ≤ MAX_LINES → IsKept n cells
+  IsKept-empty small =
+      IsKept-tidy n cells small (λ p p_in. (let z = empty p p_in in omega arith))
+      (record {
+        head_in = λ p s. absurd (no_stone p s);
+        head_colour = λ p s. absurd (no_stone p s);
+        head_label = λ p s. absurd (no_stone p s);
+        ring = λ p s. absurd (no_stone p s);
+        on_ring = λ p q s. absurd (no_stone p s);
+        ring_has = λ p q s. absurd (no_stone p s);
+        lib_is = λ p q s. absurd (no_stone p s);
+        has_lib = λ p q s. absurd (no_stone p s);
+        joined = λ p q s. absurd (no_stone p s);
+      })
+      (λ p q s. absurd (no_stone p s)) (λ p s. absurd (no_stone p s))
+
+  pub colouring-empty : colouring_of n cells ≡ replicate (n * n) None
+  colouring-empty =
+      let size = length-colouring n cells in
+      ext_get_or None (colouring_of n cells) (replicate (n * n) None) (size ∙ sym (length-replicate (n * n) None))
+      (λ i below. (let i_in : i < n * n = omega arith in
+      colouring-at n cells i i_in ∙ ap value_of (empty i i_in) ∙ sym (get_or-replicate (n * n) i None None i_in)))
+
+-- a grid with the colour of each point is that colouring
+pub grid_filled : (n : ℕ) (cells : List ℕ) (colours : Colouring) (i : ℕ) → n * n ≤ i → length colours ≡ n * n
+    → ((k : ℕ) → k < i → colour_at colours k ≡ colour_at (colouring_of n cells) k) → colours ≡ colouring_of n cells
+grid_filled n cells colours i all whole done =
+    ext_get_or None colours (colouring_of n cells) (whole ∙ sym (length-colouring n cells)) (λ k below. done k (omega arith))
+
+-- a list that isn't empty has a last element
+pub last_split : {X : Type 0} → (xs : List X) → 0 < length xs → (front : List X) × (last : X) × (xs ≡ front ++ last ∷ [])
+last_split [] some = absurd (omega arith)
+last_split (x ∷ []) some = ([], x, refl)
+last_split (x ∷ y ∷ ys) some = let rest = last_split (y ∷ ys) (omega arith) in (x ∷ rest.0, rest.1, ap (λ l. x ∷ l) rest.2)
+
+-- a colour cell is the code of its colour
+code_back : (k : ℕ) → k < 3 → code_of (value_of k) ≡ k
+code_back zero low = refl
+code_back (suc zero) low = refl
+code_back (suc (suc zero)) low = refl
+code_back (suc (suc (suc k))) low = absurd (omega arith)
+
+-- so a colour cell is the code of its point
+pub code_read : (n : ℕ) (cells : List ℕ) → IsKept n cells → (k : ℕ) → k < n * n → colour_of cells k ≡ code_of (colour_at (colouring_of n cells) k)
+code_read n cells kept k inside = sym (code_back (colour_of cells k) (kept.sound.coded k inside)) ∙ ap code_of (sym (colouring-at n cells k inside))
+
+-- and no point past the board has one
+pub code_none : (n : ℕ) (cells : List ℕ) (k : ℕ) → n * n ≤ k → code_of (colour_at (colouring_of n cells) k) ≡ 0
+code_none n cells k past = ap code_of (get_or_past (colouring_of n cells) k None (omega (arith, length-colouring n cells, past)))
+
+-- nor any byte past the last point
+pub byte_none : (n : ℕ) (cells : List ℕ) (i : ℕ) → n * n ≤ 4 * i → byte_of (colouring_of n cells) i ≡ 0
+byte_none n cells i past =
+    omega (arith, code_none n cells (4 * i) (omega arith), code_none n cells (4 * i + 1) (omega arith), code_none n cells (4 * i + 2) (omega arith), code_none n cells (4 * i + 3) (omega arith))

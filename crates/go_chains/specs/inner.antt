@@ -1,0 +1,10 @@
+-- What serves private functions alone.
+pub mod Tables
+pub mod Steps
+pub mod Writes
+pub mod Edits
+pub mod CellSteps
+pub mod Beside
+pub mod Traces
+pub mod Words
+pub mod Parts
