@@ -75,8 +75,8 @@ impl Board {
         }
     }
 
-    /// Takes all stones off, and gives the board this size. It writes the colours of the points alone,
-    /// and counts nothing.
+    /// Takes all stones off, and gives the board this size. It writes the colours of the points
+    /// alone, and counts nothing.
     pub fn clear(&mut self, size: Size)
         ensures lines { self.new.lines ≡ size }
         ensures colours { grid_of self.new ≡ replicate (size * size) None }
@@ -138,8 +138,8 @@ impl Board {
         stones
     }
 
-    /// How many points count for each colour: its stones, and the empty points that reach that colour
-    /// alone.
+    /// How many points count for each colour: its stones, and the empty points that reach that
+    /// colour alone.
     pub fn area(&self) -> Area
         ensures black { result.black ≡ area self.now.lines (grid_of self.now) Colour.Black }
         ensures white { result.white ≡ area self.now.lines (grid_of self.now) Colour.White }
@@ -384,9 +384,9 @@ impl Board {
         (bits & mask).count_ones() as u16
     }
 
-    /// Places a stone, takes off the opponent's chains that have no liberty then, and after them the
-    /// stone's own chain if that has none. It says how many stones were taken off. Repetitions aren't
-    /// looked for, and suicide is a play. The log gets the play's changes.
+    /// Places a stone, takes off the opponent's chains that have no liberty then, and after them
+    /// the stone's own chain if that has none. It says how many stones were taken off. Repetitions
+    /// aren't looked for, and suicide is a play. The log gets the play's changes.
     pub fn play<A: Allocator + Copy>(
         &mut self,
         log: &mut Log<A>,

@@ -1,11 +1,11 @@
 //! Chains without a liberty, found and taken off.
-ghost use Rattle.std.specs.Prelude.{◌≡◌, ◌≢◌, ◌<◌, ◌≤◌, ◌+◌, ◌*◌, ◌/◌, ◌↔◌, ℕ, IsTrue, false, length, slice_index, vec_capacity, vec_len};
+ghost use Rattle.std.specs.Prelude.{◌≡◌, ◌<◌, ◌≤◌, ◌+◌, ◌*◌, ◌/◌, ◌↔◌, ℕ, IsTrue, false, length, slice_index, vec_capacity, vec_len};
 ghost use Rattle.go_board.specs.declared.size.TheConstants.{MAX_POINTS};
 ghost use Rattle.go_chains.specs.declared.cells.TheConstants.{WORDS};
 ghost use Rattle.go_chains.specs.Cells.{chain_size, lib_of, tables_of};
 ghost use Rattle.go_chains.specs.inner.Edits.{Edited};
 ghost use Rattle.go_chains.specs.inner.Tables.{IsDead};
-ghost use Rattle.go_chains.specs.inner.CellSteps.{AreTidy, AreWhole, Captures, CapturesMore, HasTwoColours, TakesDead, TakesStones};
+ghost use Rattle.go_chains.specs.inner.CellSteps.{AreColours, AreTidy, AreWhole, Captures, CapturesMore, TakesDead, TakesStones};
 
 use crate::cells::{Cells, LABELS, word_place, words_of};
 use crate::change::Change;
@@ -33,8 +33,8 @@ fn has_liberty_in(
     cells.get(word_place(label, word), meter) & mask_of(points, word) != 0
 }
 
-/// Whether no point of the board is a liberty of a label. Liberties are mostly close by, so the word
-/// with the bit of a near point is looked at first.
+/// Whether no point of the board is a liberty of a label. Liberties are mostly close by, so the
+/// word with the bit of a near point is looked at first.
 pub fn is_dead(cells: &Cells, meter: &mut Meter, size: Size, label: usize, near: usize) -> bool
     requires label { label < MAX_POINTS }
     requires near { near < size * size }
@@ -68,10 +68,7 @@ pub fn take_one<A: Allocator + Copy>(
     requires tidy { AreTidy size cells.old }
     requires whole { AreWhole size cells.old }
     requires near { near < size * size }
-    requires own { 0 < own }
-    requires other { 0 < other }
-    requires apart { own ≢ other }
-    requires two { HasTwoColours size cells.old own other }
+    requires colours { AreColours size cells.old own other }
     requires room { vec_len changes.old + 5 * MAX_POINTS ≤ vec_capacity changes.old }
     ensures capturing { CapturesMore size cells.old cells.new own }
     ensures gone { TakesDead size cells.old cells.new own near }
@@ -106,10 +103,7 @@ pub fn capture<A: Allocator + Copy>(
     requires whole { AreWhole size cells.old }
     requires few { length beside.now ≤ 4 }
     requires on { (i : ℕ) → i < length beside.now → slice_index beside.now i < size * size }
-    requires own { 0 < own }
-    requires other { 0 < other }
-    requires apart { own ≢ other }
-    requires two { HasTwoColours size cells.old own other }
+    requires colours { AreColours size cells.old own other }
     requires room { vec_len changes.old + 20 * MAX_POINTS ≤ vec_capacity changes.old }
     ensures capturing { Captures size cells.old cells.new own }
     ensures gone { (i : ℕ) → i < length beside.now

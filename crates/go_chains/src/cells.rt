@@ -32,8 +32,8 @@ pub const LIBERTIES: usize = SIZES + MAX_POINTS;
 pub const COUNT: usize = LIBERTIES + WORDS * MAX_POINTS;
 
 /// The cells of a board: the colour, the label and the ring link of each point, and the size and
-/// the words of liberties of each label. Nothing else reads or writes them, and each write is in their
-/// trace. Beside them is the pack of the colours, as if the board had the most lines.
+/// the words of liberties of each label. Nothing else reads or writes them, and each write is in
+/// their trace. Beside them is the pack of the colours, as if the board had the most lines.
 #[derive(Drop)]
 pub struct Cells {
     numbers: [u64; COUNT],

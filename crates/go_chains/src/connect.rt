@@ -14,8 +14,8 @@ use crate::join::join;
 use go_board::{Meter, Size};
 use std::alloc::Allocator;
 
-/// Makes one chain of a stone's and that of a point beside it, where they are two of one colour: the
-/// smaller of the two is relabelled.
+/// Makes one chain of a stone's and that of a point beside it, where they are two of one colour.
+/// The smaller of the two is relabelled.
 fn connect_one<A: Allocator + Copy>(
     cells: &mut Cells,
     changes: &mut Vec<Change, A>,

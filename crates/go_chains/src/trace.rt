@@ -25,8 +25,8 @@ impl Model for Writes {
     ghost size = { λ w. length w };
 }
 
-/// All writes to some cells, in their order, each by the cell and the number that it wrote over. Contracts
-/// see them, and they have no bytes when the program runs.
+/// All writes to some cells, in their order, each by the cell and the number that it wrote over.
+/// Contracts see them, and they have no bytes when the program runs.
 #[derive(Drop)]
 pub struct Trace {
     /// The list of all writes so far.

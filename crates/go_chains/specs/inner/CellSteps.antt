@@ -1,5 +1,5 @@
 -- What the steps of a play do to the cells of a board of n lines.
-use Rattle.std.specs.Prelude.{ℕ, List, ◌≡◌, ◌<◌, ◌*◌, ◌⊎◌, length}
+use Rattle.std.specs.Prelude.{ℕ, List, ◌≡◌, ◌≢◌, ◌<◌, ◌*◌, ◌⊎◌, length}
 use Rattle.go_board.specs.Paths.{IsAdjacent}
 use Rattle.go_board.specs.declared.size.TheConstants.{MAX_POINTS}
 use Rattle.go_chains.specs.Cells.{CellsValue, colour_of, label_of, next_of, tables_of, words_for}
@@ -22,6 +22,13 @@ HasStone n cells p = IsStone (n * n) (tables_of cells.numbers) p
 -- each stone has one of two colours
 abbrev pub HasTwoColours : ℕ → CellsValue → ℕ → ℕ → Type 0
 HasTwoColours n cells own other = (s : ℕ) → HasStone n cells s → (colour_of cells.numbers s ≡ own) ⊎ (colour_of cells.numbers s ≡ other)
+
+-- two numbers of colours, of which each stone has one
+pub record AreColours (n : ℕ) (cells : CellsValue) (own other : ℕ) : Type 0 where
+  pub own_some : 0 < own
+  pub other_some : 0 < other
+  pub apart : own ≢ other
+  pub two : HasTwoColours n cells own other
 
 -- where p has this colour its label names a point
 abbrev pub FitsWith : CellsValue → ℕ → ℕ → Type 0

@@ -8,10 +8,16 @@ use Rattle.go_chains.proofs.writes.Editing.{Edited_then}
 use Rattle.go_chains.proofs.tables.Taking.{counts_then, stays_empty, still_dead, still_two}
 use Rattle.go_chains.proofs.capture.capture.Goals as goal
 
-pub take_one-taken-requires-clause-two : goal.take_one-taken-requires-clause-two
-take_one-taken-requires-clause-two g c =
+pub take_one-taken-requires-clause-colours : goal.take_one-taken-requires-clause-colours
+take_one-taken-requires-clause-colours g c =
     let n = c.args.size in
-    still_two (n * n) (IsAdjacent n) (tables_of c.args.cells.now.numbers) (tables_of c.loop-near.cells.numbers) c.args.own c.args.other c.loop-near.invariant.capturing c.requires.two
+    let colours = c.requires.colours in
+    record {
+      own_some = colours.own_some;
+      other_some = colours.other_some;
+      apart = colours.apart;
+      two = still_two (n * n) (IsAdjacent n) (tables_of c.args.cells.now.numbers) (tables_of c.loop-near.cells.numbers) c.args.own c.args.other c.loop-near.invariant.capturing colours.two;
+    }
 
 pub loop-near-preserved : goal.loop-near-preserved
 loop-near-preserved g c =
@@ -36,9 +42,9 @@ loop-near-preserved g c =
             | inr last ↦
                 let e : i ≡ x = omega arith in
                 let P : ℕ → Type 0 = λ y. colour_of mid (slice_index c.args.beside.now y) ≡ own → IsDead (n * n) (tables_of mid) (label_of mid (slice_index c.args.beside.now y)) → colour_of new (slice_index c.args.beside.now y) ≡ 0 in
-                still_dead (n * n) (IsAdjacent n) (tables_of old) (tables_of mid) (tables_of new) own point c.requires.own inv.capturing after point_in is dead (subst P e one.gone)
+                still_dead (n * n) (IsAdjacent n) (tables_of old) (tables_of mid) (tables_of new) own point c.requires.colours.own_some inv.capturing after point_in is dead (subst P e one.gone)
           ];
-      stones = counts_then (n * n) (IsAdjacent n) (tables_of old) (tables_of mid) (tables_of new) own j k c.requires.own inv.capturing after inv.stones one.stones;
+      stones = counts_then (n * n) (IsAdjacent n) (tables_of old) (tables_of mid) (tables_of new) own j k c.requires.colours.own_some inv.capturing after inv.stones one.stones;
       few = let e = inv.few in let f = one.few in omega arith;
       edited = Edited_then inv.edited one.edited (omega arith) (omega arith) (omega arith);
     }

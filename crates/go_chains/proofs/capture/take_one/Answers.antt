@@ -15,10 +15,19 @@ is_dead-requires g c =
     let n = c.args.size in
     let old = c.args.cells.now.numbers in
     let is : colour_of old c.args.near ≡ c.args.own = sym c.get.ensures.value ∙ c.if-get-own.false in
-    let some = c.requires.own in
+    let some = c.requires.colours.own_some in
     let stone : IsStone (n * n) (tables_of old) c.args.near = (c.requires.near, omega arith) in
     let h = label_small n (IsAdjacent n) (tables_of old) (omega arith) c.requires.tidy c.args.near stone in
     let e = c.get-label.ensures.value in omega arith
+
+pub take_off-requires-clause-other : goal.take_off-requires-clause-other
+take_off-requires-clause-other g c = c.requires.colours.other_some
+
+pub take_off-requires-clause-apart : goal.take_off-requires-clause-apart
+take_off-requires-clause-apart g c = c.requires.colours.apart
+
+pub take_off-requires-clause-two : goal.take_off-requires-clause-two
+take_off-requires-clause-two g c = c.requires.colours.two
 
 pub returns-then-not-is_dead-clause-edited : goal.returns-then-not-is_dead-clause-edited
 returns-then-not-is_dead-clause-edited g c = Edited_none (omega arith) (omega arith)
@@ -29,7 +38,7 @@ returns-clause-capturing g c t tidy capturing =
     let old = c.args.cells.now.numbers in
     let is : colour_of old c.args.near ≡ c.args.own = sym c.get.ensures.value ∙ c.if-get-own.false in
     let D : ℕ → Type 0 = λ l. IsDead (n * n) (tables_of old) l in
-    IsCapturing_more (n * n) (IsAdjacent n) (flip n) (inside n) t (tables_of old) (tables_of c.take_off.new.cells.numbers) c.args.own c.args.near tidy capturing c.take_off.ensures.removed is c.requires.own
+    IsCapturing_more (n * n) (IsAdjacent n) (flip n) (inside n) t (tables_of old) (tables_of c.take_off.new.cells.numbers) c.args.own c.args.near tidy capturing c.take_off.ensures.removed is c.requires.colours.own_some
     (subst D c.get-label.ensures.value (c.is_dead.ensures.dead.0 c.if-not-is_dead.false))
 
 pub returns-clause-stones : goal.returns-clause-stones
@@ -38,7 +47,7 @@ returns-clause-stones g c =
     let old = c.args.cells.now.numbers in
     let is : colour_of old c.args.near ≡ c.args.own = sym c.get.ensures.value ∙ c.if-get-own.false in
     let P : ℕ → Type 0 = λ k. CountsTaken (n * n) (tables_of old) (tables_of c.take_off.new.cells.numbers) c.args.own k in
-    subst P (sym c.take_off.ensures.stones) (counts_ring (n * n) (IsAdjacent n) (tables_of old) (tables_of c.take_off.new.cells.numbers) c.args.near c.args.own c.requires.tidy c.take_off.ensures.removed is c.requires.own)
+    subst P (sym c.take_off.ensures.stones) (counts_ring (n * n) (IsAdjacent n) (tables_of old) (tables_of c.take_off.new.cells.numbers) c.args.near c.args.own c.requires.tidy c.take_off.ensures.removed is c.requires.colours.own_some)
 
 pub returns-clause-few : goal.returns-clause-few
 returns-clause-few g c =

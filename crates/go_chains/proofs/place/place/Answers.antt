@@ -1,4 +1,4 @@
-use Rattle.std.proofs.Common.{arith, ◌*◌, inl, inr, refl}
+use Rattle.std.proofs.Common.{arith, ◌*◌, inl, inr, refl, sym}
 use Rattle.go_board.specs.Paths.{IsAdjacent}
 use Rattle.go_chains.specs.Cells.{tables_of}
 use Rattle.go_chains.specs.Playing.{stones_beside, stones_taken}
@@ -7,7 +7,7 @@ use Rattle.go_chains.proofs.rules.Sound.{tidy-kept}
 use Rattle.go_chains.proofs.writes.Editing.{Edited_next, Edited_within}
 use Rattle.go_chains.proofs.writes.Neighbours.{apart, inside}
 use Rattle.go_chains.proofs.tables.Occupying.{IsTidy-occupied}
-use Rattle.go_chains.proofs.rules.Placing.{begins, joins, kept_end, moved_end, own_end, size_end, size_then, taken_end, takes, theirs_end, two_then, whole_of}
+use Rattle.go_chains.proofs.rules.Placing.{begins, differ, joins, kept_end, moved_end, own_end, size_end, size_then, taken_end, takes, theirs_end, two_then, whole_of}
 use Rattle.go_chains.proofs.tables.Taking.{still_two}
 use Rattle.go_chains.proofs.place.place.Goals as goal
 
@@ -32,8 +32,8 @@ capture-theirs-requires-clause-whole g c =
     let j = joins n old c.occupy.new.cells.numbers c.connect.new.cells.numbers p own beside beside c.requires.near refl c.occupy.ensures.occupied c.connect.ensures.connected c.connect.ensures.tidy in
     whole_of n old c.occupy.new.cells.numbers c.connect.new.cells.numbers p c.args.colour own theirs beside b j
 
-pub capture-theirs-requires-clause-two : goal.capture-theirs-requires-clause-two
-capture-theirs-requires-clause-two g c =
+pub capture-theirs-requires-clause-colours : goal.capture-theirs-requires-clause-colours
+capture-theirs-requires-clause-colours g c =
     let n = c.args.size in
     let old = c.args.cells.now.numbers in
     let p = c.args.point in
@@ -42,10 +42,15 @@ capture-theirs-requires-clause-two g c =
     let beside = c.args.near.now in
     let b = begins n old p c.args.colour c.other.result own theirs c.requires.kept c.requires.point c.requires.empty c.code_of-own.ensures.value c.code_of-own.ensures.range c.other.ensures c.code_of-other.ensures.value c.code_of-other.ensures.range in
     let j = joins n old c.occupy.new.cells.numbers c.connect.new.cells.numbers p own beside beside c.requires.near refl c.occupy.ensures.occupied c.connect.ensures.connected c.connect.ensures.tidy in
-    two_then n old c.occupy.new.cells.numbers c.connect.new.cells.numbers p c.args.colour own theirs beside b j
+    record {
+      own_some = b.theirs_range.0;
+      other_some = b.own_range.0;
+      apart = differ n old p c.args.colour own theirs b;
+      two = two_then n old c.occupy.new.cells.numbers c.connect.new.cells.numbers p c.args.colour own theirs beside b j;
+    }
 
-pub take_one-taken-requires-clause-two : goal.take_one-taken-requires-clause-two
-take_one-taken-requires-clause-two g c =
+pub take_one-taken-requires-clause-colours : goal.take_one-taken-requires-clause-colours
+take_one-taken-requires-clause-colours g c =
     let n = c.args.size in
     let old = c.args.cells.now.numbers in
     let p = c.args.point in
@@ -54,10 +59,15 @@ take_one-taken-requires-clause-two g c =
     let beside = c.args.near.now in
     let b = begins n old p c.args.colour c.other.result own theirs c.requires.kept c.requires.point c.requires.empty c.code_of-own.ensures.value c.code_of-own.ensures.range c.other.ensures c.code_of-other.ensures.value c.code_of-other.ensures.range in
     let j = joins n old c.occupy.new.cells.numbers c.connect.new.cells.numbers p own beside beside c.requires.near refl c.occupy.ensures.occupied c.connect.ensures.connected c.connect.ensures.tidy in
-    (λ s stone. elim (still_two (n * n) (IsAdjacent n) (tables_of c.connect.new.cells.numbers) (tables_of c.capture-theirs.new.cells.numbers) theirs own c.capture-theirs.ensures.capturing (two_then n old c.occupy.new.cells.numbers c.connect.new.cells.numbers p c.args.colour own theirs beside b j) s stone) [
-      | inl is ↦ inr is
-      | inr is ↦ inl is
-    ])
+    record {
+      own_some = b.own_range.0;
+      other_some = b.theirs_range.0;
+      apart = λ same. differ n old p c.args.colour own theirs b (sym same);
+      two = (λ s stone. elim (still_two (n * n) (IsAdjacent n) (tables_of c.connect.new.cells.numbers) (tables_of c.capture-theirs.new.cells.numbers) theirs own c.capture-theirs.ensures.capturing (two_then n old c.occupy.new.cells.numbers c.connect.new.cells.numbers p c.args.colour own theirs beside b j) s stone) [
+            | inl is ↦ inr is
+            | inr is ↦ inl is
+          ]);
+    }
 
 pub returns-clause-kept : goal.returns-clause-kept
 returns-clause-kept g c =
