@@ -64,9 +64,9 @@ take_one-taken-requires-clause-colours g c =
       other_some = b.theirs_range.0;
       apart = λ same. differ n old p c.args.colour own theirs b (sym same);
       two = (λ s stone. elim (still_two (n * n) (IsAdjacent n) (tables_of c.connect.new.cells.numbers) (tables_of c.capture-theirs.new.cells.numbers) theirs own c.capture-theirs.ensures.capturing (two_then n old c.occupy.new.cells.numbers c.connect.new.cells.numbers p c.args.colour own theirs beside b j) s stone) [
-            | inl is ↦ inr is
-            | inr is ↦ inl is
-          ]);
+        | inl is ↦ inr is
+        | inr is ↦ inl is
+      ]);
     }
 
 pub returns-clause-kept : goal.returns-clause-kept
