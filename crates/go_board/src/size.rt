@@ -29,7 +29,6 @@ impl Model for Size {
 }
 
 impl Size {
-
     /// The size with this number of lines, or none where no board has so many or so few.
     pub fn new(lines: u8) -> Option<Size>
         ensures range { IsSome result ↔ ((0 < lines) × (lines ≤ MAX_LINES)) }
