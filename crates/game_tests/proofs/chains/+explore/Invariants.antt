@@ -1,4 +1,0 @@
-use Rattle.game_tests.proofs.chains.+explore.Given as goal
-
-abbrev pub decreases-explore : goal.decreases-explore
-decreases-explore g l = l.depth

@@ -1,0 +1,76 @@
+ghost use Rattle.std.specs.Prelude.{◌≡◌, Some, []};
+
+use go_board::{Failed, Meter, Sink};
+use std::alloc::Allocator;
+use std::cell::Cell;
+use std::marker::Model;
+
+/// A writer that holds back what it is given, all of it, and passes it on at a flush alone. It
+/// tells a reader how many bytes it passed on.
+#[derive(Drop)]
+pub struct HoldingWriter<'a, A: Allocator> {
+    bytes: Vec<u8, A>,
+    ends: Vec<usize, A>,
+    passed: &'a Cell<usize>,
+    failures: Meter,
+}
+
+impl<'a, A: Allocator> Model for HoldingWriter<'a, A> {
+    ghost use Rattle.test_devices.specs.States.{Writing};
+
+    ghost Value = { Writing };
+
+    ghost view = { λ writer. record { taken = writer.bytes.items; failures = writer.failures } };
+}
+
+impl<'a, A: Allocator + Copy> HoldingWriter<'a, A> {
+    /// A writer that took nothing so far, and tells in this cell how many bytes it passed on.
+    pub fn new(alloc: A, passed: &'a Cell<usize>) -> HoldingWriter<'a, A>
+        ensures { result ≡ record { taken = []; failures = 0 } }
+    {
+        passed.set(0);
+        HoldingWriter {
+            bytes: Vec::new(alloc),
+            ends: Vec::new(alloc),
+            passed,
+            failures: Meter::new(),
+        }
+    }
+
+    /// What it took, passed on or not.
+    pub fn bytes(&self) -> &[u8]
+        ensures { result.now ≡ self.now.taken }
+    {
+        self.bytes.as_slice()
+    }
+
+    /// How many bytes it had passed on behind each flush.
+    pub fn ends(&self) -> &[usize] {
+        self.ends.as_slice()
+    }
+}
+
+impl<A: Allocator> Sink for HoldingWriter<'_, A> {
+    ghost taken = { λ writer. Some writer.taken };
+
+    ghost failures = { λ writer. writer.failures };
+
+    /// Want of memory is a failure.
+    fn put(&mut self, bytes: &[u8]) -> Result<usize, Failed> {
+        if self.bytes.extend_from_slice(bytes).is_err() {
+            self.failures.tick();
+            return Err(Failed);
+        }
+        Ok(bytes.len())
+    }
+
+    /// Want of memory is a failure, which passes nothing on.
+    fn flush(&mut self) -> Result<(), Failed> {
+        if self.ends.push(self.bytes.len()).is_err() {
+            self.failures.tick();
+            return Err(Failed);
+        }
+        self.passed.set(self.bytes.len());
+        Ok(())
+    }
+}

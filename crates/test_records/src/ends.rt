@@ -1,0 +1,131 @@
+//! When the tools stop reading, and what they pass on.
+use go_sgf::SgfError;
+use goref_tools::{ToolError, judge_run, read_input, tidy_run};
+use std::alloc::{Allocator, Global};
+use std::cell::Cell;
+use std::process::Abort;
+use std::test::Fail;
+use test_allocator::Failing;
+use test_devices::{HoldingWriter, Reader, Writer};
+
+const SAMPLE: &[u8] = b"(;GM[1]SZ[9]KM[6.5]RE[B+74.5];B[ee])";
+
+/// One of the tools.
+#[derive(Clone, Copy)]
+enum Tool {
+    Tidy,
+    Judge,
+}
+
+impl Tool {
+    /// How a run ends.
+    fn ends(self, alloc: Global, reader: &mut Reader<'_>) -> Result<(), ToolError> {
+        let mut writer = Writer::new(alloc);
+        match self {
+            Tool::Tidy => tidy_run(alloc, reader, &mut writer),
+            Tool::Judge => judge_run(alloc, reader, &mut writer),
+        }
+    }
+}
+
+/// Asserts how both tools end on what is read in pieces of this length at most, and how often they
+/// met the end of it.
+fn meet_ends(
+    rt: &impl Abort,
+    alloc: Global,
+    source: &[u8],
+    most: usize,
+    end: Result<(), ToolError>,
+    count: u64,
+) {
+    for tool in [Tool::Tidy, Tool::Judge] {
+        let mut reader = Reader::new(source).in_pieces_of(most);
+        assert!(rt; tool.ends(alloc, &mut reader) == end);
+        assert!(rt; reader.end_count() == count);
+    }
+}
+
+#[test]
+fn nothing_is_read_behind_the_end(rt: HostRuntime) {
+    let no_tree = Err(ToolError::Sgf(SgfError::NoTree));
+    let stray = Err(ToolError::Sgf(SgfError::Unexpected(2)));
+    for most in [1, 3, 4_096] {
+        meet_ends(&rt, rt.alloc(), b"", most, no_tree, 1);
+        meet_ends(&rt, rt.alloc(), b"(;)", most, Ok(()), 1);
+        meet_ends(&rt, rt.alloc(), SAMPLE, most, Ok(()), 1);
+        meet_ends(&rt, rt.alloc(), b"(;7)", most, stray, 1);
+    }
+}
+
+#[test]
+fn the_longest_input_is_read_to_its_end(rt: HostRuntime) -> Result<(), Fail> {
+    let blank = vec![in rt.alloc(); b' '; 16_777_216]?;
+    let no_tree = Err(ToolError::Sgf(SgfError::NoTree));
+    meet_ends(&rt, rt.alloc(), blank.as_slice(), 4_096, no_tree, 1);
+    Ok(())
+}
+
+#[test]
+fn a_longer_input_is_not(rt: HostRuntime) -> Result<(), Fail> {
+    let blank = vec![in rt.alloc(); b' '; 16_777_217]?;
+    let too_long = Err(ToolError::Sgf(SgfError::TooLong));
+    meet_ends(&rt, rt.alloc(), blank.as_slice(), 4_096, too_long, 0);
+    Ok(())
+}
+
+#[test]
+fn nothing_is_read_behind_a_fault(rt: HostRuntime) {
+    for tool in [Tool::Tidy, Tool::Judge] {
+        let mut reader = Reader::new(SAMPLE).in_pieces_of(5).failing_at(3);
+        assert!(rt; tool.ends(rt.alloc(), &mut reader) == Err(ToolError::Read));
+        assert!(rt; reader.pull_count() == 3);
+    }
+}
+
+#[test]
+fn a_tidy_record_is_passed_on_whole(rt: HostRuntime) {
+    let passed = Cell::new(0);
+    let mut writer = HoldingWriter::new(rt.alloc(), &passed);
+    let end = tidy_run(rt.alloc(), &mut Reader::new(SAMPLE), &mut writer);
+    assert!(rt; end == Ok(()));
+    assert!(rt; writer.ends() == [37].as_slice());
+}
+
+#[test]
+fn a_verdict_is_passed_on_whole(rt: HostRuntime) {
+    let passed = Cell::new(0);
+    let mut writer = HoldingWriter::new(rt.alloc(), &passed);
+    let end = judge_run(rt.alloc(), &mut Reader::new(SAMPLE), &mut writer);
+    assert!(rt; end == Ok(()));
+    assert!(rt; writer.ends() == [35].as_slice());
+}
+
+/// Whether a whole input is read with this allocator; that memory was wanted, if not.
+fn reads_input<A: Allocator + Copy>(rt: &impl Abort, alloc: A) -> bool {
+    let mut reader = Reader::new(SAMPLE).in_pieces_of(5);
+    match read_input(alloc, &mut reader) {
+        Ok(bytes) => {
+            assert!(rt; bytes.as_slice() == SAMPLE);
+            true
+        }
+        Err(why) => {
+            assert!(rt; why == ToolError::Memory);
+            false
+        }
+    }
+}
+
+#[test]
+fn each_request_of_an_input(rt: HostRuntime) {
+    let mut requests = 0u64;
+    for number in 1..50u64 {
+        let failing = Failing::new(rt.alloc(), number);
+        let done = reads_input(&rt, &failing);
+        assert!(rt; done == failing.waits(), "request {number}");
+        if done {
+            requests = number - 1;
+            break;
+        }
+    }
+    assert!(rt; requests > 0, "{requests} requests");
+}
