@@ -1,7 +1,7 @@
 -- A line that was answered, from what was decided and what was written.
 use Rattle.std.proofs.Common.{◌≡◌, inl, inr, ℕ, true, false, List, Option, Ok, Err, refl, sym}
 use Rattle.go_board.specs.Device.{then_bytes, TakesFront}
-use Rattle.go_board.specs.Writing.{then_bytes-nil}
+use Rattle.go_board.specs.lemmas.Writing.{then_bytes-nil}
 use Rattle.go_board.specs.declared.device.WriteFault.{WriteFault}
 use Rattle.goref.specs.declared.flow.Flow.{Flow}
 use Rattle.goref.specs.declared.flow.Flow.TheVariants.{More}

@@ -5,7 +5,8 @@ use Rattle.go_game.specs.Standings.{Standing}
 use Rattle.goref.specs.declared.decision.Decision.TheVariants.{Refused, Tells}
 use Rattle.goref.specs.declared.decision.Fact.TheVariants.{Plays}
 use Rattle.goref.specs.declared.decision.Refusal.TheVariants.{OutOfMemory}
-use Rattle.goref.specs.Decisions.{MayDecide, decided_legal, keeps}
+use Rattle.goref.specs.Decisions.{MayDecide, keeps}
+use Rattle.goref.specs.Play.{decided_legal}
 use Rattle.goref_results.specs.Plays.{marked_plays}
 
 pub plays_told : (s s' : Standing) (c : Colour) (o : Option Colour) (plays : List Bool) → o ≡ Some c → s' ≡ s → plays ≡ marked_plays s c →

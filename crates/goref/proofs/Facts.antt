@@ -8,7 +8,7 @@ use Rattle.go_board.specs.declared.point.Point.{Point}
 use Rattle.go_board.specs.declared.vertex.Vertex.{Vertex}
 use Rattle.go_board.specs.declared.vertex.Vertex.TheVariants.{Pass, At}
 use Rattle.go_board.specs.Chains.{first_stones, members, liberties}
-use Rattle.go_board.specs.Colours.{Colouring, colour_at}
+use Rattle.go_board.specs.Colours.{Colouring, colour_at, letter_of}
 use Rattle.go_board.specs.Points.{point_at}
 use Rattle.go_board.specs.Reaching.{points}
 use Rattle.go_board.specs.Vertices.{column_letters, vertex_word}
@@ -18,12 +18,15 @@ use Rattle.go_game.specs.Scores.{margin_of, score_word}
 use Rattle.go_game.specs.Standings.{Standing, board_of, mover_of}
 use Rattle.go_record.specs.Records.{record_body}
 use Rattle.goref_results.specs.ChainLines.{chain_line, spaced_vertex, stone_text}
-use Rattle.goref_results.specs.Diagrams.{diagram, letter_of_colour, letters_text, mark_of, marks_text, padding_of, prisoners_text, right_in_two, row_text, rows_text, setting_text, spaced_letter, spaced_mark, turn_text}
+use Rattle.goref_results.specs.Diagrams.{diagram, letters_text, mark_of, marks_text, padding_of, prisoners_text, right_in_two, row_text, rows_text, setting_text, spaced_letter, spaced_mark, turn_text}
 use Rattle.goref_results.specs.Places.{places_text, point_word}
 use Rattle.goref_results.specs.Plays.{number_word, plays_text}
 use Rattle.goref.specs.Answers.{fact_text}
+use Rattle.goref.specs.Telling.{topic_text, truth_text}
+use Rattle.goref.specs.declared.command.Topic.{Topic}
+use Rattle.goref.specs.declared.command.Topic.TheVariants.{Protocol, Program, Release, Commands, Score, Board, Chains, Record}
 use Rattle.goref.specs.declared.decision.Fact.{Fact}
-use Rattle.goref.specs.declared.decision.Fact.TheVariants.{Protocol, Program, Release, Commands, Known, Score, Board, Chains, Places, Vertex as Chosen, Plays, Record}
+use Rattle.goref.specs.declared.decision.Fact.TheVariants.{About, Known, Places, Choice, Plays}
 use Rattle.goref.proofs.Decimals.{full_decimal, hundredths_line, score_line}
 use Rattle.goref.proofs.Lines.{GoesOn, IsFull, IsLine, append_full, append_goes_on, flat_map_goes_on, full_append, line_append, line_at, line_behind, line_by_test, line_flat_map, line_goes_on, line_if, line_joined, lines_go_on}
 use Rattle.goref.proofs.RecordLine.{record_line}
@@ -50,7 +53,7 @@ plays_line n marks = line_joined (number_word n) (λ p. vertex_line (At (point_a
 
 -- ---- chains
 
-letter_plain : (c : Colour) → 32 ≤ letter_of_colour c
+letter_plain : (c : Colour) → 32 ≤ letter_of c
 letter_plain Black = omega arith
 letter_plain White = omega arith
 
@@ -81,7 +84,7 @@ prisoners_line s =
 turn_line : (s : Standing) → IsLine (turn_text s)
 turn_line s =
     behind_words (codes " moves ") _ refl
-    (behind_number (length s.moves) _ (behind_words (codes " next ") (letter_of_colour (mover_of s) ∷ []) refl (letter_plain (mover_of s), tt)))
+    (behind_number (length s.moves) _ (behind_words (codes " next ") (letter_of (mover_of s) ∷ []) refl (letter_plain (mover_of s), tt)))
 
 mark_plain : (o : Option Colour) → 32 ≤ mark_of o
 mark_plain None = omega arith
@@ -118,20 +121,23 @@ diagram_goes_on s =
 
 -- ---- facts
 
-truth_goes_on : (b : Bool) (s : Standing) → GoesOn (fact_text (Known b) s)
-truth_goes_on true s = refl
-truth_goes_on false s = refl
+truth_goes_on : (truth : Bool) → GoesOn (truth_text truth)
+truth_goes_on true = refl
+truth_goes_on false = refl
+
+topic_goes_on : (topic : Topic) (s : Standing) → GoesOn (topic_text topic s)
+topic_goes_on Protocol s = refl
+topic_goes_on Program s = refl
+topic_goes_on Release s = refl
+topic_goes_on Commands s = refl
+topic_goes_on Score s = line_goes_on (score_word (margin_of s)) (score_line (margin_of s))
+topic_goes_on Board s = diagram_goes_on s
+topic_goes_on Chains s = lines_go_on (chain_line s.lines (board_of s)) (full_chain s.lines (board_of s)) (first_stones s.lines (board_of s))
+topic_goes_on Record s = line_goes_on (record_body s) (record_line s)
 
 pub fact_goes_on : (fact : Fact) (s : Standing) → GoesOn (fact_text fact s)
-fact_goes_on Protocol s = refl
-fact_goes_on Program s = refl
-fact_goes_on Release s = refl
-fact_goes_on Commands s = refl
-fact_goes_on (Known b) s = truth_goes_on b s
-fact_goes_on Score s = line_goes_on (score_word (margin_of s)) (score_line (margin_of s))
-fact_goes_on Board s = diagram_goes_on s
-fact_goes_on Chains s = lines_go_on (chain_line s.lines (board_of s)) (full_chain s.lines (board_of s)) (first_stones s.lines (board_of s))
+fact_goes_on (About topic) s = topic_goes_on topic s
+fact_goes_on (Known truth) s = truth_goes_on truth
 fact_goes_on (Places number) s = line_goes_on (places_text (fixed s.lines number)) (places_line (fixed s.lines number))
-fact_goes_on (Chosen v) s = line_goes_on (vertex_word v) (vertex_line v)
+fact_goes_on (Choice v) s = line_goes_on (vertex_word v) (vertex_line v)
 fact_goes_on (Plays marks) s = line_goes_on (plays_text s.lines marks) (plays_line s.lines marks)
-fact_goes_on Record s = line_goes_on (record_body s) (record_line s)

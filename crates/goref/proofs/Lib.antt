@@ -9,4 +9,4 @@ pub mod Decimals
 pub mod Facts
 pub mod RecordLine
 pub mod Ending
-pub mod Naming
+pub mod Named

@@ -1,5 +1,6 @@
 -- What is decided on a move, by what the game says of it.
 use Rattle.std.proofs.Common.{◌≡◌, ◌∙◌, ℕ, Bool, true, false, [], None, Some, refl, sym, ap, inl, inr, if◌then◌else◌, ◌↔◌}
+use Rattle.go_game.specs.Laws.{LegalByTheRules}
 use Rattle.std.specs.Prelude.{IsTrue}
 use Rattle.std.proofs.lemmas.List.{get_or_default}
 use Rattle.go_board.specs.declared.colour.Colour.{Colour}
@@ -14,11 +15,8 @@ use Rattle.go_game.specs.Standings as standings
 use Rattle.go_game.specs.Standings.{IsLegal, IsOccupied, IsOffBoard, Standing, seen_after, stood_of, with_move}
 use Rattle.goref.specs.declared.decision.Decision.TheVariants.{Done, Refused}
 use Rattle.goref.specs.declared.decision.Refusal.TheVariants.{IllegalMove, OutOfMemory}
-use Rattle.goref.specs.Decisions.{keeps, comes_to, DecidesPlay, move_refusal}
-
--- the law of the game's crate that its test decides what is legal
-abbrev pub LegalByTheRules : Type 0
-LegalByTheRules = (s : Standing) (c : Colour) (v : Vertex) → IsTrue (is_legal s c v) ↔ IsLegal s c v
+use Rattle.goref.specs.Decisions.{keeps, comes_to}
+use Rattle.goref.specs.Play.{DecidesPlay, move_refusal}
 
 off_is_illegal : (s : Standing) (c : Colour) (v : Vertex) → IsOffBoard s v → (IsLegal s c v → ⊥)
 off_is_illegal s c Pass off = absurd off

@@ -8,10 +8,11 @@ use Rattle.goref.specs.Answers.{DecidesLine, Reply, Said, line_id, silent, spoke
 use Rattle.goref.specs.Commands.{command_of}
 use Rattle.goref.specs.Contents.{Content, bytes, missing, no_memory, nothing, too_large}
 use Rattle.goref.specs.Laws.{SomeReply}
-use Rattle.goref.specs.Decisions.{Decided, DecidesContent, DecidesIf, DecidesLoad, DecidesOn, keeps}
-use Rattle.goref.specs.Loads.{Load, load_of}
+use Rattle.goref.specs.Decisions.{Decided, keeps}
+use Rattle.goref.specs.Record.{DecidesContent, DecidesLoad, Load, load_of}
+use Rattle.goref.specs.Table.{DecidesIf, DecidesOn}
 use Rattle.goref.specs.declared.command.Command.{Command}
-use Rattle.goref.specs.declared.command.Command.TheVariants as command
+use Rattle.goref.specs.declared.command.Command.TheVariants.{Tells, KnownCommand, Quit, Boardsize, ClearBoard, Komi, Play, Genmove, Undo, RegGenmove, Loadsgf, FixedHandicap, PlaceFreeHandicap, SetFreeHandicap, TimeSettings, TimeLeft, Legal, Superko}
 use Rattle.goref.specs.declared.decision.Decision.TheVariants.{Refused}
 use Rattle.goref.specs.declared.decision.Refusal.TheVariants.{LineTooLong}
 
@@ -27,31 +28,24 @@ on_load s None content = (_, refl)
 on_load s (Some load) content = on_content s content load.number
 
 on_command : (s : Standing) (c : Command) (arguments : List (List ℕ)) (content : Content) → (d : Decided) × DecidesOn s c arguments content d
-on_command s command.ProtocolVersion arguments content = (_, refl)
-on_command s command.Name arguments content = (_, refl)
-on_command s command.Version arguments content = (_, refl)
-on_command s command.KnownCommand arguments content = (_, refl)
-on_command s command.ListCommands arguments content = (_, refl)
-on_command s command.Quit arguments content = (_, refl)
-on_command s command.Boardsize arguments content = (_, refl)
-on_command s command.ClearBoard arguments content = (_, refl)
-on_command s command.Komi arguments content = (_, refl)
-on_command s command.Play arguments content = (_, inl refl)
-on_command s command.Genmove arguments content = (_, inl refl)
-on_command s command.Undo arguments content = (_, refl)
-on_command s command.RegGenmove arguments content = (_, inl refl)
-on_command s command.Loadsgf arguments content = on_load s (load_of arguments) content
-on_command s command.FixedHandicap arguments content = (_, inl refl)
-on_command s command.PlaceFreeHandicap arguments content = (_, inl refl)
-on_command s command.SetFreeHandicap arguments content = (_, inl refl)
-on_command s command.FinalScore arguments content = (_, refl)
-on_command s command.Showboard arguments content = (_, refl)
-on_command s command.TimeSettings arguments content = (_, refl)
-on_command s command.TimeLeft arguments content = (_, refl)
-on_command s command.Chains arguments content = (_, refl)
-on_command s command.Legal arguments content = (_, inl refl)
-on_command s command.Printsgf arguments content = (_, refl)
-on_command s command.Superko arguments content = (_, refl)
+on_command s (Tells topic) arguments content = (_, refl)
+on_command s KnownCommand arguments content = (_, refl)
+on_command s Quit arguments content = (_, refl)
+on_command s Boardsize arguments content = (_, refl)
+on_command s ClearBoard arguments content = (_, refl)
+on_command s Komi arguments content = (_, refl)
+on_command s Play arguments content = (_, inl refl)
+on_command s Genmove arguments content = (_, inl refl)
+on_command s Undo arguments content = (_, refl)
+on_command s RegGenmove arguments content = (_, inl refl)
+on_command s Loadsgf arguments content = on_load s (load_of arguments) content
+on_command s FixedHandicap arguments content = (_, inl refl)
+on_command s PlaceFreeHandicap arguments content = (_, inl refl)
+on_command s SetFreeHandicap arguments content = (_, inl refl)
+on_command s TimeSettings arguments content = (_, refl)
+on_command s TimeLeft arguments content = (_, refl)
+on_command s Legal arguments content = (_, inl refl)
+on_command s Superko arguments content = (_, refl)
 
 on_name : (s : Standing) (c : Option Command) (arguments : List (List ℕ)) (content : Content) → (d : Decided) × DecidesIf s c arguments content d
 on_name s None arguments content = (_, refl)

@@ -1,28 +1,24 @@
 -- The texts of answers.
 use Rattle.std.specs.Prelude.{◌≡◌, ℕ, ◌⊎◌, Bool, true, false, if◌then◌else◌, List, [], ◌++◌, Option, Some, None, codes, decimal, option_map}
-use Rattle.std.specs.List.{join_with_byte}
+use Rattle.go_board.specs.Vertices.{vertex_word}
+use Rattle.go_game.specs.Handicaps.{fixed}
+use Rattle.go_game.specs.Standings.{Standing}
+use Rattle.goref.specs.Contents.{Content}
+use Rattle.goref.specs.Decisions.{Decided, keeps}
+use Rattle.goref.specs.Record.{load_asked}
+use Rattle.goref.specs.Table.{Decides}
+use Rattle.goref.specs.Telling.{topic_text, truth_text}
 use Rattle.goref.specs.declared.decision.Decision.{Decision}
 use Rattle.goref.specs.declared.decision.Decision.TheVariants.{Done, Ends, Tells, Refused}
 use Rattle.goref.specs.declared.decision.Fact.{Fact}
-use Rattle.goref.specs.declared.decision.Fact.TheVariants.{Protocol, Program, Release, Commands, Known, Score, Board, Chains, Places, Vertex as Chosen, Plays, Record}
+use Rattle.goref.specs.declared.decision.Fact.TheVariants.{About, Known, Places, Choice, Plays}
 use Rattle.goref.specs.declared.decision.Refusal.{Refusal}
 use Rattle.goref.specs.declared.decision.Refusal.TheVariants.{LineTooLong, UnknownCommand, SyntaxError, UnacceptableSize, IllegalMove, CannotUndo, BoardNotEmpty, InvalidNumber, BadVertexList, CannotLoad, GameInProgress, OutOfMemory}
-use Rattle.go_game.specs.Standings.{Standing, board_of}
-use Rattle.go_game.specs.Handicaps.{fixed}
-use Rattle.go_game.specs.Scores.{margin_of, score_word}
 use Rattle.goref_lines.specs.Kept.{Kept, has_bytes, words}
 use Rattle.goref_lines.specs.Requests.{asked_by, id_of_cut}
-use Rattle.goref.specs.Contents.{Content}
-use Rattle.goref.specs.Commands.{command_names}
-use Rattle.goref_results.specs.Results.{result_text}
-use Rattle.goref_results.specs.Diagrams.{diagram}
-use Rattle.goref_results.specs.ChainLines.{chain_lines}
 use Rattle.goref_results.specs.Places.{places_text}
 use Rattle.goref_results.specs.Plays.{plays_text}
-use Rattle.go_board.specs.Vertices.{vertex_word}
-use Rattle.goref.specs.Decisions.{Decided, Decides, keeps}
-use Rattle.goref.specs.Loads.{load_asked}
-use Rattle.go_record.specs.Records.{record_body}
+use Rattle.goref_results.specs.Results.{result_text}
 
 abbrev pub refusal_text : Refusal → List ℕ
 refusal_text LineTooLong = codes "line too long"
@@ -38,24 +34,13 @@ refusal_text CannotLoad = codes "cannot load file"
 refusal_text GameInProgress = codes "game in progress"
 refusal_text OutOfMemory = codes "out of memory"
 
-abbrev pub truth_text : Bool → List ℕ
-truth_text true = codes "true"
-truth_text false = codes "false"
-
 -- what a fact says over a standing
 abbrev pub fact_text : Fact → Standing → List ℕ
-fact_text Protocol s = codes "2"
-fact_text Program s = codes "goref"
-fact_text Release s = codes "1.0"
-fact_text Commands s = join_with_byte 10 command_names
-fact_text (Known b) s = truth_text b
-fact_text Score s = score_word (margin_of s)
-fact_text Board s = diagram s
-fact_text Chains s = chain_lines s.lines (board_of s)
+fact_text (About topic) s = topic_text topic s
+fact_text (Known truth) s = truth_text truth
 fact_text (Places number) s = places_text (fixed s.lines number)
-fact_text (Chosen v) s = vertex_word v
+fact_text (Choice v) s = vertex_word v
 fact_text (Plays marks) s = plays_text s.lines marks
-fact_text Record s = record_body s
 
 -- the id in front of an answer, without leading zeros
 abbrev pub id_text : Option ℕ → List ℕ
@@ -106,5 +91,5 @@ Reply s k content reply = ((has_bytes k.text ≡ false) × (reply ≡ silent s))
     ⊎ ((has_bytes k.text ≡ true) × Answers s k content reply)
 
 -- the name of the file that a line wants fetched
-abbrev pub wants : Kept → Option (List ℕ)
-wants k = if k.is_long then None else option_map (λ load. load.name) (load_asked (asked_by (words k.text)))
+abbrev pub wanted : Kept → Option (List ℕ)
+wanted k = if k.is_long then None else option_map (λ load. load.name) (load_asked (asked_by (words k.text)))

@@ -1,7 +1,7 @@
 -- What was fetched for a line that names a file.
 use Rattle.std.specs.Prelude.{ℕ, List}
 use Rattle.goref.specs.declared.fetched.Fetched.{Fetched}
-use Rattle.goref.specs.declared.fetched.Fetched.TheVariants as fetched
+use Rattle.goref.specs.declared.fetched.Fetched.TheVariants.{None, Bytes, Missing, TooLarge, Memory}
 
 pub data Content : Type 0 where
   nothing : Content
@@ -12,8 +12,8 @@ pub data Content : Type 0 where
 
 -- what contracts see of it
 abbrev pub content_of : {A : Type 0} → Fetched A → Content
-content_of fetched.None = nothing
-content_of (fetched.Bytes b) = bytes b.items
-content_of fetched.Missing = missing
-content_of fetched.TooLarge = too_large
-content_of fetched.Memory = no_memory
+content_of None = nothing
+content_of (Bytes b) = bytes b.items
+content_of Missing = missing
+content_of TooLarge = too_large
+content_of Memory = no_memory

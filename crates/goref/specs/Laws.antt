@@ -5,7 +5,7 @@ use Rattle.go_game.specs.Standings.{Standing}
 use Rattle.goref_lines.specs.Kept.{Kept, has_bytes}
 use Rattle.goref.specs.Answers.{Reply, Said}
 use Rattle.goref.specs.Contents.{Content}
-use Rattle.goref.specs.Loads.{Loads, LoadsNone}
+use Rattle.goref.specs.Record.{Loads, LoadsNone}
 
 -- over each standing something may be said to each line, whatever was fetched for it
 abbrev pub SomeReply : Type 0

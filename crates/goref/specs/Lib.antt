@@ -1,10 +1,14 @@
 pub mod Starts
-pub mod Rules
 pub mod Contents
-pub mod Handicaps
 pub mod Commands
-pub mod Loads
 pub mod Decisions
+pub mod Setup
+pub mod Play
+pub mod Handicap
+pub mod Record
+pub mod Time
+pub mod Telling
+pub mod Table
 pub mod Answers
 pub mod Replies
 pub mod Laws

@@ -1,16 +1,15 @@
-ghost use Rattle.std.specs.Prelude.{◌≡◌, ◌∷◌, [], find};
-ghost use Rattle.std.specs.List.{join_with_byte};
-ghost use Rattle.std.specs.Str.{bytes_eq};
-ghost use Rattle.goref.specs.Commands.{command_of, command_names, name_of};
+ghost use Rattle.std.specs.Prelude.{◌≡◌};
+ghost use Rattle.std.specs.Option.{option_and_then};
+ghost use Rattle.goref.specs.Commands.{command_of};
+
+use goref_lines::Request;
 
 /// What a line can ask for.
 #[derive(Clone, Copy, Debug, PartialEq, Eq)]
 pub enum Command {
-    ProtocolVersion,
-    Name,
-    Version,
+    /// To be told of a topic. There are no arguments.
+    Tells(Topic),
     KnownCommand,
-    ListCommands,
     Quit,
     Boardsize,
     ClearBoard,
@@ -23,149 +22,80 @@ pub enum Command {
     FixedHandicap,
     PlaceFreeHandicap,
     SetFreeHandicap,
-    FinalScore,
-    Showboard,
     TimeSettings,
     TimeLeft,
-    Chains,
     Legal,
-    Printsgf,
     Superko,
 }
 
-/// The names of all commands, each on a line of its own.
-const LISTING: &[u8] =
-    b"protocol_version\nname\nversion\nknown_command\nlist_commands\nquit\nboardsize\nclear_board\nkomi\nplay\ngenmove\nundo\nreg_genmove\nloadsgf\nfixed_handicap\nplace_free_handicap\nset_free_handicap\nfinal_score\nshowboard\ntime_settings\ntime_left\ngoref-chains\ngoref-legal\ngoref-printsgf\ngoref-superko";
+/// What can be told without arguments.
+#[derive(Clone, Copy, Debug, PartialEq, Eq)]
+pub enum Topic {
+    /// The version of the protocol.
+    Protocol,
+    /// The name of the program.
+    Program,
+    /// The version of the program.
+    Release,
+    /// The names of all commands.
+    Commands,
+    /// Who is ahead, and by how much.
+    Score,
+    /// The diagram of the board.
+    Board,
+    /// The chains with their liberties.
+    Chains,
+    /// The record of the game.
+    Record,
+}
 
-/// The command of this name, which is compared only with the names of its own length, or with the few
-/// whose lengths are rare.
+/// All commands with their names, in the order in which they are listed.
+pub const COMMANDS: &[(&[u8], Command)] = &[
+    (b"protocol_version", Command::Tells(Topic::Protocol)),
+    (b"name", Command::Tells(Topic::Program)),
+    (b"version", Command::Tells(Topic::Release)),
+    (b"known_command", Command::KnownCommand),
+    (b"list_commands", Command::Tells(Topic::Commands)),
+    (b"quit", Command::Quit),
+    (b"boardsize", Command::Boardsize),
+    (b"clear_board", Command::ClearBoard),
+    (b"komi", Command::Komi),
+    (b"play", Command::Play),
+    (b"genmove", Command::Genmove),
+    (b"undo", Command::Undo),
+    (b"reg_genmove", Command::RegGenmove),
+    (b"loadsgf", Command::Loadsgf),
+    (b"fixed_handicap", Command::FixedHandicap),
+    (b"place_free_handicap", Command::PlaceFreeHandicap),
+    (b"set_free_handicap", Command::SetFreeHandicap),
+    (b"final_score", Command::Tells(Topic::Score)),
+    (b"showboard", Command::Tells(Topic::Board)),
+    (b"time_settings", Command::TimeSettings),
+    (b"time_left", Command::TimeLeft),
+    (b"goref-chains", Command::Tells(Topic::Chains)),
+    (b"goref-legal", Command::Legal),
+    (b"goref-printsgf", Command::Tells(Topic::Record)),
+    (b"goref-superko", Command::Superko),
+];
+
+/// The command that a request names.
+pub fn command_asked(request: &Request) -> Option<Command>
+    ensures { result ≡ option_and_then command_of request.now.name }
+{
+    match request.name() {
+        Some(name) => command_named(name),
+        None => None,
+    }
+}
+
+/// The command of this name.
 pub fn command_named(name: &[u8]) -> Option<Command>
     ensures { result ≡ command_of name.now }
 {
-    match name.len() {
-        4 => named_in_four(name),
-        7 => named_in_seven(name),
-        9 => named_in_nine(name),
-        11 => named_in_eleven(name),
-        13 => named_in_thirteen(name),
-        _ => named_in_others(name),
-    }
-}
-
-fn named_in_four(name: &[u8]) -> Option<Command>
-    ensures { result ≡ find (λ command. bytes_eq name.now (name_of command)) (Command.Name ∷ Command.Quit ∷ Command.Komi ∷ Command.Play ∷ Command.Undo ∷ []) }
-{
-    if name == b"name".as_slice() {
-        return Some(Command::Name);
-    }
-    if name == b"quit".as_slice() {
-        return Some(Command::Quit);
-    }
-    if name == b"komi".as_slice() {
-        return Some(Command::Komi);
-    }
-    if name == b"play".as_slice() {
-        return Some(Command::Play);
-    }
-    if name == b"undo".as_slice() {
-        return Some(Command::Undo);
+    for (known, command) in COMMANDS {
+        if name == *known {
+            return Some(*command);
+        }
     }
     None
-}
-
-fn named_in_seven(name: &[u8]) -> Option<Command>
-    ensures { result ≡ find (λ command. bytes_eq name.now (name_of command)) (Command.Version ∷ Command.Genmove ∷ Command.Loadsgf ∷ []) }
-{
-    if name == b"version".as_slice() {
-        return Some(Command::Version);
-    }
-    if name == b"genmove".as_slice() {
-        return Some(Command::Genmove);
-    }
-    if name == b"loadsgf".as_slice() {
-        return Some(Command::Loadsgf);
-    }
-    None
-}
-
-fn named_in_nine(name: &[u8]) -> Option<Command>
-    ensures { result ≡ find (λ command. bytes_eq name.now (name_of command)) (Command.Boardsize ∷ Command.Showboard ∷ Command.TimeLeft ∷ []) }
-{
-    if name == b"boardsize".as_slice() {
-        return Some(Command::Boardsize);
-    }
-    if name == b"showboard".as_slice() {
-        return Some(Command::Showboard);
-    }
-    if name == b"time_left".as_slice() {
-        return Some(Command::TimeLeft);
-    }
-    None
-}
-
-fn named_in_eleven(name: &[u8]) -> Option<Command>
-    ensures { result ≡ find (λ command. bytes_eq name.now (name_of command)) (Command.ClearBoard ∷ Command.RegGenmove ∷ Command.FinalScore ∷ Command.Legal ∷ []) }
-{
-    if name == b"clear_board".as_slice() {
-        return Some(Command::ClearBoard);
-    }
-    if name == b"reg_genmove".as_slice() {
-        return Some(Command::RegGenmove);
-    }
-    if name == b"final_score".as_slice() {
-        return Some(Command::FinalScore);
-    }
-    if name == b"goref-legal".as_slice() {
-        return Some(Command::Legal);
-    }
-    None
-}
-
-fn named_in_thirteen(name: &[u8]) -> Option<Command>
-    ensures { result ≡ find (λ command. bytes_eq name.now (name_of command)) (Command.KnownCommand ∷ Command.ListCommands ∷ Command.TimeSettings ∷ Command.Superko ∷ []) }
-{
-    if name == b"known_command".as_slice() {
-        return Some(Command::KnownCommand);
-    }
-    if name == b"list_commands".as_slice() {
-        return Some(Command::ListCommands);
-    }
-    if name == b"time_settings".as_slice() {
-        return Some(Command::TimeSettings);
-    }
-    if name == b"goref-superko".as_slice() {
-        return Some(Command::Superko);
-    }
-    None
-}
-
-fn named_in_others(name: &[u8]) -> Option<Command>
-    ensures { result ≡ find (λ command. bytes_eq name.now (name_of command)) (Command.ProtocolVersion ∷ Command.FixedHandicap ∷ Command.PlaceFreeHandicap ∷ Command.SetFreeHandicap ∷ Command.Chains ∷ Command.Printsgf ∷ []) }
-{
-    if name == b"protocol_version".as_slice() {
-        return Some(Command::ProtocolVersion);
-    }
-    if name == b"fixed_handicap".as_slice() {
-        return Some(Command::FixedHandicap);
-    }
-    if name == b"place_free_handicap".as_slice() {
-        return Some(Command::PlaceFreeHandicap);
-    }
-    if name == b"set_free_handicap".as_slice() {
-        return Some(Command::SetFreeHandicap);
-    }
-    if name == b"goref-chains".as_slice() {
-        return Some(Command::Chains);
-    }
-    if name == b"goref-printsgf".as_slice() {
-        return Some(Command::Printsgf);
-    }
-    None
-}
-
-/// The names of all commands, each on a line of its own.
-pub fn listing() -> &'static [u8]
-    ensures { result.now ≡ join_with_byte 10 command_names }
-{
-    LISTING
 }

@@ -1,3 +1,4 @@
+use crate::command::Topic;
 use go_board::Vertex;
 use goref_results::Plays;
 
@@ -17,30 +18,16 @@ pub enum Decision {
 /// What an answer tells.
 #[derive(Drop)]
 pub enum Fact {
-    /// The version of the protocol.
-    Protocol,
-    /// The name of the program.
-    Program,
-    /// The version of the program.
-    Release,
-    /// The names of all commands.
-    Commands,
+    /// What is told without arguments.
+    About(Topic),
     /// Whether a name is that of a command.
     Known(bool),
-    /// Who is ahead, and by how much.
-    Score,
-    /// The diagram of the board.
-    Board,
-    /// The chains with their liberties.
-    Chains,
     /// The places of so many handicap stones.
     Places(u32),
-    /// A vertex.
-    Vertex(Vertex),
+    /// The vertex that is chosen.
+    Choice(Vertex),
     /// The plays that are legal.
     Plays(Plays),
-    /// The record of the game.
-    Record,
 }
 
 /// Why a command is refused.

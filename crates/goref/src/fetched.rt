@@ -1,7 +1,7 @@
 ghost use Rattle.std.specs.Prelude.{◌≡◌, option_copied};
-ghost use Rattle.goref.specs.Answers.{wants as wants_of};
+ghost use Rattle.goref.specs.Answers.{wanted};
 
-use crate::load::{asks_to_load, load_asked};
+use crate::commands::record::{asks_to_load, load_asked};
 use goref_lines::{Line, Request};
 use std::alloc::Allocator;
 
@@ -23,7 +23,7 @@ pub enum Fetched<A: Allocator> {
 /// The name of the file that a line wants fetched: that of a `loadsgf` whose arguments are as they
 /// are to be.
 pub fn wants(line: &Line) -> Option<&[u8]>
-    ensures { option_copied result ≡ wants_of line.now }
+    ensures { option_copied result ≡ wanted line.now }
 {
     if line.is_long() {
         return None;

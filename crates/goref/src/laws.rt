@@ -19,8 +19,8 @@ pub fn one_load()
     one_outcome();
 }
 
-/// Nothing is said to a line without words. What is said to any other line has one empty line, at its
-/// end, by which a controller finds that end.
+/// Nothing is said to a line without words. What is said to any other line has one empty line, at
+/// its end, by which a controller finds that end.
 pub fn answers_end()
     ensures { AnswersEnd }
 {}

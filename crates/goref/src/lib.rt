@@ -2,12 +2,13 @@
 #![tactic(auto)]
 
 mod answer;
+mod arguments;
 mod command;
+mod commands;
 mod decision;
 mod fetched;
 mod flow;
 pub mod laws;
-mod load;
 mod session;
 
 pub use fetched::{Fetched, wants};

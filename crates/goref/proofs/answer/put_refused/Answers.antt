@@ -1,5 +1,5 @@
-use Rattle.go_board.specs.Writing.{adds_adds}
+use Rattle.go_board.specs.lemmas.Writing.{writes_writes}
 use Rattle.goref.proofs.answer.put_refused.Goals as goal
 
 pub returns : goal.returns
-returns g c = adds_adds c.put.ensures (adds_adds c.put_id.ensures (adds_adds c.put-2.ensures (adds_adds (rw c.refusal_word.ensures at c.put-3.ensures) c.put_end.ensures)))
+returns g c = writes_writes c.put.ensures (writes_writes c.put_id.ensures (writes_writes c.put-2.ensures (writes_writes (rw c.refusal_word.ensures at c.put-3.ensures) c.put_end.ensures)))

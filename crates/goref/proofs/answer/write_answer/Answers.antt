@@ -1,8 +1,9 @@
-use Rattle.go_board.specs.Writing.{finished}
+use Rattle.std.proofs.Common.{rules}
+use Rattle.go_board.specs.lemmas.Writing.{finished_pen}
 use Rattle.goref.proofs.answer.write_answer.Goals as goal
 
 pub returns-clause-sent : goal.returns-clause-sent
-returns-clause-sent g c = (finished c.put_answer.new.pen.has_failed (rw c.new-pen.ensures at c.put_answer.ensures) c.finish.result c.finish.ensures).0
+returns-clause-sent g c = (finished_pen c.put_answer.ensures c.new-pen.ensures.fresh c.new-pen.ensures.writer (search rules) c.finish.result c.finish.ensures.value).0
 
 pub returns-clause-failures : goal.returns-clause-failures
-returns-clause-failures g c = (finished c.put_answer.new.pen.has_failed (rw c.new-pen.ensures at c.put_answer.ensures) c.finish.result c.finish.ensures).1
+returns-clause-failures g c = (finished_pen c.put_answer.ensures c.new-pen.ensures.fresh c.new-pen.ensures.writer (search rules) c.finish.result c.finish.ensures.value).1

@@ -13,11 +13,11 @@ returns-in-Ok-clause-answered g c =
     let d : Decided = record { decision = c.decide_line-id.result.1; standing = c.decide_line-id.new.self } in
     answered_whole c.args.self.now c.args.line.now (content_of c.args.fetched) d c.flow_after.result
     (sym c.has_words.ensures ∙ c.if-not-has_words.false)
-    c.decide_line-id.ensures.decision c.flow_after.ensures (rw c.decide_line-id.ensures.id at c.in-Ok.ensures.sent)
+    c.decide_line-id.ensures.decision c.flow_after.ensures (rw (c.decide_line-id.ensures.id, c.game.ensures) at c.in-Ok.ensures.sent)
 
 pub returns-in-Err-clause-answered : goal.returns-in-Err-clause-answered
 returns-in-Err-clause-answered g c =
     let d : Decided = record { decision = c.decide_line-id.result.1; standing = c.decide_line-id.new.self } in
     answered_front c.args.self.now c.args.line.now (content_of c.args.fetched) d _
     (sym c.has_words.ensures ∙ c.if-not-has_words.false)
-    c.decide_line-id.ensures.decision (rw c.decide_line-id.ensures.id at c.in-Err.ensures.sent)
+    c.decide_line-id.ensures.decision (rw (c.decide_line-id.ensures.id, c.game.ensures) at c.in-Err.ensures.sent)

@@ -4,9 +4,8 @@ use Rattle.go_board.specs.declared.vertex.Vertex.{Vertex}
 use Rattle.go_board.specs.declared.vertex.Vertex.TheVariants.{Pass, At}
 use Rattle.std.specs.Prelude.{slice_get}
 use Rattle.std.specs.Option.{option_and_then}
-use Rattle.go_board.specs.Sizes.{lines_of}
 use Rattle.go_board.specs.Vertices.{vertex_of, vertex_on}
-use Rattle.goref.proofs.session.Session.decide_play.Goals as goal
+use Rattle.goref.proofs.commands.play.decide_play.Goals as goal
 
 at_point : (b : Bool) (w v : Vertex) → (if b then Ok w else Err OffBoard) ≡ Ok v → w ≡ v
 at_point true w v e = cc
@@ -21,5 +20,5 @@ spelled n (Some (At p)) v e = ap Some (at_point (nat_lt p.col n && nat_lt p.row 
 pub returns-in-Ok : goal.returns-in-Ok
 returns-in-Ok g c =
     let colour = sym c.colour_argument.ensures ∙ c.in-Some.is in
-    let vertex : option_and_then vertex_of (slice_get c.args.request.now.arguments 1) ≡ Some c.in-Ok.vertex = spelled (lines_of c.size.result) _ _ (sym c.vertex_argument.ensures ∙ c.in-Ok.is) in
+    let vertex : option_and_then vertex_of (slice_get c.args.request.now.arguments 1) ≡ Some c.in-Ok.vertex = spelled c.size.result _ _ (sym c.vertex_argument.ensures ∙ c.in-Ok.is) in
     rw (colour, vertex) c.decide_move.ensures

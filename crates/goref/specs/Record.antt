@@ -1,5 +1,6 @@
--- What a line asks to be loaded, and what comes of a record's bytes.
-use Rattle.std.specs.Prelude.{◌≢◌, ◌≤◌, ◌⊎◌, ℕ, List, Option, Some, None, Ok, Err, length, option_map, slice_get}
+-- loadsgf: what a line asks to be loaded, what comes of a record's bytes, and what is decided on that. The text of goref-printsgf is
+-- of go_record.
+use Rattle.std.specs.Prelude.{◌≡◌, ◌≢◌, ◌≤◌, ◌⊎◌, ℕ, List, Option, Some, None, Ok, Err, length, option_map, slice_get}
 use Rattle.std.specs.Option.{option_and_then}
 use Rattle.go_game.specs.Standings.{Standing}
 use Rattle.go_record.specs.Games.{IsGameOf}
@@ -12,12 +13,16 @@ use Rattle.go_sgf.specs.Spelling.{Spells}
 use Rattle.go_sgf.specs.declared.error.SgfError.{SgfError}
 use Rattle.go_sgf.specs.declared.error.SgfError.TheVariants as sgf_error
 use Rattle.goref_lines.specs.Requests.{Asked}
-use Rattle.goref_lines.specs.Words.{int_of}
+use Rattle.go_board.specs.Decimals.{int_of}
 use Rattle.goref.specs.Commands.{command_of}
-use Rattle.goref.specs.declared.load.LoadError.{LoadError}
-use Rattle.goref.specs.declared.load.LoadError.TheVariants as load_error
+use Rattle.goref.specs.Contents.{Content, bytes, missing, no_memory, nothing, too_large}
+use Rattle.goref.specs.Decisions.{Decided, comes_to, keeps}
+use Rattle.goref.specs.declared.commands.record.LoadError.{LoadError}
+use Rattle.goref.specs.declared.commands.record.LoadError.TheVariants as load_error
 use Rattle.goref.specs.declared.command.Command.{Command}
 use Rattle.goref.specs.declared.command.Command.TheVariants.{Loadsgf}
+use Rattle.goref.specs.declared.decision.Decision.TheVariants.{Refused}
+use Rattle.goref.specs.declared.decision.Refusal.TheVariants.{SyntaxError, CannotLoad, OutOfMemory}
 
 -- the name of a file, and the number of the move before which it is loaded, where one is given
 pub record Load : Type 0 where
@@ -47,12 +52,12 @@ load_asked asked = load_on (option_and_then command_of asked.name) asked.argumen
 
 -- the bytes, no more than the longest record has, spell a record whose game is this standing
 abbrev pub Loads : List ℕ → Option ℕ → Standing → Type 0
-Loads bytes number s = (length bytes ≤ MAX_RECORD) × (c : Trees) × Spells bytes c × IsGameOf c number (Ok s)
+Loads source number s = (length source ≤ MAX_RECORD) × (c : Trees) × Spells source c × IsGameOf c number (Ok s)
 
 -- no game comes of the bytes: they are no record, or the record's game is refused
 abbrev pub LoadsNone : List ℕ → Option ℕ → Type 0
-LoadsNone bytes number = ((why : SgfError) × (why ≢ sgf_error.Memory) × IsRefusal bytes why)
-    ⊎ ((c : Trees) × (why : RecordError) × (why ≢ record_error.Memory) × Spells bytes c × IsGameOf c number (Err why))
+LoadsNone source number = ((why : SgfError) × (why ≢ sgf_error.Memory) × IsRefusal source why)
+    ⊎ ((c : Trees) × (why : RecordError) × (why ≢ record_error.Memory) × Spells source c × IsGameOf c number (Err why))
 
 -- why no game is loaded: want of memory is told apart
 abbrev pub of_sgf : SgfError → LoadError
@@ -62,3 +67,22 @@ of_sgf why = load_error.Cannot
 abbrev pub of_record : RecordError → LoadError
 of_record record_error.Memory = load_error.Memory
 of_record why = load_error.Cannot
+
+-- what may be decided on the bytes of a file: its record's game is gone on with, or there is none,
+-- or memory is wanting
+abbrev pub DecidesBytes : Standing → List ℕ → Option ℕ → Decided → Type 0
+DecidesBytes s b number d = ((game : Standing) × Loads b number game × (d ≡ comes_to game))
+    ⊎ (LoadsNone b number × (d ≡ keeps s (Refused CannotLoad)))
+    ⊎ (d ≡ keeps s (Refused OutOfMemory))
+
+abbrev pub DecidesContent : Standing → Content → Option ℕ → Decided → Type 0
+DecidesContent s (bytes b) number d = DecidesBytes s b number d
+DecidesContent s no_memory number d = d ≡ keeps s (Refused OutOfMemory)
+DecidesContent s nothing number d = d ≡ keeps s (Refused CannotLoad)
+DecidesContent s missing number d = d ≡ keeps s (Refused CannotLoad)
+DecidesContent s too_large number d = d ≡ keeps s (Refused CannotLoad)
+
+-- `loadsgf`: what was fetched for it decides
+abbrev pub DecidesLoad : Standing → Option Load → Content → Decided → Type 0
+DecidesLoad s None content d = d ≡ keeps s (Refused SyntaxError)
+DecidesLoad s (Some load) content d = DecidesContent s content load.number d

@@ -1,0 +1,7 @@
+//! The commands by subject: what is decided on each, and the text that it tells.
+pub mod handicap;
+pub mod play;
+pub mod record;
+pub mod setup;
+pub mod telling;
+pub mod time;
