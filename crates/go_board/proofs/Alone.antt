@@ -1,6 +1,6 @@
 -- On a board with an empty point, stones of one colour alone all reach empty.
 use Rattle.std.proofs.Common.{arith, ◌≡◌, ◌<◌, ◌+◌, ◌*◌, ◌∙◌, ◌&&◌, ◌==◌, ◌⊎◌, Bool, true, false, not, inl, inr, ℕ, zero, suc, [], ◌∷◌, Some, None, refl, sym, ap, ap₂, subst}
-use Rattle.std.proofs.lemmas.Bool.{eq-eqb}
+use Rattle.std.proofs.lemmas.Bool.{eq-eqb, and_from, or_right, or_left}
 use Rattle.go_board.specs.declared.colour.Colour.{Colour}
 use Rattle.go_board.specs.declared.point.Point.{Point}
 use Rattle.go_board.specs.Colours.{Colouring, colour_at}
@@ -10,7 +10,7 @@ use Rattle.go_board.specs.Reaching.{has_colour, is_dead, reaches}
 use Rattle.go_board.proofs.Deciding.{reaches_is}
 use Rattle.go_board.proofs.Numbers.{IsOn-point_at, number_of-lt, number_of-point_at, point_at-number_of}
 use Rattle.go_board.proofs.Seeding.{adjacent-sym}
-use Rattle.go_board.proofs.Tests.{both_hold, left_holds, right_holds, same_from_equal}
+use Rattle.go_board.proofs.Tests.{same_from_equal}
 
 -- the number of the point in this column and row
 abbrev at : ℕ → ℕ → ℕ → ℕ
@@ -28,16 +28,16 @@ next_column n col row col_low row_low =
     let p : Point = record { col = suc col; row = row } in
     let q : Point = record { col = col; row = row } in
     adjacent_points n p q (col_low, row_low) (omega arith, row_low)
-    (left_holds (row == row && is_next (suc col) col) _ (both_hold (row == row) (is_next (suc col) col) (eq-eqb row row refl)
-    (right_holds (suc col + 1 == col) (col + 1 == suc col) (eq-eqb (col + 1) (suc col) (omega arith)))))
+    (or_left (row == row && is_next (suc col) col) _ (and_from (row == row) (is_next (suc col) col) (eq-eqb row row refl)
+    (or_right (suc col + 1 == col) (col + 1 == suc col) (eq-eqb (col + 1) (suc col) (omega arith)))))
 
 next_row : (n col row : ℕ) → col < n → suc row < n → IsAdjacent n (at n col (suc row)) (at n col row)
 next_row n col row col_low row_low =
     let p : Point = record { col = col; row = suc row } in
     let q : Point = record { col = col; row = row } in
     adjacent_points n p q (col_low, row_low) (col_low, omega arith)
-    (right_holds (suc row == row && is_next col col) _ (both_hold (col == col) (is_next (suc row) row) (eq-eqb col col refl)
-    (right_holds (suc row + 1 == row) (row + 1 == suc row) (eq-eqb (row + 1) (suc row) (omega arith)))))
+    (or_right (suc row == row && is_next col col) _ (and_from (col == col) (is_next (suc row) row) (eq-eqb col col refl)
+    (or_right (suc row + 1 == row) (row + 1 == suc row) (eq-eqb (row + 1) (suc row) (omega arith)))))
 
 -- a board with no stones but those of one colour
 module _ (n : ℕ) (g : Colouring) (c : Colour) (plain : (k : ℕ) → k < n * n → (colour_at g k ≡ None) ⊎ (colour_at g k ≡ Some c)) where

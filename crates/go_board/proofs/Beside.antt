@@ -7,7 +7,7 @@ use Rattle.go_board.specs.declared.point.Point.{Point}
 use Rattle.go_board.specs.Colours.{Colouring, colour_at}
 use Rattle.go_board.specs.Points.{IsOn, are_beside, number_of, point_at}
 use Rattle.go_board.specs.Paths.{IsAdjacent}
-use Rattle.go_board.specs.Flood.{Grows, IsStep}
+use Rattle.go_board.specs.inner.Flood.{Grows, IsStep}
 use Rattle.go_board.proofs.Numbers.{IsOn-point_at, number_of-lt, number_of-point_at, point_at-number_of}
 use Rattle.go_board.proofs.Marks.{grows_more}
 

@@ -3,7 +3,7 @@ use Rattle.std.proofs.Common.{arith, ◌≡◌, ◌≢◌, ◌<◌, ◌≤◌, �
 use Rattle.std.specs.Prelude.{if◌then◌else◌}
 use Rattle.std.specs.List.{range_with_len}
 use Rattle.std.proofs.Math.ListN.{set}
-use Rattle.std.proofs.lemmas.Bool.{cases_Bool, cases_lt}
+use Rattle.std.proofs.lemmas.Bool.{cases_Bool, cases_lt, and_parts}
 use Rattle.std.proofs.lemmas.List.{get_or-set_other, get_or-set_same}
 use Rattle.std.proofs.lemmas.List.FromFn.{fill_by_all, get_or-map-range_with_len, length-range_with_len}
 use Rattle.std.proofs.lemmas.List.Sums.{count_by-le-length, sum_by_push}
@@ -11,9 +11,9 @@ use Rattle.go_board.specs.declared.colour.Colour.{Colour}
 use Rattle.go_board.specs.declared.colour.Colour.TheVariants.{Black, White}
 use Rattle.go_board.specs.Colours.{Colouring, colour_at, other}
 use Rattle.go_board.specs.Reaching.{after_clearing, cleared, has_colour, is_same, is_taken, moved, points, reaches, vanished}
-use Rattle.go_board.specs.Flood.{AreReaching}
+use Rattle.go_board.specs.inner.Flood.{AreReaching}
 use Rattle.go_board.proofs.Counting.{count_le, on_points}
-use Rattle.go_board.proofs.Tests.{both, equal_from_same}
+use Rattle.go_board.proofs.Tests.{equal_from_same}
 
 -- tests that hold together are equal
 pub same_test : (a b : Bool) → (a ≡ true → b ≡ true) → (b ≡ true → a ≡ true) → a ≡ b
@@ -98,7 +98,7 @@ vanishes : (n : ℕ) (g : Colouring) (c : Colour) (k : ℕ) → k < n * n → (h
 vanishes n g c k low =
     let after = colour_at-cleared n g c k low in
     ap (λ (o : Option Colour). has_colour g k (Some c) && not (is_same o (Some c))) after ∙ elim (cases_Bool (is_taken n g c k)) [
-      | inl t ↦ ap (λ (b : Bool). has_colour g k (Some c) && not (is_same (if b then None else colour_at g k) (Some c))) t ∙ ap (λ b. b && true) (both (has_colour g k (Some c)) _ t).0 ∙ sym t
+      | inl t ↦ ap (λ (b : Bool). has_colour g k (Some c) && not (is_same (if b then None else colour_at g k) (Some c))) t ∙ ap (λ b. b && true) (and_parts (has_colour g k (Some c)) _ t).0 ∙ sym t
       | inr t ↦ ap (λ (b : Bool). has_colour g k (Some c) && not (is_same (if b then None else colour_at g k) (Some c))) t ∙ and_not (has_colour g k (Some c)) ∙ sym t
     ]
   where
@@ -120,7 +120,7 @@ other_stays : (n : ℕ) (g : Colouring) (c d : Colour) → is_same (Some c) (Som
 other_stays n g c d differs k low =
     ap (λ (o : Option Colour). is_same o (Some d)) (colour_at-cleared n g c k low) ∙ elim (cases_Bool (is_taken n g c k)) [
       | inl t ↦
-          let is : colour_at g k ≡ Some c = equal_from_same (colour_at g k) (Some c) (both (has_colour g k (Some c)) _ t).0 in
+          let is : colour_at g k ≡ Some c = equal_from_same (colour_at g k) (Some c) (and_parts (has_colour g k (Some c)) _ t).0 in
           ap (λ (b : Bool). is_same (if b then None else colour_at g k) (Some d)) t ∙ sym (ap (λ (o : Option Colour). is_same o (Some d)) is ∙ differs)
       | inr t ↦ ap (λ (b : Bool). is_same (if b then None else colour_at g k) (Some d)) t
     ]

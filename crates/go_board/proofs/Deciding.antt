@@ -1,14 +1,14 @@
 -- The tests on paths decide whether there is a path.
 use Rattle.std.proofs.Common.{arith, ◌≡◌, ◌<◌, ◌≤◌, ◌*◌, ◌∙◌, ◌↔◌, ◌&&◌, ◌==◌, ◌⊎◌, Bool, true, inl, inr, ℕ, zero, suc, List, [], ◌∷◌, Option, None, count_by, refl, ap, subst}
-use Rattle.std.proofs.lemmas.Bool.{or_cases, eqb-true, eq-eqb}
+use Rattle.std.proofs.lemmas.Bool.{or_cases, eqb-true, eq-eqb, and_parts, and_from, or_right, or_left}
 use Rattle.std.proofs.lemmas.List.FromFn.{length-range_with_len}
 use Rattle.go_board.specs.declared.colour.Colour.{Colour}
 use Rattle.go_board.specs.Colours.{Colouring, colour_at}
 use Rattle.go_board.specs.Points.{is_adjacent}
 use Rattle.go_board.specs.Paths.{IsAdjacent, Joined, Leads, Reaches}
 use Rattle.go_board.specs.Reaching.{connects, connects_within, has_colour, is_liberty_of, joined, points, reaches, some_neighbour}
-use Rattle.go_board.specs.Flood.{IsStep}
-use Rattle.go_board.proofs.Tests.{at_point, both, both_hold, equal_from_same, left_holds, right_holds, same_from_equal, some_point}
+use Rattle.go_board.specs.inner.Flood.{IsStep}
+use Rattle.go_board.proofs.Tests.{at_point, equal_from_same, same_from_equal, some_point}
 use Rattle.go_board.proofs.Counting.{all_counted, at_points, grows_or_same, on_points}
 
 module _ (n : ℕ) (g : Colouring) (test : ℕ → Bool) where
@@ -23,13 +23,13 @@ module _ (n : ℕ) (g : Colouring) (test : ℕ → Bool) where
   within_here : (k p : ℕ) → test p ≡ true → within k p ≡ true
   unfolding connects_within
   within_here zero p e = e
-  within_here (suc k) p e = left_holds (test p) _ e
+  within_here (suc k) p e = or_left (test p) _ e
 
   within_step : (k p q : ℕ) → IsStep n g p q → within k q ≡ true → within (suc k) p ≡ true
   unfolding connects_within
   within_step k p q step e =
-      right_holds (test p) _ (at_point n (λ r. is_adjacent n p r && (has_colour g r (colour_at g p) && connects_within k n g r test)) q step.0.1
-      (both_hold (is_adjacent n p q) _ step.0.2 (both_hold (has_colour g q (colour_at g p)) _ (same_from_equal (colour_at g q) (colour_at g p) step.1) e)))
+      or_right (test p) _ (at_point n (λ r. is_adjacent n p r && (has_colour g r (colour_at g p) && connects_within k n g r test)) q step.0.1
+      (and_from (is_adjacent n p q) _ step.0.2 (and_from (has_colour g q (colour_at g p)) _ (same_from_equal (colour_at g q) (colour_at g p) step.1) e)))
 
   within_cases : (k p : ℕ) → p < n * n → within (suc k) p ≡ true → (test p ≡ true) ⊎ ((q : ℕ) × IsStep n g p q × (within k q ≡ true))
   unfolding connects_within
@@ -37,8 +37,8 @@ module _ (n : ℕ) (g : Colouring) (test : ℕ → Bool) where
     | inl here ↦ inl here
     | inr further ↦
         let found = some_point n (λ r. is_adjacent n p r && (has_colour g r (colour_at g p) && connects_within k n g r test)) further in
-        let parts = both (is_adjacent n p found.0) _ found.2 in
-        let rest = both (has_colour g found.0 (colour_at g p)) _ parts.1 in
+        let parts = and_parts (is_adjacent n p found.0) _ found.2 in
+        let rest = and_parts (has_colour g found.0 (colour_at g p)) _ parts.1 in
         inr (found.0, ((low, found.1, parts.0), equal_from_same (colour_at g found.0) (colour_at g p) rest.0), rest.1)
   ]
 
@@ -114,9 +114,9 @@ path_on n g p (r ∷ path) q low h = path_on n g r path q h.0.1 h.2
 pub neighbour_is : (n : ℕ) (test : ℕ → Bool) (p : ℕ) → p < n * n → (some_neighbour n p test ≡ true) ↔ ((q : ℕ) × IsAdjacent n p q × (test q ≡ true))
 neighbour_is n test p low = (
   λ e. let found = some_point n (λ q. is_adjacent n p q && test q) e in
-      let parts = both (is_adjacent n p found.0) (test found.0) found.2 in
+      let parts = and_parts (is_adjacent n p found.0) (test found.0) found.2 in
       (found.0, (low, found.1, parts.0), parts.1),
-  λ h. at_point n (λ q. is_adjacent n p q && test q) h.0 h.1.1 (both_hold (is_adjacent n p h.0) (test h.0) h.1.2 h.2),
+  λ h. at_point n (λ q. is_adjacent n p q && test q) h.0 h.1.1 (and_from (is_adjacent n p h.0) (test h.0) h.1.2 h.2),
 )
 
 -- a point reaches a colour exactly where a path does
@@ -141,6 +141,6 @@ joined_is n g p q low =
 pub liberty_is : (n : ℕ) (g : Colouring) (p q : ℕ) → p < n * n → (is_liberty_of n g p q ≡ true) ↔ ((colour_at g q ≡ None) × ((r : ℕ) × Joined n g p r × (is_adjacent n r q ≡ true)))
 liberty_is n g p q low =
     let law = connects_is n g (λ r. is_adjacent n r q) p low in (
-      λ e. let parts = both (has_colour g q None) _ e in (equal_from_same (colour_at g q) None parts.0, law.0 parts.1),
-      λ h. both_hold (has_colour g q None) _ (same_from_equal (colour_at g q) None h.0) (law.1 h.1),
+      λ e. let parts = and_parts (has_colour g q None) _ e in (equal_from_same (colour_at g q) None parts.0, law.0 parts.1),
+      λ h. and_from (has_colour g q None) _ (same_from_equal (colour_at g q) None h.0) (law.1 h.1),
     )

@@ -2,7 +2,7 @@ use Rattle.std.proofs.Common.{◌≡◌, ◌∙◌, ℕ, zero, suc, List, Option
 use Rattle.std.proofs.lemmas.Bool.Decides.{nat_tests}
 use Rattle.std.specs.Prelude.{is_err}
 use Rattle.go_board.specs.Device.{then_bytes, Sent, failures_after, place, Adds}
-use Rattle.go_board.specs.Writing.{then_bytes-then_bytes, front_longer, front_after}
+use Rattle.go_board.specs.lemmas.Writing.{then_bytes-then_bytes, front_longer, front_after}
 
 -- what a pen does after a fault: nothing
 pub adds_after_fault : (taken : Option (List ℕ)) (failures : ℕ) (more : List ℕ) → Adds (place true taken failures) (place true taken failures) more

@@ -3,7 +3,7 @@ use Rattle.std.proofs.Common.{arith, ◌≡◌, ◌<◌, ◌≤◌, ◌*◌, ◌
 use Rattle.std.proofs.lemmas.List.Elements.{Contains-append_left, Contains-push, Contains-push_cases}
 use Rattle.go_board.specs.Colours.{Colouring}
 use Rattle.go_board.specs.Paths.{Leads}
-use Rattle.go_board.specs.Flood.{Grows, HasRoom, IsJoinedTo, IsMarked, IsStep, work}
+use Rattle.go_board.specs.inner.Flood.{Grows, HasRoom, IsJoinedTo, IsMarked, IsStep, work}
 
 -- what holds at each turn: the marked points are joined to the first ones, and those that wait are
 -- the only ones whose steps may lead to points that aren't marked

@@ -1,7 +1,7 @@
 -- What spreads from the stones of a colour over the points that the other has not: the points that it holds.
 use Rattle.std.specs.Int.{bit_at}
 use Rattle.std.proofs.Common.{◌≡◌, ◌<◌, ◌+◌, ◌*◌, ◌/◌, ◌%◌, ◌∙◌, ◌⊎◌, ◌↔◌, ◌==◌, ◌&&◌, inl, inr, Bool, true, ℕ, List, [], ◌∷◌, Option, Some, None, IsTrue, nat_lt, refl, sym, ap, ap₂, subst, slice_index}
-use Rattle.std.proofs.lemmas.Bool.{eqb-true, eq-eqb, lt-ltb, ltb-true, or_cases}
+use Rattle.std.proofs.lemmas.Bool.{eqb-true, eq-eqb, lt-ltb, ltb-true, or_cases, and_parts, and_from, or_right, or_left}
 use Rattle.go_board.specs.declared.colour.Colour.{Colour}
 use Rattle.go_board.specs.declared.colour.Colour.TheVariants.{Black, White}
 use Rattle.go_board.specs.declared.point.Point.{Point}
@@ -14,25 +14,25 @@ use Rattle.go_board.proofs.Numbers.{IsOn-point_at, col_back, number_of-lt, numbe
 use Rattle.go_board.proofs.Beside.{adjacent_to}
 use Rattle.go_board.proofs.Deciding.{reaches_is}
 use Rattle.go_board.proofs.Seeding.{leads_colour}
-use Rattle.go_board.proofs.Tests.{both, both_hold, equal_from_same, left_holds, right_holds, same_from_equal}
+use Rattle.go_board.proofs.Tests.{equal_from_same, same_from_equal}
 
 -- points that share a side are next to each other by their rows and columns
 next_of_is : (a b : ℕ) → is_next a b ≡ true → (a + 1 ≡ b) ⊎ (b + 1 ≡ a)
 next_of_is a b e = elim (or_cases (a + 1 == b) (b + 1 == a) e) [ inl up ↦ inl (eqb-true (a + 1) b up) | inr down ↦ inr (eqb-true (b + 1) a down) ]
 
 is_of_next : (a b : ℕ) → (a + 1 ≡ b) ⊎ (b + 1 ≡ a) → is_next a b ≡ true
-is_of_next a b (inl up) = left_holds (a + 1 == b) (b + 1 == a) (eq-eqb (a + 1) b up)
-is_of_next a b (inr down) = right_holds (a + 1 == b) (b + 1 == a) (eq-eqb (b + 1) a down)
+is_of_next a b (inl up) = or_left (a + 1 == b) (b + 1 == a) (eq-eqb (a + 1) b up)
+is_of_next a b (inr down) = or_right (a + 1 == b) (b + 1 == a) (eq-eqb (b + 1) a down)
 
 next_from_beside : (p q : Point) → are_beside p q ≡ true → IsNext p.row p.col q.row q.col
 next_from_beside p q e = elim (or_cases (p.row == q.row && is_next p.col q.col) (p.col == q.col && is_next p.row q.row) e) [
-  | inl row ↦ let h = both (p.row == q.row) (is_next p.col q.col) row in inl (eqb-true p.row q.row h.0, next_of_is p.col q.col h.1)
-  | inr col ↦ let h = both (p.col == q.col) (is_next p.row q.row) col in inr (eqb-true p.col q.col h.0, next_of_is p.row q.row h.1)
+  | inl row ↦ let h = and_parts (p.row == q.row) (is_next p.col q.col) row in inl (eqb-true p.row q.row h.0, next_of_is p.col q.col h.1)
+  | inr col ↦ let h = and_parts (p.col == q.col) (is_next p.row q.row) col in inr (eqb-true p.col q.col h.0, next_of_is p.row q.row h.1)
 ]
 
 beside_from_next : (p q : Point) → IsNext p.row p.col q.row q.col → are_beside p q ≡ true
-beside_from_next p q (inl row) = left_holds (p.row == q.row && is_next p.col q.col) _ (both_hold (p.row == q.row) (is_next p.col q.col) (eq-eqb p.row q.row row.0) (is_of_next p.col q.col row.1))
-beside_from_next p q (inr col) = right_holds (p.row == q.row && is_next p.col q.col) _ (both_hold (p.col == q.col) (is_next p.row q.row) (eq-eqb p.col q.col col.0) (is_of_next p.row q.row col.1))
+beside_from_next p q (inl row) = or_left (p.row == q.row && is_next p.col q.col) _ (and_from (p.row == q.row) (is_next p.col q.col) (eq-eqb p.row q.row row.0) (is_of_next p.col q.col row.1))
+beside_from_next p q (inr col) = or_right (p.row == q.row && is_next p.col q.col) _ (and_from (p.col == q.col) (is_next p.row q.row) (eq-eqb p.col q.col col.0) (is_of_next p.row q.row col.1))
 
 adjacent_from_next : (n row col row' col' : ℕ) → row < n → col < n → row' < n → col' < n → IsNext row col row' col' → IsAdjacent n (row * n + col) (row' * n + col')
 adjacent_from_next n row col row' col' row_low col_low row'_low col'_low next =
@@ -50,15 +50,15 @@ colour_cases White (Some Black) = inr (inr refl)
 
 module _ (n : ℕ) (g : Colouring) (c : Colour) where
   held_stone : (p : ℕ) → colour_at g p ≡ Some c → is_held n g c p ≡ true
-  held_stone p stone = left_holds (has_colour g p (Some c)) _ (same_from_equal (colour_at g p) (Some c) stone)
+  held_stone p stone = or_left (has_colour g p (Some c)) _ (same_from_equal (colour_at g p) (Some c) stone)
 
   held_empty : (p : ℕ) → colour_at g p ≡ None → reaches n g p (Some c) ≡ true → is_held n g c p ≡ true
-  held_empty p empty reach = right_holds (has_colour g p (Some c)) _ (both_hold (has_colour g p None) _ (same_from_equal (colour_at g p) None empty) reach)
+  held_empty p empty reach = or_right (has_colour g p (Some c)) _ (and_from (has_colour g p None) _ (same_from_equal (colour_at g p) None empty) reach)
 
   held_cases : (p : ℕ) → is_held n g c p ≡ true → (colour_at g p ≡ Some c) ⊎ ((colour_at g p ≡ None) × (reaches n g p (Some c) ≡ true))
   held_cases p held = elim (or_cases (has_colour g p (Some c)) _ held) [
     | inl stone ↦ inl (equal_from_same (colour_at g p) (Some c) stone)
-    | inr further ↦ let parts = both (has_colour g p None) (reaches n g p (Some c)) further in inr (equal_from_same (colour_at g p) None parts.0, parts.1)
+    | inr further ↦ let parts = and_parts (has_colour g p None) (reaches n g p (Some c)) further in inr (equal_from_same (colour_at g p) None parts.0, parts.1)
   ]
 
   -- an empty point beside one that is held is held
@@ -78,10 +78,10 @@ module _ (n : ℕ) (g : Colouring) (c : Colour) where
   unfolding on_held
   on_held_is row col = (
     λ e.
-        let h = both (nat_lt row n) _ e in
-        let k = both (nat_lt col n) _ h.1 in
+        let h = and_parts (nat_lt row n) _ e in
+        let k = and_parts (nat_lt col n) _ h.1 in
         (ltb-true row n h.0, ltb-true col n k.0, k.1),
-    λ h. both_hold (nat_lt row n) _ (lt-ltb row n h.0) (both_hold (nat_lt col n) _ (lt-ltb col n h.1) h.2),
+    λ h. and_from (nat_lt row n) _ (lt-ltb row n h.0) (and_from (nat_lt col n) _ (lt-ltb col n h.1) h.2),
   )
 
   module _ (own theirs free marks : List ℕ) (stones : AreStones n g c own) (others : AreStones n g (other c) theirs)

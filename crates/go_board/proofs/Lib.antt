@@ -1,4 +1,3 @@
-pub mod Squares
 pub mod Numbers
 pub mod Tests
 pub mod Counting

@@ -8,7 +8,7 @@ use Rattle.std.proofs.lemmas.List.Sums.{sum_by-set}
 use Rattle.std.proofs.lemmas.Bool.{cases_lt}
 use Rattle.std.proofs.lemmas.Bool.Decides.{eqb_tells}
 use Rattle.go_board.specs.declared.size.TheConstants.{MAX_POINTS}
-use Rattle.go_board.specs.Flood.{Grows, HasRoom, IsMarked}
+use Rattle.go_board.specs.inner.Flood.{Grows, HasRoom, IsMarked}
 
 -- among unmarked points none is marked
 pub unmarked : (m j : ℕ) → IsMarked (replicate m false) j → ⊥

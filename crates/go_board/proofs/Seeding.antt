@@ -1,29 +1,28 @@
 -- Where a flood begins, and what it comes to.
 use Rattle.std.proofs.Common.{arith, ◌≡◌, ◌+◌, ◌*◌, ◌∙◌, ◌↔◌, ◌&&◌, ◌==◌, Bool, true, inl, inr, ℕ, List, [], ◌∷◌, ◌++◌, Option, sym, ap, subst}
-use Rattle.std.proofs.lemmas.Bool.{cases_lt, eqb-true, eq-eqb, or_cases}
+use Rattle.std.proofs.lemmas.Bool.{cases_lt, eqb-true, eq-eqb, or_cases, and_parts, and_from, or_right, or_left}
 use Rattle.go_board.specs.declared.colour.Colour.{Colour}
 use Rattle.go_board.specs.declared.point.Point.{Point}
 use Rattle.go_board.specs.Colours.{Colouring, colour_at}
 use Rattle.go_board.specs.Points.{are_beside, is_next, point_at}
 use Rattle.go_board.specs.Paths.{IsAdjacent, Joined, Leads}
-use Rattle.go_board.specs.Flood.{AreReaching, Grows, IsJoinedTo, IsMarked, IsSeed, IsSeeding}
+use Rattle.go_board.specs.inner.Flood.{AreReaching, Grows, IsJoinedTo, IsMarked, IsSeed, IsSeeding}
 use Rattle.go_board.proofs.Deciding.{path_on, reaches_is}
 use Rattle.go_board.proofs.Flooding.{leads_more}
-use Rattle.go_board.proofs.Tests.{both, both_hold, left_holds, right_holds}
 
 eqb-sym : (a b : ℕ) → (a == b) ≡ true → (b == a) ≡ true
 eqb-sym a b e = eq-eqb b a (sym (eqb-true a b e))
 
 next-sym : (a b : ℕ) → is_next a b ≡ true → is_next b a ≡ true
 next-sym a b e = elim (or_cases (a + 1 == b) (b + 1 == a) e) [
-  | inl up ↦ right_holds (b + 1 == a) (a + 1 == b) up
-  | inr down ↦ left_holds (b + 1 == a) (a + 1 == b) down
+  | inl up ↦ or_right (b + 1 == a) (a + 1 == b) up
+  | inr down ↦ or_left (b + 1 == a) (a + 1 == b) down
 ]
 
 beside-sym : (p q : Point) → are_beside p q ≡ true → are_beside q p ≡ true
 beside-sym p q e = elim (or_cases (p.row == q.row && is_next p.col q.col) (p.col == q.col && is_next p.row q.row) e) [
-  | inl row ↦ let h = both (p.row == q.row) (is_next p.col q.col) row in left_holds (q.row == p.row && is_next q.col p.col) (q.col == p.col && is_next q.row p.row) (both_hold (q.row == p.row) (is_next q.col p.col) (eqb-sym p.row q.row h.0) (next-sym p.col q.col h.1))
-  | inr col ↦ let h = both (p.col == q.col) (is_next p.row q.row) col in right_holds (q.row == p.row && is_next q.col p.col) (q.col == p.col && is_next q.row p.row) (both_hold (q.col == p.col) (is_next q.row p.row) (eqb-sym p.col q.col h.0) (next-sym p.row q.row h.1))
+  | inl row ↦ let h = and_parts (p.row == q.row) (is_next p.col q.col) row in or_left (q.row == p.row && is_next q.col p.col) (q.col == p.col && is_next q.row p.row) (and_from (q.row == p.row) (is_next q.col p.col) (eqb-sym p.row q.row h.0) (next-sym p.col q.col h.1))
+  | inr col ↦ let h = and_parts (p.col == q.col) (is_next p.row q.row) col in or_right (q.row == p.row && is_next q.col p.col) (q.col == p.col && is_next q.row p.row) (and_from (q.col == p.col) (is_next q.row p.row) (eqb-sym p.col q.col h.0) (next-sym p.row q.row h.1))
 ]
 
 pub adjacent-sym : (n p q : ℕ) → IsAdjacent n p q → IsAdjacent n q p

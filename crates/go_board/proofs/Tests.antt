@@ -1,26 +1,11 @@
 -- Tests that compute, and the facts behind them.
-use Rattle.std.proofs.Common.{arith, ◌≡◌, ◌<◌, ◌+◌, ◌*◌, ◌∙◌, ◌&&◌, ◌||◌, Bool, true, false, true≢false, ℕ, Option, Some, None, Contains, get_or, length, refl, sym, ap}
+use Rattle.std.proofs.Common.{arith, ◌≡◌, ◌<◌, ◌+◌, ◌*◌, ◌∙◌, Bool, true, true≢false, ℕ, Option, Some, None, Contains, get_or, length, refl, sym, ap}
 use Rattle.std.specs.List.{list_any}
 use Rattle.std.proofs.lemmas.List.Folds.{Any-from_list_any, list_any_at}
 use Rattle.std.proofs.lemmas.List.FromFn.{get_or-range_with_len, length-range_with_len}
 use Rattle.go_board.specs.declared.colour.Colour.{Colour}
 use Rattle.go_board.specs.declared.colour.Colour.TheVariants.{Black, White}
 use Rattle.go_board.specs.Reaching.{is_same, points}
-
-pub both : (a b : Bool) → (a && b) ≡ true → (a ≡ true) × (b ≡ true)
-both true true e = (refl, refl)
-both true false e = absurd (true≢false (sym e))
-both false b e = absurd (true≢false (sym e))
-
-pub both_hold : (a b : Bool) → a ≡ true → b ≡ true → (a && b) ≡ true
-both_hold a b p q = rw (p, q) refl
-
-pub right_holds : (a b : Bool) → b ≡ true → (a || b) ≡ true
-right_holds true b e = refl
-right_holds false b e = e
-
-pub left_holds : (a b : Bool) → a ≡ true → (a || b) ≡ true
-left_holds a b e = rw e refl
 
 -- the test for equal colours
 pub same_itself : (a : Option Colour) → is_same a a ≡ true

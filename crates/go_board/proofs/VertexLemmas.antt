@@ -7,14 +7,13 @@ use Rattle.std.specs.Str.{str_eq_ignore_ascii_case}
 use Rattle.std.specs.Char.{to_ascii_lowercase}
 use Rattle.std.proofs.lemmas.Slice.Eq.{bytes_eq-Decides}
 use Rattle.std.proofs.lemmas.Fmt.{length-decimal-le}
-use Rattle.std.proofs.lemmas.Bool.{cases_lt, cases_Bool, eqb-true, ltb-true, lt-ltb, false_from_ne_true}
+use Rattle.std.proofs.lemmas.Bool.{cases_lt, cases_Bool, eqb-true, ltb-true, lt-ltb, false_from_ne_true, and_parts}
 use Rattle.std.specs.Prelude.{IfOk, nat_lt}
 use Rattle.std.proofs.Math.ListN.{length-map}
 use Rattle.go_board.specs.declared.point.Point.{Point}
 use Rattle.go_board.specs.declared.vertex.Vertex.{Vertex}
 use Rattle.go_board.specs.declared.vertex.Vertex.TheVariants.{Pass, At}
 use Rattle.go_board.specs.declared.vertex.VertexError.TheVariants.{Malformed, OffBoard}
-use Rattle.go_board.proofs.Tests.{both}
 use Rattle.go_board.specs.Points.{IsOn}
 use Rattle.go_board.specs.Vertices.{IsOnBoard, SpellsOffBoard, column_letters, column_of, letter_of, point_of, row_of, vertex_of, vertex_on, vertex_word}
 
@@ -30,8 +29,8 @@ each_below p (suc n) = p n && each_below p n
 at_each : (p : ℕ → Bool) (n k : ℕ) → each_below p n ≡ true → k < n → p k ≡ true
 at_each p zero k all below = absurd (omega arith)
 at_each p (suc n) k all below = elim (cases_lt k n) [
-  | inl less ↦ at_each p n k (both (p n) (each_below p n) all).1 less
-  | inr not_less ↦ let last : n ≡ k = omega arith in ap p (sym last) ∙ (both (p n) (each_below p n) all).0
+  | inl less ↦ at_each p n k (and_parts (p n) (each_below p n) all).1 less
+  | inr not_less ↦ let last : n ≡ k = omega arith in ap p (sym last) ∙ (and_parts (p n) (each_below p n) all).0
 ]
 
 is_just : Option ℕ → ℕ → Bool
@@ -89,7 +88,7 @@ on_test_holds n p on = rw (lt-ltb p.col n on.0) (lt-ltb p.row n on.1)
 
 on_test_means : (n : ℕ) (p : Point) → on_test n p ≡ true → IsOn n p
 on_test_means n p e =
-    let tests = both (nat_lt p.col n) (nat_lt p.row n) e in
+    let tests = and_parts (nat_lt p.col n) (nat_lt p.row n) e in
     (ltb-true p.col n tests.0, ltb-true p.row n tests.1)
 
 never_malformed : (b : Bool) (v : Vertex) → (if b then Ok v else Err OffBoard) ≡ Err Malformed → ⊥

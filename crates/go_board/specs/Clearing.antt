@@ -1,10 +1,14 @@
 -- What the parts of clearing and counting say of single points.
-use Rattle.std.specs.Prelude.{◌≡◌, ◌<◌, ◌&&◌, ℕ, Bool, true, false, not, Option, Some, None}
+use Rattle.std.specs.Prelude.{◌≡◌, ◌<◌, ◌*◌, ◌&&◌, ℕ, Bool, true, false, not, Option, Some, None}
 use Rattle.go_board.specs.declared.colour.Colour.{Colour}
 use Rattle.go_board.specs.declared.point.Point.{Point}
 use Rattle.go_board.specs.Colours.{Colouring}
 use Rattle.go_board.specs.Points.{IsOn, number_of}
 use Rattle.go_board.specs.Reaching.{is_dead, is_same}
+
+-- each stone reaches empty
+abbrev pub AreAlive : ℕ → Colouring → Type 0
+AreAlive n g = (k : ℕ) → k < n * n → is_dead n g k ≡ false
 
 -- the point is the first in point order whose stone doesn't reach empty
 pub record IsFirstDead (n : ℕ) (g : Colouring) (p : Point) : Type 0 where

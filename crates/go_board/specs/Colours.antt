@@ -7,6 +7,11 @@ abbrev pub other : Colour → Colour
 other Black = White
 other White = Black
 
+-- a colour by its letter, B or W
+abbrev pub letter_of : Colour → ℕ
+letter_of Black = 66
+letter_of White = 87
+
 -- the colour of each point in point order, or None where it is empty
 abbrev pub Colouring : Type 0
 Colouring = List (Option Colour)

@@ -1,5 +1,7 @@
-use Rattle.std.specs.Prelude.{ℕ}
+-- How many lines a board has.
+use Rattle.std.specs.Prelude.{ℕ, ◌&&◌, nat_le, if◌then◌else◌, Option, Some, None}
+use Rattle.go_board.specs.declared.size.TheConstants.{MAX_LINES}
 
--- the number of lines of a board of this size: a size is seen as that number
-abbrev pub lines_of : ℕ → ℕ
-lines_of size = size
+-- the size with so many lines, where there is a board with so many
+abbrev pub size_with : ℕ → Option ℕ
+size_with lines = if nat_le 1 lines && nat_le lines MAX_LINES then Some lines else None

@@ -8,7 +8,7 @@ pub enum Colour {
 }
 
 impl Colour {
-    ghost use Rattle.go_board.specs.Colours.{other};
+    ghost use Rattle.go_board.specs.Colours.{letter_of, other};
 
     /// The opponent's colour.
     pub fn other(self) -> Colour
@@ -17,6 +17,16 @@ impl Colour {
         match self {
             Colour::Black => Colour::White,
             Colour::White => Colour::Black,
+        }
+    }
+
+    /// The letter of the colour, in ASCII: `B` or `W`.
+    pub fn letter(self) -> u8
+        ensures { result ≡ letter_of self }
+    {
+        match self {
+            Colour::Black => b'B',
+            Colour::White => b'W',
         }
     }
 }

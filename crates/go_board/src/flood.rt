@@ -2,7 +2,7 @@
 ghost use Rattle.std.specs.Prelude.{◌≡◌, ◌<◌, ◌*◌, ◌↔◌, ℕ, [], IsTrue, Option, Contains};
 ghost use Rattle.go_board.specs.Colours.{colour_at};
 ghost use Rattle.go_board.specs.Points.{IsOn, number_of};
-ghost use Rattle.go_board.specs.Flood.{Grows, HasRoom, IsJoinedTo, IsMarked, IsStep};
+ghost use Rattle.go_board.specs.inner.Flood.{Grows, HasRoom, IsJoinedTo, IsMarked, IsStep};
 
 use crate::{Colour, Grid, MAX_POINTS, Point, put_neighbours};
 use arrayvec::ArrayVec;
@@ -74,7 +74,8 @@ fn mark_beside(grid: &Grid, p: Point, marks: &mut Marks, waiting: &mut Waiting)
     }
 }
 
-/// Marks all that paths of one colour lead to from a marked point. Each marked point waits at first.
+/// Marks all that paths of one colour lead to from a marked point. Each marked point waits at
+/// first.
 pub fn spread(grid: &Grid, marks: &mut Marks, waiting: &mut Waiting)
     requires room { HasRoom marks.old waiting.old.items }
     requires on { (j : ℕ) → IsMarked marks.old j → j < grid.now.lines * grid.now.lines }

@@ -1,9 +1,35 @@
-//! The board of Go: its sizes, points and colourings, paths over them, and the devices that text
-//! is read from and written to.
+//! The board of Go: its sizes, points and colourings, paths over them, and the devices that text is
+//! read from and written to.
+//!
+//! - [`Size`], [`Point`], [`Colour`], [`Grid`]: a board of some lines, a point of it, and the
+//!   colour of each point.
+//! - [`Vertex`], [`Move`]: a point or a pass, and who makes it; [`read_vertex`] and [`vertex_text`]
+//!   for their words.
+//! - [`plain`]: what a play leaves and who holds which points, told by floods of a whole grid. The
+//!   faster bodies above have to agree with it.
+//! - [`rows`], [`Packed`]: stones in words of rows, and a colouring in two bits a point.
+//! - [`Source`], [`Sink`], [`Pen`]: where bytes come from and go to, and a text that is written in
+//!   pieces.
+//! - [`read_int`]: a number in decimal digits.
+//!
+//! A stone on the middle of a board of 9 lines:
+//!
+//! ```
+//! let size = Size::new(9).expect(&rt, "a size");
+//! let mut grid = Grid::new(size);
+//! grid.set(Point { col: 4, row: 4 }, Some(Colour::Black));
+//! ```
+//!
+//! What is promised is in the clauses of each file. Their words are in `specs/`: `Colours` and
+//! `Points` say what a colouring and a point are, `Paths` and `Reaching` what reaches what and what
+//! a play leaves, `Vertices` how a vertex is spelled, and `Device` and `Pens` what a device was
+//! given. `Laws` says how these words belong together. What `specs/inner/` defines serves private
+//! functions alone.
 #![tactic(auto)]
 
 mod area;
 mod colour;
+mod decimals;
 mod device;
 mod flood;
 mod grid;
@@ -21,6 +47,7 @@ mod vertex;
 
 pub use area::Area;
 pub use colour::Colour;
+pub use decimals::{MAX_INT, are_digits, read_int, value_of_digits, with_digit};
 pub use device::{Failed, Sink, Source, WriteFault};
 pub use grid::Grid;
 pub use meter::Meter;

@@ -24,6 +24,7 @@ impl Model for Number {
 /// A count of calls that contracts see and that has no bytes when the program runs.
 #[derive(Drop)]
 pub struct Meter {
+    /// The count, which contracts alone see.
     at: Snapshot<Number>,
 }
 

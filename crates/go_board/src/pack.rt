@@ -13,6 +13,7 @@ pub const PACK_BYTES: usize = (MAX_POINTS + 3) / 4;
 /// the grids are.
 #[derive(Clone, Copy, Debug, PartialEq, Eq)]
 pub struct Packed {
+    /// Four points a byte, the first in its lowest bits.
     bytes: [u8; PACK_BYTES],
 }
 

@@ -1,5 +1,5 @@
 ghost use Rattle.std.specs.Prelude.{◌≡◌, if◌then◌else◌, false, Ok, Err};
-ghost use Rattle.go_board.specs.Device.{Sent, failures_after, Adds, place};
+ghost use Rattle.go_board.specs.Device.{Sent, failures_after};
 
 use crate::device::{Failed, Sink, WriteFault};
 
@@ -20,38 +20,46 @@ pub fn send<W: Sink>(text: &[u8], writer: &mut W) -> Result<(), WriteFault>
     Ok(())
 }
 
-/// Writes a text piece by piece. After a fault it writes nothing more, and tells of it at the end.
-#[derive(Clone, Copy, Debug, PartialEq, Eq)]
-pub struct Pen {
+/// Writes a text to a device piece by piece. After a fault it writes nothing more, and tells of it
+/// at the end, when it is finished.
+pub struct Pen<'a, W: Sink> {
+    pub writer: &'a mut W,
     pub has_failed: bool,
 }
 
-impl Pen {
+impl<'a, W: Sink> Pen<'a, W> {
+    ghost use Rattle.go_board.specs.Pens.{Writes};
+
     /// A pen that has written nothing.
-    pub fn new() -> Pen
-        ensures { result ≡ record { has_failed = false } }
+    pub fn new(writer: &'a mut W) -> Pen<'a, W>
+        ensures same { result.writer.ghost_name ≡ writer.entry.ghost_name }
+        ensures writer { result.writer.now ≡ writer.old }
+        ensures fresh { result.has_failed ≡ false }
     {
-        Pen { has_failed: false }
+        Pen {
+            writer,
+            has_failed: false,
+        }
     }
 
     /// Writes one more piece.
-    pub fn put<W: Sink>(&mut self, piece: &[u8], writer: &mut W)
-        ensures { Adds (place self.old.has_failed (W.taken writer.old) (W.failures writer.old))
-            (place self.new.has_failed (W.taken writer.new) (W.failures writer.new)) piece.now }
+    pub fn put(&mut self, piece: &[u8])
+        ensures { Writes W.Sink self.old self.new piece.now }
     {
         if !self.has_failed {
-            self.has_failed = send(piece, writer).is_err();
+            self.has_failed = send(piece, self.writer).is_err();
         }
     }
 
-    /// Whether all pieces were written.
+    /// Gives the device back, and tells whether all pieces were written.
     pub fn finish(self) -> Result<(), WriteFault>
-        ensures { result ≡ (if self.has_failed then Err record {} else Ok tt) }
+        ensures value { result ≡ (if self.entry.has_failed then Err record {} else Ok tt) }
+        ensures writer { self.exit.0.now ≡ self.entry.writer.now }
     {
-        if self.has_failed {
-            Err(WriteFault)
-        } else {
-            Ok(())
-        }
+        let Pen {
+            writer: _,
+            has_failed,
+        } = self;
+        if has_failed { Err(WriteFault) } else { Ok(()) }
     }
 }

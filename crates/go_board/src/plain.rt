@@ -5,8 +5,8 @@ ghost use Rattle.go_board.specs.Chains.{liberties};
 ghost use Rattle.go_board.specs.Colours.{colour_at, other};
 ghost use Rattle.go_board.specs.Points.{IsOn, is_adjacent, number_of};
 ghost use Rattle.go_board.specs.Reaching.{area, cleared, connects, has_colour, is_dead, is_liberty_of, joined, moved, vanished};
-ghost use Rattle.go_board.specs.Flood.{AreJoined, AreReaching};
-ghost use Rattle.go_board.specs.Clearing.{IsFirstDead, is_area_marked};
+ghost use Rattle.go_board.specs.inner.Flood.{AreJoined, AreReaching};
+ghost use Rattle.go_board.specs.Clearing.{AreAlive, IsFirstDead, is_area_marked};
 
 use crate::colour::is_same;
 use crate::flood::Marks;
@@ -191,8 +191,7 @@ fn is_beside_chain(grid: &Grid, chain: &Marks, p: Point, q: Point) -> bool
 /// The first point in point order whose stone doesn't reach empty.
 pub fn first_dead(grid: &Grid) -> Option<Point>
     ensures found { IfSome result (IsFirstDead grid.now.lines grid.now.colours) }
-    ensures none { IfNone result ((k : ℕ) → k < grid.now.lines * grid.now.lines
-        → is_dead grid.now.lines grid.now.colours k ≡ false) }
+    ensures none { IfNone result (AreAlive grid.now.lines grid.now.colours) }
 {
     let black = reaching(grid, Some(Colour::Black), None);
     let white = reaching(grid, Some(Colour::White), None);

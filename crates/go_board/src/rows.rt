@@ -93,7 +93,8 @@ fn grow_all(marks: &mut Rows, free: &Rows, row: usize) -> bool
     more
 }
 
-/// Grows each row of the board, from the first to the last and back, and says whether that marked any.
+/// Grows each row of the board, from the first to the last and back, and says whether that marked
+/// any.
 fn sweep(marks: &mut Rows, free: &Rows, lines: usize) -> bool
     requires { lines ≤ ROWS }
     ensures spread { Spread marks.old free.now marks.new }

@@ -3,7 +3,7 @@ ghost use Rattle.std.specs.Prelude.{◌≡◌, ◌<◌, ◌*◌, ◌↔◌, ℕ,
 ghost use Rattle.go_board.specs.Paths.{IsAdjacent, Joined};
 ghost use Rattle.go_board.specs.Points.{IsOn, number_of};
 ghost use Rattle.go_board.specs.Colours.{colour_at};
-ghost use Rattle.go_board.specs.Flood.{AreJoined, AreReaching, Grows, HasRoom, IsBeside, IsMarked, IsSeed, IsSeeding};
+ghost use Rattle.go_board.specs.inner.Flood.{AreJoined, AreReaching, Grows, HasRoom, IsBeside, IsMarked, IsSeed, IsSeeding};
 
 use crate::colour::is_same;
 use crate::flood::{Marks, Waiting, mark, no_marks, spread};

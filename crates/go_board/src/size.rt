@@ -29,6 +29,8 @@ impl Model for Size {
 }
 
 impl Size {
+    ghost use Rattle.go_board.specs.Sizes.{size_with};
+
     /// The size with this number of lines, or none where no board has so many or so few.
     pub fn new(lines: u8) -> Option<Size>
         ensures range { IsSome result ↔ ((0 < lines) × (lines ≤ MAX_LINES)) }
@@ -38,6 +40,16 @@ impl Size {
             None
         } else {
             Some(Size { lines })
+        }
+    }
+
+    /// The size with this number of lines, which may be any number.
+    pub fn of(lines: u32) -> Option<Size>
+        ensures { result ≡ size_with lines }
+    {
+        match u8::try_from(lines) {
+            Ok(lines) => Size::new(lines),
+            Err(_) => None,
         }
     }
 

@@ -43,6 +43,7 @@ struct RowStones {
 #[derive(Drop)]
 pub struct Board {
     size: Size,
+    /// The tables of colours, labels, links, sizes and liberties.
     cells: Cells,
 }
 

@@ -1,5 +1,7 @@
 -- What a game keeps before its first move.
 use Rattle.go_game.specs.declared.superko.Superko.{Superko}
+use Rattle.go_board.specs.Laws.{PacksTellApart}
+use Rattle.go_board.specs.lemmas.Squares.{square-le}
 use Rattle.go_game.specs.declared.superko.Superko.TheVariants.{Positional}
 use Rattle.std.specs.Prelude.{pos, replicate}
 use Rattle.std.proofs.Common.{arith, rules, ◌≡◌, ◌≢◌, ◌<◌, ◌≤◌, ◌*◌, ◌∙◌, ◌&&◌, true, false, not, inl, inr, ℕ, ℤ, IsTrue, List, [], ◌∷◌, Option, Some, None, length, map, refl, sym, ap, subst}
@@ -14,15 +16,14 @@ use Rattle.go_board.specs.Reaching.{has_colour, is_dead, is_same, reaches}
 use Rattle.go_chains.specs.declared.change.Change.{Change}
 use Rattle.go_chains.specs.Sound.{BoardValue, IsKept, colouring_of, grid_of}
 use Rattle.go_game.specs.declared.step.Step.{Step}
-use Rattle.go_game.specs.Building.{AreAlive}
+use Rattle.go_board.specs.Clearing.{AreAlive}
 use Rattle.go_board.specs.declared.vertex.Move.{Move}
-use Rattle.go_game.specs.Held.{IsHeld, IsKeeping, made_of}
+use Rattle.go_game.specs.inner.Held.{IsHeld, IsKeeping, made_of}
 use Rattle.go_history.specs.declared.key.Key.{Key}
 use Rattle.go_history.specs.Histories.{HistoryValue, IsBegun}
-use Rattle.go_game.specs.Histories.{IsKeyOf, StandsFor}
+use Rattle.go_game.specs.inner.Histories.{IsKeyOf, StandsFor}
 use Rattle.go_game.specs.Standings.{IsKomi, seen_by, stood}
-use Rattle.go_game.proofs.Played.{square-le}
-use Rattle.go_game.proofs.Remembered.{TellApart, history_begun}
+use Rattle.go_game.proofs.Remembered.{history_begun}
 
 -- an empty board has no dead stone
 pub none_alive : (n : ℕ) (g : Colouring) → g ≡ replicate (n * n) None → AreAlive n g
@@ -57,7 +58,7 @@ held_begun rule start komi first size whole komi_is alive = record {
   white_taken = refl;
 }
 
-pub keeping_begun : TellApart → (rule : Superko) (start : GridValue) (komi : ℤ) (first : Colour) (b : BoardValue) (log : List (List Change)) (history : HistoryValue) (p : Key)
+pub keeping_begun : PacksTellApart → (rule : Superko) (start : GridValue) (komi : ℤ) (first : Colour) (b : BoardValue) (log : List (List Change)) (history : HistoryValue) (p : Key)
     → IsHeld rule start komi first [] 0 0 → b.lines ≡ start.lines → grid_of b ≡ start.colours → IsKept b.lines b.cells → log ≡ [] → IsBegun history p → IsKeyOf p (seen_by rule (start.colours, first))
     → IsKeeping rule start komi first [] b log history 0 0
 keeping_begun law rule start komi first b log history p held lines colours kept empty begun packs = record {
@@ -76,7 +77,7 @@ pub komi_none : IsKomi (pos 0)
 komi_none = search rules
 
 -- the same on an empty board
-pub keeping_empty : TellApart → (n : ℕ) → (0 < n) × (n ≤ MAX_LINES) → (rule : Superko) (start : GridValue) (komi : ℤ) (first : Colour) (steps : List Step) (b : BoardValue) (log : List (List Change)) (history : HistoryValue) (p : Key)
+pub keeping_empty : PacksTellApart → (n : ℕ) → (0 < n) × (n ≤ MAX_LINES) → (rule : Superko) (start : GridValue) (komi : ℤ) (first : Colour) (steps : List Step) (b : BoardValue) (log : List (List Change)) (history : HistoryValue) (p : Key)
     → start.lines ≡ n → start.colours ≡ replicate (n * n) None → IsKomi komi → b.lines ≡ n → grid_of b ≡ replicate (n * n) None → IsKept b.lines b.cells → log ≡ [] → steps ≡ [] → IsBegun history p → IsKeyOf p (seen_by rule (start.colours, first))
     → IsKeeping rule start komi first steps b log history 0 0
 keeping_empty law n size rule start komi first steps b log history p lines colours komi_is b_lines b_colours kept empty none begun packs =
@@ -87,7 +88,7 @@ keeping_empty law n size rule start komi first steps b log history p lines colou
     (keeping_begun law rule start komi first b log history p held (b_lines ∙ sym lines) (b_colours ∙ sym colours) kept empty begun packs)
 
 -- another rule, while no move stands
-pub keeping_by : TellApart → (rule other_rule : Superko) (start : GridValue) (komi : ℤ) (first : Colour) (steps : List Step) (b : BoardValue) (log : List (List Change)) (history history' : HistoryValue) (p : Key) (black white : ℕ)
+pub keeping_by : PacksTellApart → (rule other_rule : Superko) (start : GridValue) (komi : ℤ) (first : Colour) (steps : List Step) (b : BoardValue) (log : List (List Change)) (history history' : HistoryValue) (p : Key) (black white : ℕ)
     → IsKeeping rule start komi first steps b log history black white → map made_of steps ≡ [] → IsBegun history' p → IsKeyOf p (seen_by other_rule (start.colours, first))
     → IsKeeping other_rule start komi first steps b log history' black white
 keeping_by law rule other_rule start komi first steps b log history history' p black white k none begun packs = record {
@@ -109,7 +110,7 @@ keeping_by law rule other_rule start komi first steps b log history history' p b
 }
 
 -- another start, while no move stands
-pub keeping_anew : TellApart → (rule : Superko) (old : GridValue) (komi : ℤ) (mover : Colour) (steps : List Step) (was : BoardValue) (log : List (List Change)) (known : HistoryValue) (black white : ℕ)
+pub keeping_anew : PacksTellApart → (rule : Superko) (old : GridValue) (komi : ℤ) (mover : Colour) (steps : List Step) (was : BoardValue) (log : List (List Change)) (known : HistoryValue) (black white : ℕ)
     → IsKeeping rule old komi mover steps was log known black white → map made_of steps ≡ []
     → (start : GridValue) (first : Colour) (b : BoardValue) (history : HistoryValue) (p : Key)
     → (0 < start.lines) × (start.lines ≤ MAX_LINES) → length start.colours ≡ start.lines * start.lines → AreAlive start.lines start.colours

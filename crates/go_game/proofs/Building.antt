@@ -1,14 +1,16 @@
 -- A board built stone by stone: where the stones of a grid live, those of a part of it do, so placing one takes none.
 use Rattle.std.specs.Prelude.{replicate, slice_set}
+use Rattle.go_board.specs.Laws.{ReachesByPath}
 use Rattle.std.proofs.Common.{arith, ◌≡◌, ◌<◌, ◌≤◌, ◌+◌, ◌*◌, ◌∙◌, ◌↔◌, ◌&&◌, Bool, true, false, not, cond, inl, inr, ℕ, IsTrue, List, [], ◌∷◌, Option, Some, None, length, refl, sym, ap, subst}
-use Rattle.std.proofs.lemmas.Bool.{cases_Bool, cases_eq, cases_lt, false≢true}
+use Rattle.std.proofs.lemmas.Bool.{cases_Bool, cases_eq, cases_lt, false≢true, and_parts}
 use Rattle.std.proofs.lemmas.List.{ext_get_or, get_or-replicate, get_or-set_other, get_or-set_same, get_or_past, length-replicate, length-set}
 use Rattle.std.proofs.lemmas.List.FromFn.{get_or-map-range_with_len, length-map-range_with_len}
 use Rattle.go_board.specs.declared.colour.Colour.{Colour}
 use Rattle.go_board.specs.declared.colour.Colour.TheVariants.{Black, White}
 use Rattle.go_board.specs.Colours.{Colouring, colour_at, other}
 use Rattle.go_board.specs.Paths.{IsAdjacent, Leads, Reaches}
-use Rattle.go_game.specs.Building.{AreAlive, IsFront, IsPart}
+use Rattle.go_board.specs.Clearing.{AreAlive}
+use Rattle.go_game.specs.inner.Building.{IsFront, IsPart}
 use Rattle.go_board.specs.Reaching.{after_clearing, cleared, has_colour, is_same, is_taken, moved, reaches}
 
 -- a path to an empty point of the whole comes to one of the part, sooner or later
@@ -24,17 +26,9 @@ follow n f g part p (x ∷ via) q r same leads near empty = elim (part x) [
       (rest.0, rest.1, (x ∷ rest.2.0, (leads.0, colours, rest.2.1)), rest.3, rest.4)
 ]
 
--- a law of the crate below: the test whether a point reaches a colour holds where a path leads there
-abbrev pub ReachesByPath : Type 0
-ReachesByPath = (n : ℕ) (g : Colouring) (p : ℕ) (c : Option Colour) → p < n * n → IsTrue (reaches n g p c) ↔ Reaches n g p c
-
 not-true : (b : Bool) → not b ≡ true → b ≡ true → ⊥
 not-true true gone is = false≢true gone
 not-true false gone is = false≢true is
-
-both : (a b : Bool) → (a && b) ≡ true → (a ≡ true) × (b ≡ true)
-both true b e = (refl, e)
-both false b e = absurd (false≢true e)
 
 same-true : (a : Option Colour) (c : Colour) → is_same a (Some c) ≡ true → is_same a None ≡ false
 same-true None c e = absurd (false≢true e)
@@ -46,7 +40,7 @@ part_lives : ReachesByPath → (n : ℕ) (f g : Colouring) → AreAlive n g → 
 part_lives law n f g alive part c k low = elim (cases_Bool (is_taken n f c k)) [
   | inr stays ↦ stays
   | inl taken ↦
-      let parts = both (has_colour f k (Some c)) (not (reaches n f k None)) taken in
+      let parts = and_parts (has_colour f k (Some c)) (not (reaches n f k None)) taken in
       let stone : is_same (colour_at f k) None ≡ false = same-true (colour_at f k) c parts.0 in
       elim (part k) [
         | inr none ↦ absurd (false≢true (sym stone ∙ ap (λ v. is_same v None) none))

@@ -12,7 +12,7 @@ use Rattle.go_board.specs.Points.{IsOn, number_of, point_at}
 use Rattle.go_game.specs.declared.choice.Trial.{Trial}
 use Rattle.go_game.specs.Choices.{IsBetter, IsChoice, IsChosenPlay, chosen, is_better, lead_after, lead_of, liberties_after, may_play, outranks, raises_margin}
 use Rattle.go_game.specs.Standings.{IsLegal, Standing}
-use Rattle.go_game.specs.Trials.{IsBestBelow, IsBestTrial, better_of, trial_at, tried}
+use Rattle.go_game.specs.inner.Trials.{IsBestBelow, IsBestTrial, better_of, trial_at, tried}
 use Rattle.go_game.proofs.Choosing.{chosen_none, chosen_pass, chosen_play, outranks-greater, pick_first, pick_pass, tried_next}
 use Rattle.go_game.specs.Legal.{is_legal}
 use Rattle.go_game.proofs.Legal.{legal_passes, passes_legal}

@@ -2,7 +2,7 @@
 use Rattle.std.proofs.Common.{arith, ◌≡◌, ◌∙◌, ◌<◌, ◌≤◌, ◌+◌, ◌*◌, ◌&&◌, ◌||◌, ◌⊎◌, inl, inr, ℕ, zero, suc, ℤ, Bool, true, false, not, true≢false, List, [], ◌∷◌, Some, None, Option, filter, cond, if◌then◌else◌, refl, sym, ap, ap₂, subst}
 use Rattle.std.specs.Prelude.{int_lt}
 use Rattle.std.specs.List.{list_any, range_with_len}
-use Rattle.std.proofs.lemmas.Bool.{cases_Bool, cases_lt}
+use Rattle.std.proofs.lemmas.Bool.{cases_Bool, cases_lt, or_right}
 use Rattle.std.proofs.lemmas.Bool.Decides.{nat_tests}
 use Rattle.std.proofs.lemmas.Int.{ints}
 use Rattle.go_board.specs.declared.colour.Colour.{Colour}
@@ -16,7 +16,7 @@ use Rattle.go_game.specs.declared.choice.Trial.{Trial}
 use Rattle.go_game.specs.Choices.{chosen, first_or_pass, is_better, lead_after, lead_of, lead_on, liberties_after, liberties_on, may_play, outranks, raises_margin}
 use Rattle.go_game.specs.Legal.{is_legal}
 use Rattle.go_game.specs.Standings.{Standing, board_of, with_move}
-use Rattle.go_game.specs.Trials.{IsBestBelow, IsBestTrial, beats, better_of, trial_at, tried}
+use Rattle.go_game.specs.inner.Trials.{IsBestBelow, IsBestTrial, beats, better_of, trial_at, tried}
 use Rattle.go_game.proofs.Played.{board_push}
 
 -- the order of leads and liberties
@@ -58,14 +58,10 @@ none_any test a zero none = refl
 none_any test a (suc m) none =
     ap₂ (λ x y. x || y) (none a (omega arith) (omega arith)) (none_any test (a + 1) m (λ q low high. none q (omega arith) (omega arith)))
 
-or_true : (a b : Bool) → b ≡ true → (a || b) ≡ true
-or_true true b e = refl
-or_true false b e = e
-
 some_any : (test : ℕ → Bool) (a m q : ℕ) → a ≤ q → q < a + m → test q ≡ true → list_any test (range_with_len a m) ≡ true
 some_any test a zero q low high e = absurd (omega arith)
 some_any test a (suc m) q low high e = elim (cases_lt a q) [
-  | inl later ↦ or_true (test a) (list_any test (range_with_len (a + 1) m)) (some_any test (a + 1) m q (omega arith) (omega arith) e)
+  | inl later ↦ or_right (test a) (list_any test (range_with_len (a + 1) m)) (some_any test (a + 1) m q (omega arith) (omega arith) e)
   | inr here ↦ ap (λ b. b || list_any test (range_with_len (a + 1) m)) (ap test (let same : a ≡ q = omega arith in same) ∙ e)
 ]
 

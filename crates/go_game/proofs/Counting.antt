@@ -15,9 +15,9 @@ use Rattle.go_history.specs.Histories.{HistoryValue}
 use Rattle.go_game.specs.declared.step.Step.{Step}
 use Rattle.go_game.specs.Changes.{changes_of, own_changes, plays_behind}
 use Rattle.go_game.specs.Counts.{AreLogged, AreTakenBack, IsAsBefore, IsLogged, IsTakenBack}
-use Rattle.go_game.specs.Held.{IsKeeping, made_of, standing_of}
+use Rattle.go_game.specs.inner.Held.{IsKeeping, made_of, standing_of}
 use Rattle.go_game.specs.Standings.{GameValue}
-use Rattle.go_game.specs.Trails.{IsTurn, WentThrough}
+use Rattle.go_game.specs.inner.Trails.{IsTurn, WentThrough}
 use Rattle.go_game.proofs.Played.{made_push}
 
 own_more : (n : ℕ) (cells : List ℕ) (c : Colour) (v : Vertex) (plays : List (List Change)) (next : List ℕ) (rest tail : List (List Change)) → IsTurn n cells c v plays next rest → own_changes v (plays ++ tail) ≡ own_changes v plays

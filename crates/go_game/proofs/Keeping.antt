@@ -15,7 +15,7 @@ use Rattle.go_chains.specs.declared.change.Change.{Change}
 use Rattle.go_chains.specs.Sound.{BoardValue, colouring_of, grid_of}
 use Rattle.go_history.specs.Histories.{HistoryValue}
 use Rattle.go_game.specs.declared.step.Step.{Step}
-use Rattle.go_game.specs.Held.{IsKeeping, IsTracked, made_of}
+use Rattle.go_game.specs.inner.Held.{IsKeeping, IsTracked, made_of}
 use Rattle.go_game.specs.Standings.{board}
 use Rattle.go_game.proofs.Trails.{went_kept}
 

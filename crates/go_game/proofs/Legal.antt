@@ -1,6 +1,6 @@
 -- The test of legality decides it.
 use Rattle.std.proofs.Common.{◌≡◌, ◌∙◌, ℕ, zero, suc, ◌<◌, ◌&&◌, ◌||◌, nat_lt, Bool, true, false, not, List, [], ◌∷◌, length, Option, Some, None, refl, ap, ap₂, arith, sym, ◌↔◌, inl, inr, ◌⊎◌, ◌≢◌}
-use Rattle.std.proofs.lemmas.Bool.{ltb-true, lt-ltb}
+use Rattle.std.proofs.lemmas.Bool.{ltb-true, lt-ltb, and_parts, or_right}
 use Rattle.std.specs.Prelude.{Contains, slice_index_or}
 use Rattle.std.specs.List.{list_any}
 use lib.Pointwise.{pointwise}
@@ -32,15 +32,11 @@ is_same_self None = refl
 is_same_self (Some Black) = refl
 is_same_self (Some White) = refl
 
-both : (a b : Bool) → (a && b) ≡ true → (a ≡ true) × (b ≡ true)
-both true b e = (refl, e)
-both false b e = cc
-
 pub colours_same : (g h : Colouring) → same_colours g h ≡ true → g ≡ h
 colours_same [] [] e = refl
 colours_same [] (b ∷ h) e = cc
 colours_same (a ∷ g) [] e = cc
-colours_same (a ∷ g) (b ∷ h) e = let two = both (is_same a b) (pointwise is_same g h) e in ap₂ (λ x xs. x ∷ xs) (same_is a b two.0) (colours_same g h two.1)
+colours_same (a ∷ g) (b ∷ h) e = let two = and_parts (is_same a b) (pointwise is_same g h) e in ap₂ (λ x xs. x ∷ xs) (same_is a b two.0) (colours_same g h two.1)
 
 pub same_colours_self : (g : Colouring) → same_colours g g ≡ true
 same_colours_self [] = refl
@@ -48,7 +44,7 @@ same_colours_self (a ∷ g) = ap₂ (λ x y. x && y) (is_same_self a) (same_colo
 
 pub seen_same : (x y : Seen) → same_seen x y ≡ true → x ≡ y
 seen_same x y e =
-    let two = both (same_colours x.0 y.0) (is_same x.1 y.1) e in
+    let two = and_parts (same_colours x.0 y.0) (is_same x.1 y.1) e in
     ap₂ (λ (g : Colouring) (c : Option Colour). let seen : Seen = (g, c) in seen) (colours_same x.0 y.0 two.0) (same_is x.1 y.1 two.1)
 
 pub same_seen_self : (x : Seen) → same_seen x x ≡ true
@@ -58,14 +54,10 @@ any_here : (b : Bool) (g : Seen) (gs : List Seen) (rest : Bool) → b ≡ true �
 any_here true g gs rest e = refl
 any_here false g gs rest e = cc
 
-or_true : (a b : Bool) → b ≡ true → (a || b) ≡ true
-or_true true b e = refl
-or_true false b e = e
-
 any_at : (g : Seen) (gs : List Seen) (k : ℕ) → k < length gs → slice_index_or gs k ([], None) ≡ g → list_any (same_seen g) gs ≡ true
 any_at g [] k l e = absurd (omega arith)
 any_at g (h ∷ gs) zero l e = any_here (same_seen g h) g gs (list_any (same_seen g) gs) (ap (same_seen g) e ∙ same_seen_self g)
-any_at g (h ∷ gs) (suc k) l e = or_true (same_seen g h) (list_any (same_seen g) gs) (any_at g gs k (omega arith) e)
+any_at g (h ∷ gs) (suc k) l e = or_right (same_seen g h) (list_any (same_seen g) gs) (any_at g gs k (omega arith) e)
 
 not_stood : (s : Standing) (g : Seen) (b : Bool) → has_stood s g ≡ b → (Contains (stood_of s) g → ⊥) → b ≡ false
 not_stood s g true e h = absurd (h (Contains-from_any seen_same g (stood_of s) e))
@@ -143,9 +135,9 @@ open_otherwise s (At p) h k = open_at (on_or_off p.col p.row s.lines) (none_or_s
 pub passes_legal : (s : Standing) (c : Colour) (v : Vertex) → is_legal s c v ≡ true → IsLegal s c v
 passes_legal s c Pass e = tt
 passes_legal s c (At p) e =
-    let parts = both (is_open s (At p)) (not (is_repeat s c (At p))) e in
-    let empty = both (nat_lt p.col s.lines && nat_lt p.row s.lines) (has_colour (board_of s) (number_of s.lines p) None) parts.0 in
-    let on = both (nat_lt p.col s.lines) (nat_lt p.row s.lines) empty.0 in
+    let parts = and_parts (is_open s (At p)) (not (is_repeat s c (At p))) e in
+    let empty = and_parts (nat_lt p.col s.lines && nat_lt p.row s.lines) (has_colour (board_of s) (number_of s.lines p) None) parts.0 in
+    let on = and_parts (nat_lt p.col s.lines) (nat_lt p.row s.lines) empty.0 in
     let x = seen_after s c (number_of s.lines p) in (
       (ltb-true p.col s.lines on.0, ltb-true p.row s.lines on.1),
       same_is (colour_at (board_of s) (number_of s.lines p)) None empty.1,

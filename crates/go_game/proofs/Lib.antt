@@ -1,4 +1,3 @@
-pub mod Sound
 pub mod Played
 pub mod Taken
 pub mod Margins

@@ -1,5 +1,7 @@
 -- Steps one after the other: what one more adds, and what the last took away leaves.
 use Rattle.std.proofs.Common.{arith, ◌≡◌, ◌<◌, ◌≤◌, ◌+◌, ◌-◌, ◌*◌, ◌^◌, ◌∙◌, ℕ, ℤ, List, [], ◌∷◌, ◌++◌, Some, length, ap₂, map, take, refl, sym, ap, subst}
+use Rattle.go_board.specs.Laws.{TakenAndLeft}
+use Rattle.go_board.specs.lemmas.Squares.{square-le}
 use Rattle.std.specs.List.{slice_get}
 use Rattle.std.proofs.lemmas.List.{take_all, take_more}
 use Rattle.std.proofs.lemmas.Option.{get_or_from_slice_get, slice_get_within}
@@ -22,8 +24,8 @@ use Rattle.std.specs.Prelude.{slice_set}
 use Rattle.std.proofs.lemmas.List.FromFn.{length-map-range_with_len, length-range_with_len}
 use Rattle.std.proofs.Math.ListN.{set}
 use Rattle.go_board.specs.Grids.{GridValue}
-use Rattle.go_game.specs.Held.{ArePlayed, IsHeld, IsPlayed, made_of, standing_of}
-use Rattle.go_game.proofs.Sound.{sound_front, sound_more}
+use Rattle.go_game.specs.inner.Held.{ArePlayed, IsHeld, IsPlayed, made_of, standing_of}
+use Rattle.go_game.specs.lemmas.Sound.{sound_front, sound_more}
 
 -- the last move is the newest
 pub board_push : (n : ℕ) (g : Colouring) (moves : List Move) (m : Move) → board n g (moves ++ m ∷ []) ≡ after_move n (board n g moves) m
@@ -102,14 +104,6 @@ length-moved n g c p = length-map-range_with_len (after_clearing n (cleared n (s
 
 pub same_grid : (a b : GridValue) → a.lines ≡ b.lines → a.colours ≡ b.colours → a ≡ b
 same_grid a b lines colours = ap₂ (λ (n : ℕ) (g : Colouring). let grid : GridValue = record { lines = n; colours = g } in grid) lines colours
-
-pub square-le : (n : ℕ) → n ≤ MAX_LINES → n * n ≤ MAX_POINTS
-square-le n small = grind arith
-
--- a law of the crate below: what a play takes and what it leaves are at most one stone more than stood there
-pub record TakenAndLeft : Type 0 where
-  pub together : (n : ℕ) (g : Colouring) (c : Colour) (p : ℕ) (of : Colour) → stones n (moved n g c p) of + vanished n (set g p (Some c)) (moved n g c p) of ≡ stones n (set g p (Some c)) of
-  pub placed : (n : ℕ) (g : Colouring) (c : Colour) (p : ℕ) (of : Colour) → stones n (set g p (Some c)) of ≤ stones n g of + 1
 
 turn_le : TakenAndLeft → (n : ℕ) (g : Colouring) (c : Colour) (v : Vertex) (of : Colour) → taken_by n g c v of + stones n (after_vertex n g c v) of ≤ stones n g of + 1
 turn_le law n g c Pass of = omega arith

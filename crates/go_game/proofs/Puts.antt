@@ -24,8 +24,8 @@ use Rattle.go_history.specs.declared.key.Key.{Key}
 use Rattle.go_history.specs.Histories.{HistoryValue, number_at}
 use Rattle.go_game.specs.declared.superko.Superko.{Superko}
 use Rattle.go_game.specs.declared.step.Step.{Step}
-use Rattle.go_game.specs.Held.{IsKeeping, IsPlayed, made_of, standing_of}
-use Rattle.go_game.specs.Histories.{IsKeyOf}
+use Rattle.go_game.specs.inner.Held.{IsKeeping, IsPlayed, made_of, standing_of}
+use Rattle.go_game.specs.inner.Histories.{IsKeyOf}
 use Rattle.go_game.specs.Playing.{taken_by}
 use Rattle.go_game.specs.Prisoners.{share_of}
 use Rattle.go_game.specs.Standings.{IsLegal, Repeats, board, mover_by, seen_after, stood_of}

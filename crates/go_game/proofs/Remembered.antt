@@ -1,5 +1,6 @@
 -- What a history has after one situation more or fewer.
 use Rattle.std.proofs.Common.{arith, ◌≡◌, ◌≢◌, ◌<◌, ◌≤◌, ◌+◌, ◌==◌, ◌&&◌, ◌↔◌, ◌∙◌, ℕ, zero, suc, Bool, true, false, true≢false, cond, if◌then◌else◌, List, [], ◌∷◌, ◌++◌, Option, Some, None, Contains, length, slice_index_or, ap, ap₂, refl, sym, subst}
+use Rattle.go_board.specs.Laws.{PacksTellApart}
 use Rattle.std.proofs.lemmas.Bool.Decides.{nat_tests}
 use Rattle.std.proofs.lemmas.Bool.{and_parts}
 use Rattle.std.specs.Bool.{one_answer}
@@ -15,7 +16,7 @@ use Rattle.go_board.specs.Reaching.{is_same}
 use Rattle.go_history.specs.declared.key.Key.{Key}
 use Rattle.go_history.specs.Histories.{HistoryValue, IsBegun, IsChangedAt, IsForgotten, IsUnchanged, later_at, number_at, without}
 use Rattle.go_history.specs.Keys.{key_eq}
-use Rattle.go_game.specs.Histories.{IsKeyOf, IsNoted, StandsFor}
+use Rattle.go_game.specs.inner.Histories.{IsKeyOf, IsNoted, StandsFor}
 use Rattle.go_game.specs.Legal.{same_colours, same_seen}
 use Rattle.go_game.specs.Standings.{IsFirstAt, Seen}
 use Rattle.go_game.specs.Whole.{first_at}
@@ -104,11 +105,8 @@ first_stood gs x g stood = at (first_at 0 gs g) refl (same_seen x g) refl
 
 -- ---- packs tell colourings apart, by the law of boards
 
-abbrev pub TellApart : Type 0
-TellApart = (g h : Colouring) → length g ≡ length h → length g ≤ MAX_POINTS → (packed_of g ≡ packed_of h) ↔ (g ≡ h)
-
 -- the test of packs and the test of colourings agree
-packs_agree : TellApart → (n : ℕ) → n ≤ MAX_POINTS → (p q : Packed) (g h : Colouring) → bytes_of p ≡ packed_of g → bytes_of q ≡ packed_of h → length g ≡ n → length h ≡ n → packed_eq p q ≡ same_colours g h
+packs_agree : PacksTellApart → (n : ℕ) → n ≤ MAX_POINTS → (p q : Packed) (g h : Colouring) → bytes_of p ≡ packed_of g → bytes_of q ≡ packed_of h → length g ≡ n → length h ≡ n → packed_eq p q ≡ same_colours g h
 packs_agree law n few p q g h p_packs q_packs g_whole h_whole =
     one_answer {P = g ≡ h} (packed_eq p q) (same_colours g h) (
       λ e. (law g h (g_whole ∙ sym h_whole) (omega (arith, g_whole, few))).0 (sym p_packs ∙ bytes.0 e ∙ q_packs),
@@ -120,7 +118,7 @@ packs_agree law n few p q g h p_packs q_packs g_whole h_whole =
     bytes = bytes_eq-Decides (bytes_of p) (bytes_of q)
 
 -- and so do the test of keys and that of what they are of
-pub keys_agree : TellApart → (n : ℕ) → n ≤ MAX_POINTS → (p q : Key) (x y : Seen) → IsKeyOf p x → IsKeyOf q y → length x.0 ≡ n → length y.0 ≡ n → key_eq p q ≡ same_seen x y
+pub keys_agree : PacksTellApart → (n : ℕ) → n ≤ MAX_POINTS → (p q : Key) (x y : Seen) → IsKeyOf p x → IsKeyOf q y → length x.0 ≡ n → length y.0 ≡ n → key_eq p q ≡ same_seen x y
 keys_agree law n few p q x y p_is q_is x_whole y_whole =
     ap₂ (λ a b. a && b) (packs_agree law n few p.pack q.pack x.0 y.0 p_is.0 q_is.0 x_whole y_whole) (ap₂ is_same p_is.1 q_is.1)
 
@@ -137,7 +135,7 @@ pub history_lacks : (n : ℕ) (h : HistoryValue) (gs : List Seen) (p : Key) (g :
     → number_at h p ≡ None → Contains gs g → ⊥
 history_lacks n h gs p g stands packs whole e = none_stands gs g (sym (stands p g packs whole) ∙ e)
 
-pub history_begun : TellApart → (n : ℕ) → n ≤ MAX_POINTS → (h : HistoryValue) (p : Key) (g : Seen) → IsBegun h p → IsKeyOf p g → length g.0 ≡ n
+pub history_begun : PacksTellApart → (n : ℕ) → n ≤ MAX_POINTS → (h : HistoryValue) (p : Key) (g : Seen) → IsBegun h p → IsKeyOf p g → length g.0 ≡ n
     → StandsFor n h (g ∷ [])
 history_begun law n few h p g begun packs whole q x q_packs x_whole =
     ap (λ (s : Key). cond (key_eq s q) (Some 0) (later_at h q)) begun.0
@@ -158,7 +156,7 @@ number_changed old new p w q changed =
     ∙ ap (λ o. cond (key_eq old.start q) (Some 0) o) (changed.1 q)
 
 -- one that didn't stand, noted with the number of those that did
-pub history_more : TellApart → (n : ℕ) → n ≤ MAX_POINTS → (old new : HistoryValue) (gs : List Seen) (p : Key) (g : Seen) (k : ℕ)
+pub history_more : PacksTellApart → (n : ℕ) → n ≤ MAX_POINTS → (old new : HistoryValue) (gs : List Seen) (p : Key) (g : Seen) (k : ℕ)
     → StandsFor n old gs → IsChangedAt old new p (Some k) → k ≡ length gs → IsKeyOf p g → length g.0 ≡ n → (Contains gs g → ⊥)
     → StandsFor n new (gs ++ g ∷ [])
 history_more law n few old new gs p g k stands changed count packs whole novel q x q_packs x_whole =
@@ -174,7 +172,7 @@ history_more law n few old new gs p g k stands changed count packs whole novel q
     more false false o is same = is ∙ sym (first_before gs g x same)
 
 -- the number of the last one taken back: it goes where that stood nowhere before, and stays where it did
-pub history_less : TellApart → (n : ℕ) → n ≤ MAX_POINTS → (old new : HistoryValue) (gs : List Seen) (p : Key) (g : Seen) (k : ℕ)
+pub history_less : PacksTellApart → (n : ℕ) → n ≤ MAX_POINTS → (old new : HistoryValue) (gs : List Seen) (p : Key) (g : Seen) (k : ℕ)
     → StandsFor n old (gs ++ g ∷ []) → IsForgotten old new p k → k ≡ length gs → 0 < k → IsKeyOf p g → length g.0 ≡ n
     → StandsFor n new gs
 history_less law n few old new gs p g k stands forgotten count some packs whole q x q_packs x_whole =
@@ -203,7 +201,7 @@ history_less law n few old new gs p g k stands forgotten count some packs whole 
     less false false o is same = is ∙ first_before gs g x same
 
 -- the last one's key taken out where it stood nowhere before
-pub history_only : TellApart → (n : ℕ) → n ≤ MAX_POINTS → (old new : HistoryValue) (gs : List Seen) (p : Key) (g : Seen) (k : ℕ)
+pub history_only : PacksTellApart → (n : ℕ) → n ≤ MAX_POINTS → (old new : HistoryValue) (gs : List Seen) (p : Key) (g : Seen) (k : ℕ)
     → StandsFor n old (gs ++ g ∷ []) → IsChangedAt old new p None → k ≡ length gs → 0 < k → IsKeyOf p g → length g.0 ≡ n → (Contains gs g → ⊥)
     → IsForgotten old new p k
 history_only law n few old new gs p g k stands changed count some packs whole novel = (changed.0, λ q. changed.1 q ∙ only q (key_eq p q) refl)
@@ -228,7 +226,7 @@ pub history_again : (n : ℕ) (h : HistoryValue) (gs : List Seen) (g : Seen) →
 history_again n h gs g stands stood q x q_packs x_whole = stands q x q_packs x_whole ∙ sym (first_stood gs g x stood)
 
 -- one more, noted unless it stood
-pub history_next : TellApart → (n : ℕ) → n ≤ MAX_POINTS → (old new : HistoryValue) (gs : List Seen) (p : Key) (g : Seen) (k : ℕ)
+pub history_next : PacksTellApart → (n : ℕ) → n ≤ MAX_POINTS → (old new : HistoryValue) (gs : List Seen) (p : Key) (g : Seen) (k : ℕ)
     → StandsFor n old gs → IsNoted old new p k → k ≡ length gs → IsKeyOf p g → length g.0 ≡ n → StandsFor n new (gs ++ g ∷ [])
 history_next law n few old new gs p g k stands noting count packs whole = next noting.known refl
   where

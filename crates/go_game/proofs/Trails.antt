@@ -8,7 +8,7 @@ use Rattle.go_board.specs.Colours.{Colouring}
 use Rattle.go_chains.specs.declared.change.Change.{Change}
 use Rattle.go_chains.specs.Sound.{IsKept, colouring_of}
 use Rattle.go_game.specs.Standings.{after_vertex, board}
-use Rattle.go_game.specs.Trails.{IsTurn, WentThrough}
+use Rattle.go_game.specs.inner.Trails.{IsTurn, WentThrough}
 
 -- a turn leaves a kept board with the colouring of the rules
 pub turn_kept : (n : ℕ) (cells : List ℕ) (c : Colour) (v : Vertex) (plays : List (List Change)) (next : List ℕ) (rest : List (List Change))

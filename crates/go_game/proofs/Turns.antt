@@ -1,5 +1,7 @@
 -- What a game keeps after one move more or fewer.
 use Rattle.std.proofs.Common.{arith, ◌≡◌, ◌+◌, ◌*◌, ◌∙◌, ℕ, ℤ, List, [], ◌∷◌, ◌++◌, length, map, refl, sym, ap, subst, Contains, None}
+use Rattle.go_board.specs.Laws.{PacksTellApart}
+use Rattle.go_board.specs.lemmas.Squares.{square-le}
 use Rattle.std.proofs.lemmas.List.{append-nil, map-append}
 use Rattle.go_board.specs.declared.vertex.Vertex.{Vertex}
 use Rattle.std.proofs.Math.ListN.{length-map}
@@ -22,16 +24,16 @@ use Rattle.go_chains.specs.Rewound.{IsRewound, NamesCells, PlayLogged, rewound}
 use Rattle.go_chains.specs.Sound.{BoardValue, IsKept, colouring_of, grid_of}
 use Rattle.go_game.specs.declared.step.Step.{Step}
 use Rattle.go_game.specs.declared.superko.Superko.{Superko}
-use Rattle.go_game.specs.Held.{IsHeld, IsKeeping, IsPlayed, made_of, standing_of}
+use Rattle.go_game.specs.inner.Held.{IsHeld, IsKeeping, IsPlayed, made_of, standing_of}
 use Rattle.go_history.specs.declared.key.Key.{Key}
 use Rattle.go_history.specs.Histories.{HistoryValue, IsChangedAt, IsForgotten, IsUnchanged}
-use Rattle.go_game.specs.Histories.{IsNoted, StandsFor}
+use Rattle.go_game.specs.inner.Histories.{IsNoted, StandsFor}
 use Rattle.go_game.specs.Prisoners.{share_of}
 use Rattle.go_game.specs.Standings.{IsLegal, Seen, Situation, after_move, after_vertex, board, mover_by, seen_by, situations, stood, stood_of}
-use Rattle.go_game.specs.Trails.{IsTurn, WentThrough}
+use Rattle.go_game.specs.inner.Trails.{IsTurn, WentThrough}
 use Rattle.go_game.proofs.Keeping.{grid_is}
-use Rattle.go_game.proofs.Played.{held_push, length-moved, made_push, square-le}
-use Rattle.go_game.proofs.Remembered.{TellApart, history_kept, history_less, history_next, history_only}
+use Rattle.go_game.proofs.Played.{held_push, length-moved, made_push}
+use Rattle.go_game.proofs.Remembered.{history_kept, history_less, history_next, history_only}
 use Rattle.go_game.proofs.Trails.{went_kept, went_more}
 
 situations_push : (n : ℕ) (g : Colouring) (c : Colour) (moves : List Move) (m : Move) → situations n g c (moves ++ m ∷ []) ≡ situations n g c moves ++ (after_move n (board n g moves) m, other m.colour) ∷ []
@@ -60,7 +62,7 @@ whole_board n g [] whole = whole
 whole_board n g (m ∷ moves) whole = whole_board n (after_move n g m) moves (whole_after n g m.colour m.vertex whole)
 
 -- the history of one step more and of one less
-module _ (law : TellApart) (rule : Superko) (start : GridValue) (komi : ℤ) (first : Colour) (steps more : List Step) (s : Step) (black white : ℕ)
+module _ (law : PacksTellApart) (rule : Superko) (start : GridValue) (komi : ℤ) (first : Colour) (steps more : List Step) (s : Step) (black white : ℕ)
     (held : IsHeld rule start komi first steps black white) (is : more ≡ steps ++ s ∷ []) (old new : HistoryValue) (key : Key)
     (packs : bytes_of key.pack ≡ packed_of (after_move start.lines (board start.lines start.colours (map made_of steps)) (made_of s)))
     (mover : key.mover ≡ mover_by rule (other s.made.colour)) where
@@ -114,7 +116,7 @@ none_taken White Black = refl
 none_taken White White = refl
 
 -- a pass more
-pub keep_pass : TellApart → (rule : Superko) (start : GridValue) (komi : ℤ) (first : Colour) (steps more : List Step) (c : Colour) (b : BoardValue) (log : List (List Change)) (history history' : HistoryValue) (key : Key) (black white : ℕ)
+pub keep_pass : PacksTellApart → (rule : Superko) (start : GridValue) (komi : ℤ) (first : Colour) (steps more : List Step) (c : Colour) (b : BoardValue) (log : List (List Change)) (history history' : HistoryValue) (key : Key) (black white : ℕ)
     → IsKeeping rule start komi first steps b log history black white → more ≡ steps ++ passed c ∷ [] → bytes_of key.pack ≡ packed_of (grid_of b) → key.mover ≡ mover_by rule (other c) → IsNoted history history' key (length steps + 1)
     → IsKeeping rule start komi first more b log history' black white
 keep_pass law rule start komi first steps more c b log history history' key black white k is packs mover noted =
@@ -148,7 +150,7 @@ pub record IsPut (rule : Superko) (b b' : BoardValue) (log log' : List (List Cha
   pub noted : IsNoted history history' key number
 
 -- a play more
-pub keep_put : TellApart → (rule : Superko) (start : GridValue) (komi : ℤ) (first : Colour) (steps more : List Step) (c : Colour) (p : Point) (t : Taken) (b b' : BoardValue) (log log' : List (List Change)) (history history' : HistoryValue) (key : Key) (black white black' white' : ℕ)
+pub keep_put : PacksTellApart → (rule : Superko) (start : GridValue) (komi : ℤ) (first : Colour) (steps more : List Step) (c : Colour) (p : Point) (t : Taken) (b b' : BoardValue) (log log' : List (List Change)) (history history' : HistoryValue) (key : Key) (black white black' white' : ℕ)
     → IsKeeping rule start komi first steps b log history black white → more ≡ steps ++ placed c p t ∷ []
     → IsPut rule b b' log log' history history' key (length steps + 1) c p
     → IsPlayed start.lines (board start.lines start.colours (map made_of steps)) (placed c p t) → IsLegal (standing_of rule start komi first steps) c (At p)

@@ -1,5 +1,6 @@
 -- What a game keeps after its last move is taken back.
 use Rattle.std.proofs.Common.{arith, ◌≡◌, ◌≢◌, ◌<◌, ◌+◌, ◌*◌, ◌∙◌, ℕ, ℤ, List, [], ◌∷◌, ◌++◌, length, length-append, map, refl, sym, ap, subst}
+use Rattle.go_board.specs.Laws.{PacksTellApart}
 use Rattle.std.specs.Prelude.{Contains, None}
 use Rattle.std.proofs.lemmas.List.{append-nil, same_from_push}
 use Rattle.std.proofs.Math.Seq.{get_or-append_seam, take-append_seam}
@@ -21,15 +22,14 @@ use Rattle.go_history.specs.declared.key.Key.{Key}
 use Rattle.go_history.specs.Histories.{HistoryValue, IsChangedAt, IsForgotten}
 use Rattle.go_game.specs.declared.step.Step.{Step}
 use Rattle.go_game.specs.declared.superko.Superko.{Superko}
-use Rattle.go_game.specs.Held.{ArePlayed, IsHeld, IsKeeping, IsPlayed, made_of, standing_of}
-use Rattle.go_game.specs.Histories.{StandsFor}
+use Rattle.go_game.specs.inner.Held.{ArePlayed, IsHeld, IsKeeping, IsPlayed, made_of, standing_of}
+use Rattle.go_game.specs.inner.Histories.{StandsFor}
 use Rattle.go_game.specs.Playing.{taken_by}
 use Rattle.go_game.specs.Prisoners.{share_of}
 use Rattle.go_game.specs.Standings.{IsLegal, IsSound, Standing, after_move, after_vertex, board, board_of, mover_by, seen_by, stood_of}
-use Rattle.go_game.specs.Trails.{IsTurn, WentThrough}
+use Rattle.go_game.specs.inner.Trails.{IsTurn, WentThrough}
 use Rattle.go_game.proofs.Keeping.{grid_is}
 use Rattle.go_game.proofs.Played.{board_push, held_front, made_push, played_front}
-use Rattle.go_game.proofs.Remembered.{TellApart}
 use Rattle.go_game.proofs.Trails.{LastTurn, last_turn, went_kept}
 use Rattle.go_game.proofs.Turns.{told_less, told_only}
 
@@ -98,7 +98,7 @@ module _ (rule : Superko) (start : GridValue) (komi : ℤ) (first : Colour) (ste
   grid = grid_is start (map made_of steps) b log k.tracked ∙ ap (λ (ms : List Move). board n start.colours ms) all ∙ board_push n start.colours moves (made_of s)
 
   -- a play's key taken out is its number taken out
-  pub forgotten_put : TellApart → (history' : HistoryValue) (key : Key) → bytes_of key.pack ≡ packed_of (grid_of b) → key.mover ≡ mover_by rule (other s.made.colour) → (p : Point) → s.made.vertex ≡ At p
+  pub forgotten_put : PacksTellApart → (history' : HistoryValue) (key : Key) → bytes_of key.pack ≡ packed_of (grid_of b) → key.mover ≡ mover_by rule (other s.made.colour) → (p : Point) → s.made.vertex ≡ At p
       → (black' white' : ℕ) → IsHeld rule start komi first front black' white' → IsChangedAt history history' key None → IsForgotten history history' key (length front + 1)
   forgotten_put law history' key packs mover p at black' white' held changed =
       let S : Standing = standing_of rule start komi first front in
@@ -106,7 +106,7 @@ module _ (rule : Superko) (start : GridValue) (komi : ℤ) (first : Colour) (ste
       told_only law rule start komi first front steps s black' white' held is history history' key (packs ∙ ap packed_of grid) mover k.told (last_novel S s.made.colour s.made.vertex p at legal) changed
 
   -- what the last move left was taken out of the history
-  module _ (law : TellApart) (history' : HistoryValue) (key : Key) (packs : bytes_of key.pack ≡ packed_of (grid_of b)) (mover : key.mover ≡ mover_by rule (other s.made.colour)) (forgotten : IsForgotten history history' key (length front + 1)) where
+  module _ (law : PacksTellApart) (history' : HistoryValue) (key : Key) (packs : bytes_of key.pack ≡ packed_of (grid_of b)) (mover : key.mover ≡ mover_by rule (other s.made.colour)) (forgotten : IsForgotten history history' key (length front + 1)) where
     told_front : (black' white' : ℕ) → IsHeld rule start komi first front black' white' → StandsFor (n * n) history' (stood_of (standing_of rule start komi first front))
     told_front black' white' held = told_less law rule start komi first front steps s black' white' held is history history' key (packs ∙ ap packed_of grid) mover k.told forgotten
 

@@ -5,11 +5,9 @@ pub mod Prisoners
 pub mod Scores
 pub mod Whole
 pub mod Choices
-pub mod Trials
 pub mod Handicaps
-pub mod Held
-pub mod Trails
-pub mod Histories
-pub mod Building
 pub mod Changes
 pub mod Counts
+pub mod Laws
+pub mod inner
+pub mod lemmas

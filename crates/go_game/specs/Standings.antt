@@ -58,6 +58,10 @@ board n g (m ∷ moves) = board n (after_move n g m) moves
 abbrev pub board_of : Standing → Colouring
 board_of s = board s.lines s.start s.moves
 
+-- the grid that stands now, as it is asked about points
+abbrev pub present : Standing → GridValue
+present s = record { lines = s.lines; colours = board_of s }
+
 -- the standing with one more move
 abbrev pub with_move : Standing → Move → Standing
 with_move s m = record s { moves = s.moves ++ m ∷ [] }

@@ -1,7 +1,7 @@
 //! What is legal, and the plain choice of a play: by trials on the game itself, each of which is
 //! taken back.
 ghost use Rattle.std.specs.Prelude.{◌≡◌, ◌<◌, ◌*◌, ◌↔◌, ◌-ℤ◌, pos, false, true, IfOk, IsTrue, OnErr, if◌then◌else◌};
-ghost use Rattle.go_game.specs.Trials.{better_of};
+ghost use Rattle.go_game.specs.inner.Trials.{better_of};
 
 use crate::{Game, PlayError};
 use go_board::{Colour, Move, Point, Vertex};
@@ -18,7 +18,7 @@ pub struct Trial {
 }
 
 impl Trial {
-    ghost use Rattle.go_game.specs.Trials.{beats};
+    ghost use Rattle.go_game.specs.inner.Trials.{beats};
 
     /// Whether it leads by more than another, or by no less and with more liberties.
     fn beats(self, other: Trial) -> bool
@@ -51,7 +51,7 @@ impl<A: Allocator + Copy> Game<A> {
     ghost use Rattle.go_game.specs.Counts.{IsAsBefore, IsLogged, most_for};
     ghost use Rattle.go_game.specs.Legal.{is_legal};
     ghost use Rattle.go_game.specs.Standings.{IsLegal, IsOccupied, IsOffBoard, with_move};
-    ghost use Rattle.go_game.specs.Trials.{IsBestTrial, tried};
+    ghost use Rattle.go_game.specs.inner.Trials.{IsBestTrial, tried};
 
     /// Whether the rules allow a move; one off the board isn't legal. The game is used for a trial,
     /// which is taken back also where there was no memory for it. That can't be so off the board or

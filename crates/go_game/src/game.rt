@@ -14,19 +14,27 @@ use std::marker::Model;
 /// The greatest size of a komi, in hundredths of a point.
 pub const MAX_KOMI: i64 = 99_999_999_999;
 
-/// A game: its start, the komi, the superko rule, and the moves played since. It takes memory as moves are played,
-/// from the allocator that it was made with.
+/// A game: its start, the komi, the superko rule, and the moves played since. It takes memory as
+/// moves are played, from the allocator that it was made with.
 #[derive(Drop)]
 pub struct Game<A: Allocator + Copy> {
+    /// The grid before the first move.
     pub(crate) start: Grid,
+    /// In hundredths of a point.
     pub(crate) komi: i64,
     pub(crate) superko: Superko,
+    /// Who is to move at the start.
     pub(crate) first: Colour,
+    /// The board after the last move, and the log of its plays.
     pub(crate) board: Board,
     pub(crate) log: Log<A>,
+    /// How often the tables were read and written.
     pub(crate) meter: Meter,
+    /// The moves, each with what it took.
     pub(crate) steps: Vec<Step, A>,
+    /// What the superko rule saw, and after how many moves first.
     pub(crate) history: History<A>,
+    /// The stones of each colour that were taken.
     pub(crate) prisoners: Prisoners,
 }
 
@@ -34,7 +42,7 @@ impl<A: Allocator + Copy> Model for Game<A> {
     ghost use Rattle.go_game.specs.Standings.{GameValue};
     ghost use Rattle.std.specs.Prelude.{map};
     ghost use Rattle.go_game.specs.Changes.{changes_of};
-    ghost use Rattle.go_game.specs.Held.{IsKeeping, made_of, standing_of};
+    ghost use Rattle.go_game.specs.inner.Held.{IsKeeping, made_of, standing_of};
 
     ghost Value = { GameValue };
 
@@ -51,27 +59,24 @@ impl<A: Allocator + Copy> Model for Game<A> {
 }
 
 impl<A: Allocator + Copy> Game<A> {
-    ghost use Rattle.go_board.specs.Sizes.{lines_of};
     ghost use Rattle.go_board.specs.Colours.{colour_at};
-    ghost use Rattle.go_board.specs.Chains.{liberties, members};
-    ghost use Rattle.go_board.specs.Points.{IsOn, number_of, point_at};
-    ghost use Rattle.go_board.specs.Clearing.{IsFirstDead};
-    ghost use Rattle.go_board.specs.Reaching.{is_dead, is_liberty_of, joined};
+    ghost use Rattle.go_board.specs.Grids.{are_joined, chain_liberties, chain_stones, has_liberty, stone_at};
+    ghost use Rattle.go_board.specs.Points.{IsOn, number_of};
     ghost use Rattle.go_board.specs.declared.colour.Colour.{Colour};
     ghost use Rattle.go_board.specs.declared.point.Point.{Point};
     ghost use Rattle.go_board.specs.declared.size.TheConstants.{MAX_POINTS};
     ghost use Rattle.go_chains.specs.Sound.{IsKept, colouring_of};
     ghost use Rattle.go_game.specs.declared.superko.Superko.{Superko};
-    ghost use Rattle.go_game.specs.Choices.{liberties_on};
-    ghost use Rattle.go_game.specs.Held.{IsPlayed};
+    ghost use Rattle.go_game.specs.Choices.{liberties_at};
+    ghost use Rattle.go_game.specs.inner.Held.{IsPlayed};
     ghost use Rattle.go_game.specs.Prisoners.{share_of};
-    ghost use Rattle.go_game.specs.Standings.{IsEmptyStart, IsFirstAt, IsKomi, IsLegal, IsOccupied, IsOffBoard, IsSound, Repeats, board_of, is_vacant as is_vacant_in, mover_of, positions_of, started, with_move, without_last};
+    ghost use Rattle.go_game.specs.Standings.{IsEmptyStart, IsFirstAt, IsKomi, IsLegal, IsOccupied, IsOffBoard, IsSound, Repeats, board_of, present, is_vacant as is_vacant_in, mover_of, positions_of, started, with_move, without_last};
     ghost use Rattle.go_game.specs.Scores.{area_of, margin_of};
     ghost use Rattle.go_game.specs.Playing.{prisoners_of, stones_taken};
 
     /// An empty board, Black to move, komi 0, positional superko.
     pub fn new(alloc: A, size: Size) -> Game<A>
-        ensures start { IsEmptyStart result.standing (lines_of size) (pos 0)
+        ensures start { IsEmptyStart result.standing size (pos 0)
             Superko.Positional }
         ensures trace { result.trace ≡ [] }
         ensures count { result.count ≡ 0 }
@@ -96,7 +101,7 @@ impl<A: Allocator + Copy> Game<A> {
 
     /// The size of the board.
     pub fn size(&self) -> Size
-        ensures lines { lines_of result ≡ self.now.standing.lines }
+        ensures lines { result ≡ self.now.standing.lines }
         ensures sound { IsSound self.now.standing }
         ensures kept { IsKept self.now.standing.lines self.now.cells }
         ensures colours { colouring_of self.now.standing.lines self.now.cells
@@ -129,7 +134,8 @@ impl<A: Allocator + Copy> Game<A> {
         self.superko
     }
 
-    /// Sets the superko rule, while no move stands. It is no move: undo leaves it. It takes no memory.
+    /// Sets the superko rule, while no move stands. It is no move: undo leaves it. It takes no
+    /// memory.
     pub fn set_superko(&mut self, superko: Superko)
         requires { self.old.standing.moves ≡ [] }
         ensures rule { self.new.standing ≡ record self.old.standing { rule = superko } }
@@ -193,10 +199,10 @@ impl<A: Allocator + Copy> Game<A> {
 
     /// An empty board of this size, Black to move. The komi and the superko rule stay.
     pub fn resize(&mut self, size: Size)
-        ensures start { IsEmptyStart self.new.standing (lines_of size) self.old.standing.komi
+        ensures start { IsEmptyStart self.new.standing size self.old.standing.komi
             self.old.standing.rule }
         ensures writes { length self.new.trace
-            ≡ length self.old.trace + lines_of size * lines_of size }
+            ≡ length self.old.trace + size * size }
         ensures count { self.new.count ≡ self.old.count }
     {
         packs_tell_colourings_apart();
@@ -222,8 +228,7 @@ impl<A: Allocator + Copy> Game<A> {
     /// The colour of a point.
     pub fn colour_at(&self, p: Point) -> Option<Colour>
         requires { IsOn self.now.standing.lines p }
-        ensures { result ≡ colour_at (board_of self.now.standing)
-            (number_of self.now.standing.lines p) }
+        ensures { result ≡ stone_at (present self.now.standing) p }
     {
         self.board.colour_at(p)
     }
@@ -232,8 +237,7 @@ impl<A: Allocator + Copy> Game<A> {
     pub fn same_chain(&self, p: Point, q: Point) -> bool
         requires p_on { IsOn self.now.standing.lines p }
         requires q_on { IsOn self.now.standing.lines q }
-        ensures { result ≡ joined self.now.standing.lines (board_of self.now.standing)
-            (number_of self.now.standing.lines p) (number_of self.now.standing.lines q) }
+        ensures { result ≡ are_joined (present self.now.standing) p q }
     {
         joined_by_a_path();
         points_by_number();
@@ -251,8 +255,7 @@ impl<A: Allocator + Copy> Game<A> {
     pub fn is_liberty(&self, p: Point, q: Point) -> bool
         requires p_on { IsOn self.now.standing.lines p }
         requires q_on { IsOn self.now.standing.lines q }
-        ensures { result ≡ is_liberty_of self.now.standing.lines (board_of self.now.standing)
-            (number_of self.now.standing.lines p) (number_of self.now.standing.lines q) }
+        ensures { result ≡ has_liberty (present self.now.standing) p q }
     {
         if self.colour_at(p).is_none() {
             return is_liberty(&self.present(), p, q);
@@ -263,11 +266,8 @@ impl<A: Allocator + Copy> Game<A> {
     /// The stones of the chain of the stone on a point, in point order.
     pub fn chain_points(&self, p: Point) -> ChainPoints<'_>
         requires on { IsOn self.now.standing.lines p }
-        requires stone { IsSome (colour_at (board_of self.now.standing)
-            (number_of self.now.standing.lines p)) }
-        ensures { result ≡ map (point_at self.now.standing.lines)
-            (members self.now.standing.lines (board_of self.now.standing)
-            (number_of self.now.standing.lines p)) }
+        requires stone { IsSome (stone_at (present self.now.standing) p) }
+        ensures { result ≡ chain_stones (present self.now.standing) p }
     {
         self.board.chain_points(p)
     }
@@ -275,11 +275,8 @@ impl<A: Allocator + Copy> Game<A> {
     /// The liberties of the chain of the stone on a point, in point order.
     pub fn liberty_points(&self, p: Point) -> ChainPoints<'_>
         requires on { IsOn self.now.standing.lines p }
-        requires stone { IsSome (colour_at (board_of self.now.standing)
-            (number_of self.now.standing.lines p)) }
-        ensures { result ≡ map (point_at self.now.standing.lines)
-            (liberties self.now.standing.lines (board_of self.now.standing)
-            (number_of self.now.standing.lines p)) }
+        requires stone { IsSome (stone_at (present self.now.standing) p) }
+        ensures { result ≡ chain_liberties (present self.now.standing) p }
     {
         self.board.liberty_points(p)
     }
@@ -287,8 +284,7 @@ impl<A: Allocator + Copy> Game<A> {
     /// How many liberties the chain of the stone on a point has, and 0 where none is there.
     pub(crate) fn liberties_of(&self, p: Point) -> u16
         requires { IsOn self.now.standing.lines p }
-        ensures { result ≡ liberties_on self.now.standing.lines (board_of self.now.standing)
-            (number_of self.now.standing.lines p) }
+        ensures { result ≡ liberties_at (present self.now.standing) p }
     {
         if self.colour_at(p).is_none() {
             return 0;

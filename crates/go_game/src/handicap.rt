@@ -2,17 +2,16 @@ ghost use Rattle.std.specs.Prelude.{◌≡◌, ◌≤◌, ◌<◌, ◌+◌, ◌*
 ghost use Rattle.go_board.specs.declared.size.TheConstants.{MAX_LINES};
 ghost use Rattle.go_board.specs.Points.{IsOn};
 ghost use Rattle.go_board.specs.Reaching.{is_dead};
-ghost use Rattle.go_board.specs.Sizes.{lines_of};
 ghost use Rattle.go_game.specs.Handicaps.{fixed, greatest, handicap_points, near, point_in, stones_on as stones_on_board, where_wanted};
 
 use arrayvec::ArrayVec;
 use go_board::laws::one_colour_lives;
 use go_board::{Colour, Grid, Point, Size};
 
-/// The most handicap stones that a board of this size has places for: none below 7 lines, 4 at 7 and
-/// at even sizes, else 9.
+/// The most handicap stones that a board of this size has places for: none below 7 lines, 4 at 7
+/// and at even sizes, else 9.
 pub fn greatest_handicap(size: Size) -> u32
-    ensures { result ≡ greatest (lines_of size) }
+    ensures { result ≡ greatest size }
 {
     let lines = size.lines();
     if lines < 7 {
@@ -23,8 +22,8 @@ pub fn greatest_handicap(size: Size) -> u32
 
 /// Where so many handicap stones stand, or none where the number isn't from 2 to the greatest.
 pub fn fixed_points(size: Size, number: u32) -> Option<ArrayVec<Point, 9>>
-    ensures points { option_map (λ points. points.items) result ≡ fixed (lines_of size) number }
-    ensures on { IfSome result (λ points. All (IsOn (lines_of size)) points.items) }
+    ensures points { option_map (λ points. points.items) result ≡ fixed size number }
+    ensures on { IfSome result (λ points. All (IsOn size) points.items) }
 {
     if number < 2 || greatest_handicap(size) < number {
         return None;
@@ -109,11 +108,11 @@ fn push_all(points: &mut ArrayVec<Point, 9>, more: &[Point])
 /// An empty board with black stones on these points, each of which reaches empty where a point of
 /// the board is left.
 pub fn stones_on(size: Size, points: &[Point]) -> Grid
-    requires { All (IsOn (lines_of size)) points.now }
-    ensures lines { result.lines ≡ lines_of size }
-    ensures colours { result.colours ≡ stones_on_board (lines_of size) points.now }
-    ensures alive { length points.now < lines_of size * lines_of size
-        → (k : ℕ) → is_dead (lines_of size) result.colours k ≡ false }
+    requires { All (IsOn size) points.now }
+    ensures lines { result.lines ≡ size }
+    ensures colours { result.colours ≡ stones_on_board size points.now }
+    ensures alive { length points.now < size * size
+        → (k : ℕ) → is_dead size result.colours k ≡ false }
 {
     one_colour_lives();
     let mut grid = Grid::new(size);

@@ -17,8 +17,8 @@ use std::alloc::Allocator;
 
 impl<A: Allocator + Copy> Game<A> {
     /// Plays a move: a pass, or a stone on an empty point of the board that repeats nothing by the
-    /// superko rule. Captured stones are taken, and then stones of the player's own that have no liberty.
-    /// A refused move changes nothing.
+    /// superko rule. Captured stones are taken, and then stones of the player's own that have no
+    /// liberty. A refused move changes nothing.
     pub fn play(&mut self, made: Move) -> Result<Taken, PlayError>
         ensures off_board { (result ≡ Err PlayError.OffBoard)
             ↔ IsOffBoard self.old.standing made.vertex }
@@ -169,7 +169,8 @@ impl<A: Allocator + Copy> Game<A> {
     }
 }
 
-/// Notes a step in the history by this key and among the steps, unless what has the key stood before.
+/// Notes a step in the history by this key and among the steps, unless what has the key stood
+/// before.
 fn note<A: Allocator + Copy>(
     key: &Key,
     history: &mut History<A>,

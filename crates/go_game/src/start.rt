@@ -1,13 +1,13 @@
 //! Games that start from a grid.
 ghost use Rattle.std.specs.Prelude.{◌≡◌, ◌<◌, ◌≤◌, ◌+◌, ◌*◌, ℕ, Err, IfOk, IsErrOf, None, OnOk, false, length, replicate};
-ghost use Rattle.go_board.specs.Clearing.{IsFirstDead};
+ghost use Rattle.go_board.specs.Clearing.{AreAlive, IsFirstDead};
 ghost use Rattle.go_board.specs.Reaching.{is_dead};
 ghost use Rattle.go_board.specs.Points.{number_of};
 ghost use Rattle.go_board.specs.declared.colour.Colour.{Colour};
 ghost use Rattle.go_board.specs.declared.point.Point.{Point};
 ghost use Rattle.go_board.specs.declared.size.TheConstants.{MAX_LINES};
 ghost use Rattle.go_chains.specs.Sound.{IsKept, grid_of};
-ghost use Rattle.go_game.specs.Building.{AreAlive, IsFront};
+ghost use Rattle.go_game.specs.inner.Building.{IsFront};
 ghost use Rattle.go_game.specs.Standings.{IsEmptyStart, started};
 
 use crate::{Game, SetupError, Superko};
@@ -24,8 +24,7 @@ impl<A: Allocator + Copy> Game<A> {
         ensures count { IfOk result (λ game. game.count ≡ 0) }
         ensures no_liberty { (p : Point) → result ≡ Err (SetupError.NoLiberty p)
             → IsFirstDead grid.now.lines grid.now.colours p }
-        ensures alive { OnOk result ((k : ℕ) → k < grid.now.lines * grid.now.lines
-            → is_dead grid.now.lines grid.now.colours k ≡ false) }
+        ensures alive { OnOk result (AreAlive grid.now.lines grid.now.colours) }
     {
         let mut game = Game::new(alloc, grid.size());
         match game.begin_from(grid, first) {
@@ -35,8 +34,8 @@ impl<A: Allocator + Copy> Game<A> {
     }
 
     /// Begins anew from this grid, with komi 0, positional superko and this colour to move. Where a
-    /// stone doesn't reach empty, the game stays as it was. Where there is no memory for the plays that
-    /// put the stones, its board is empty, as after `resize`.
+    /// stone doesn't reach empty, the game stays as it was. Where there is no memory for the plays
+    /// that put the stones, its board is empty, as after `resize`.
     pub fn begin_from(&mut self, grid: &Grid, first: Colour) -> Result<(), SetupError>
         ensures ok { OnOk result (self.new.standing ≡ started grid.now first) }
         ensures count { self.new.count ≡ self.old.count }
@@ -45,8 +44,7 @@ impl<A: Allocator + Copy> Game<A> {
         ensures memory { IsErrOf result SetupError.Memory
             → IsEmptyStart self.new.standing grid.now.lines self.old.standing.komi
             self.old.standing.rule }
-        ensures alive { OnOk result ((k : ℕ) → k < grid.now.lines * grid.now.lines
-            → is_dead grid.now.lines grid.now.colours k ≡ false) }
+        ensures alive { OnOk result (AreAlive grid.now.lines grid.now.colours) }
     {
         packs_tell_colourings_apart();
         if let Some(p) = first_dead(grid) {

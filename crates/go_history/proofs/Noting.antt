@@ -1,5 +1,6 @@
 -- What is noted of the keys, by their own test, and once a number that was written over is put back.
 use Rattle.std.specs.Map.{lookup}
+use Rattle.std.proofs.lemmas.Bool.{and_parts}
 use Rattle.std.specs.Option.{option_eq}
 use Rattle.std.proofs.Common.{◌≡◌, nat_eq, ◌&&◌, ◌∙◌, ℕ, Bool, true, false, cond, List, [], ◌∷◌, Option, Some, None, ap, ap₂, refl, sym}
 use Rattle.std.proofs.lemmas.Slice.Eq.{bytes_eq-Decides}
@@ -40,10 +41,6 @@ pub changed : (old new : List (Key × ℕ)) (p : Key) (w : Option ℕ) → ((q :
     → (q : Key) → lookup (key_eq q) new ≡ cond (key_eq p q) w (lookup (key_eq q) old)
 changed old new p w updates q = sym (alike new q) ∙ updates q ∙ ap₂ (λ b o. cond b w o) (key_is p q) (alike old q)
 
-both : (a b : Bool) → (a && b) ≡ true → (a ≡ true) × (b ≡ true)
-both true b e = (refl, e)
-both false b e = cc
-
 same_mover : (a b : Option Colour) → is_same a b ≡ true → a ≡ b
 same_mover None None e = refl
 same_mover (Some Black) (Some Black) e = refl
@@ -56,7 +53,7 @@ same_mover (Some White) (Some Black) e = cc
 -- keys that are alike are the same
 same_key : (p q : Key) → key_eq p q ≡ true → p ≡ q
 same_key p q e =
-    let parts = both (packed_eq p.pack q.pack) (is_same p.mover q.mover) e in
+    let parts = and_parts (packed_eq p.pack q.pack) (is_same p.mover q.mover) e in
     ap₂ (λ (bytes : List ℕ) (mover : Option Colour). let key : Key = record { pack = record { bytes = bytes }; mover = mover } in key)
     ((bytes_eq-Decides (bytes_of p.pack) (bytes_of q.pack)).0 parts.0) (same_mover p.mover q.mover parts.1)
 

@@ -12,7 +12,9 @@ use std::marker::Model;
 /// that it was made with.
 #[derive(Drop)]
 pub struct History<A: Allocator + Copy> {
+    /// What stood after no move.
     start: Key,
+    /// After how many moves each other key stood first.
     later: HashMap<Key, usize, BuildHasherDefault<FoldHasher>, A>,
 }
 

@@ -11,7 +11,7 @@ use Rattle.go_record.specs.declared.error.RecordError.TheVariants.{BadKomi, BadS
 use Rattle.go_record.specs.declared.state.Left.{Left}
 use Rattle.go_record.specs.Games.{IsGameOf, is_go, komi_in, lines_in, root_value}
 use Rattle.go_record.specs.MainLine.{Event, events_from, events_of, looked_at, main_line}
-use Rattle.go_record.specs.Progress.{Says, left_by, line_from, seen}
+use Rattle.go_record.specs.inner.Progress.{Says, left_by, line_from, seen}
 use Rattle.go_record.specs.Walks.{Outcome, SetsUp}
 
 pub events_append : (first : ℕ) (xs ys : List (List Property)) → events_from first (xs ++ ys) ≡ events_from first xs ++ events_from (first + length xs) ys

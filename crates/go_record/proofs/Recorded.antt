@@ -23,7 +23,8 @@ use Rattle.go_sgf.specs.Record.{Property}
 use Rattle.go_record.specs.Games.{IsGameOf, komi_in, lines_in}
 use Rattle.go_record.specs.MainLine.{Event, events_from, events_of, move, move_event, setup_event, stones}
 use Rattle.go_record.specs.Records.{colour_letter, move_node, point_value, points_coloured, stones_property, tree_of, vertex_value}
-use Rattle.go_record.specs.Walks.{Begins, IsAlive, Outcome, Plays, SetsUp, colour_of}
+use Rattle.go_board.specs.Clearing.{AreAlive}
+use Rattle.go_record.specs.Walks.{Begins, Outcome, Plays, SetsUp, colour_of}
 use Rattle.go_record.proofs.Lines.{game_walks}
 use Rattle.go_record.proofs.Painting.{all_below, points_read, set_by_numbers, set_numbers, start_back, vertex_read}
 use Rattle.go_record.proofs.Spelled.{IsDigit, IsLow, NoSpace, all_weaker, decimal_is, digits_no_space, komi_low, komi_read, low_clean, no_byte, not_blank, number_read, word_some}
@@ -95,7 +96,7 @@ dead_by (Some Black) true h = refl
 dead_by (Some White) true h = refl
 dead_by (Some c) false h = absurd (true≢false (sym (h (λ e. cc e))))
 
-alive_from : (s : Standing) → IsSound s → IsAlive s.lines s.start
+alive_from : (s : Standing) → IsSound s → AreAlive s.lines s.start
 alive_from s sound = λ k low. dead_by (colour_at s.start k) (reaches s.lines s.start k None) (sound.alive k low)
 
 lines_read : (n : ℕ) → 0 < n → n ≤ MAX_LINES → lines_in (decimal n) ≡ Some n

@@ -1,5 +1,7 @@
 -- What a record comes to is a standing that play can come to.
 use Rattle.std.proofs.Common.{◌≡◌, ◌≢◌, ◌∙◌, ◌<◌, ◌≤◌, ◌*◌, ℕ, ℤ, Bool, true, false, true≢false, List, [], ◌∷◌, ◌++◌, refl, sym, ap, subst, inl, inr, arith, length, length-append, take, get_or, replicate}
+use Rattle.go_board.specs.Sizes.{size_with}
+use Rattle.go_game.specs.lemmas.Sound.{sound_more}
 use Rattle.std.specs.Prelude.{Option, Some, None, Ok, ◌&&◌, not, option_map, position, ◌==◌, nat_le, pos, codes, IsTrue}
 use Rattle.std.proofs.lemmas.Bool.{and_parts, cases_Bool, cases_lt, leb-true}
 use Rattle.std.specs.Option.{option_and_then}
@@ -21,36 +23,11 @@ use Rattle.go_sgf.specs.Numbers.{behind_sign, has_minus, hundredths_in, hundredt
 use Rattle.go_sgf.specs.Record.{Trees}
 use Rattle.go_sgf.specs.declared.hundredths.TheConstants.{MOST_HUNDREDTHS}
 use Rattle.go_record.specs.declared.error.RecordError.{RecordError}
-use Rattle.go_record.specs.Games.{IsGameOf, Needs, OrElse, is_blank, is_go, komi_in, lines_in, lines_within, number_by, root_value}
+use Rattle.go_record.specs.Games.{IsGameOf, Needs, OrElse, is_blank, is_go, komi_in, lines_in, number_by, root_value}
 use Rattle.go_record.specs.declared.root.TheConstants.{USUAL_LINES}
 use Rattle.go_record.specs.MainLine.{Event, stones, turn, move}
-use Rattle.go_record.specs.Walks.{Begins, IsAlive, OrBad, Outcome, Plays, SetsUp, colour_of, start_of, with_points}
-
--- the standing with these moves
-abbrev pub moved_to : Standing → List Move → Standing
-moved_to s moves = record s { moves = moves }
-
--- one more legal move
-sound_more : (s : Standing) (m : Move) → IsSound s → IsLegal s m.colour m.vertex → IsSound (with_move s m)
-sound_more s m sound legal = record {
-  size = sound.size;
-  whole = sound.whole;
-  komi = sound.komi;
-  alive = sound.alive;
-  legal = λ k x low at.
-      let longer = length-append s.moves (m ∷ []) in
-      elim (cases_lt k (length s.moves)) [
-        | inl before ↦
-            let same : get_or s.moves k x ≡ x = sym (get_or_append_left s.moves (m ∷ []) x k before) ∙ at in
-            let moves : take k (s.moves ++ m ∷ []) ≡ take k s.moves = take-append-le k s.moves (m ∷ []) (omega arith) in
-            subst (λ (ms : List Move). IsLegal (moved_to s ms) x.colour x.vertex) (sym moves) (sound.legal k x before same)
-        | inr last ↦
-            let k_is : k ≡ length s.moves = omega (arith, longer) in
-            let x_is : m ≡ x = sym (ap (λ (j : ℕ). get_or (s.moves ++ m ∷ []) j x) k_is ∙ get_or-append_seam s.moves m [] x) ∙ at in
-            let moves : take k (s.moves ++ m ∷ []) ≡ s.moves = take-append-le k s.moves (m ∷ []) (omega arith) ∙ take_all k s.moves (omega arith) in
-            subst (λ (y : Move). IsLegal (moved_to s (take k (s.moves ++ m ∷ []))) y.colour y.vertex) x_is (subst (λ (ms : List Move). IsLegal (moved_to s ms) m.colour m.vertex) (sym moves) legal)
-      ];
-}
+use Rattle.go_board.specs.Clearing.{AreAlive}
+use Rattle.go_record.specs.Walks.{Begins, OrBad, Outcome, Plays, SetsUp, colour_of, start_of, with_points}
 
 from_bad : {X : Type 0} (node : ℕ) (o : Option X) (s : Standing) (Later : X → Type 0) (P : Type 0) → ((x : X) → o ≡ Some x → Later x → P) → OrBad node o (Ok s) Later → P
 from_bad node None s Later P f h = cc h
@@ -73,7 +50,7 @@ lives_by (Some c) true e some = refl
 lives_by (Some Black) false e some = absurd (true≢false e)
 lives_by (Some White) false e some = absurd (true≢false e)
 
-sound_start : (n : ℕ) (komi : ℤ) (g : Colouring) (given : Option Colour) → (0 < n) × (n ≤ MAX_LINES) → IsKomi komi → length g ≡ n * n → IsAlive n g → IsSound (start_of n komi g given)
+sound_start : (n : ℕ) (komi : ℤ) (g : Colouring) (given : Option Colour) → (0 < n) × (n ≤ MAX_LINES) → IsKomi komi → length g ≡ n * n → AreAlive n g → IsSound (start_of n komi g given)
 sound_start n komi g given size kept whole alive = record {
   size = size;
   whole = whole;
@@ -91,7 +68,7 @@ points_length n c (p ∷ ps) g = points_length n c ps _ ∙ length-set g (number
 some_is : {X : Type 0} (x y : X) → (let o : Option X = Some x in o) ≡ Some y → x ≡ y
 some_is x y h = cc h
 
-within_range : (o : Option ℕ) (n : ℕ) → option_and_then lines_within o ≡ Some n → (0 < n) × (n ≤ MAX_LINES)
+within_range : (o : Option ℕ) (n : ℕ) → option_and_then size_with o ≡ Some n → (0 < n) × (n ≤ MAX_LINES)
 within_range None n h = cc h
 within_range (Some m) n h = elim (cases_Bool (nat_le 1 m && nat_le m MAX_LINES)) [
   | inl on ↦
@@ -135,7 +112,7 @@ komi_range value k h = elim (cases_Bool (is_blank value)) [
 -- ---- what holds of each start that a record gives, and stays with each legal move, holds of what the record comes to
 
 module _ (P : Standing → Type 0)
-    (begun : (n : ℕ) (komi : ℤ) (g : Colouring) (given : Option Colour) → (0 < n) × (n ≤ MAX_LINES) → IsKomi komi → length g ≡ n * n → IsAlive n g → P (start_of n komi g given))
+    (begun : (n : ℕ) (komi : ℤ) (g : Colouring) (given : Option Colour) → (0 < n) × (n ≤ MAX_LINES) → IsKomi komi → length g ≡ n * n → AreAlive n g → P (start_of n komi g given))
     (more : (s : Standing) (m : Move) → P s → IsLegal s m.colour m.vertex → P (with_move s m)) where
   after_play : (events : List Event) (s t : Standing) → P s → Plays s events (Ok t) → P t
   unfolding Plays

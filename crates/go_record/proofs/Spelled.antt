@@ -13,11 +13,12 @@ use Rattle.std.proofs.lemmas.Grind.{common_steps}
 use Rattle.std.proofs.lemmas.List.{append-nil, drop_all, length-append, take_all, reverse-append, reverse-reverse}
 use Rattle.std.proofs.lemmas.List.Sums.{fold-append}
 use Rattle.go_game.specs.Scores.{decimals_of, hundredths_word, size_text}
-use Rattle.go_sgf.specs.Numbers.{behind_plus, decimals_in, hundredths_in, hundredths_of, int_of, is_empty, komi_of, number_of, point_place, size_by, size_of_number, trimmed, value_of, whole_part, with_sign}
+use Rattle.go_board.specs.Decimals.{int_of, is_empty, value_of_digits}
+use Rattle.go_sgf.specs.Numbers.{behind_plus, decimals_in, hundredths_in, hundredths_of, komi_of, number_of, point_place, size_by, size_of_number, trimmed, whole_part, with_sign}
 use Rattle.go_sgf.specs.declared.hundredths.TheConstants.{MOST_HUNDREDTHS}
 use Rattle.go_sgf.specs.Record.{is_inside}
 use Rattle.go_sgf.specs.Spelling.{after_space, is_space}
-use Rattle.go_sgf.specs.declared.numbers.TheConstants.{MAX_NUMBER}
+use Rattle.go_board.specs.declared.decimals.TheConstants.{MAX_INT}
 
 -- from `-` to `9`, and digits
 abbrev pub IsLow : ℕ → Type 0
@@ -64,10 +65,10 @@ trimmed_same xs h =
 
 pub record IsDecimal (n : ℕ) (ds : List ℕ) : Type 0 where
   pub digits : AllByRecursion IsDigit ds
-  pub value : value_of ds ≡ n
+  pub value : value_of_digits ds ≡ n
   pub some : is_empty ds ≡ false
 
-value_push : (ds : List ℕ) (d : ℕ) → value_of (ds ++ d ∷ []) ≡ 10 * value_of ds + (d - 48)
+value_push : (ds : List ℕ) (d : ℕ) → value_of_digits (ds ++ d ∷ []) ≡ 10 * value_of_digits ds + (d - 48)
 value_push ds d = fold-append (λ value c. 10 * value + (c - 48)) 0 ds (d ∷ [])
 
 some_push : (ds : List ℕ) (d : ℕ) → is_empty (ds ++ d ∷ []) ≡ false
@@ -106,11 +107,11 @@ behind_digits (d ∷ ds) h = rw (unequal d 43 (λ e. omega (arith, e, h.0.0))) r
 pub digits_no_space : (ds : List ℕ) → AllByRecursion IsDigit ds → AllByRecursion NoSpace ds
 digits_no_space ds h = all_weaker {P = IsDigit} {Q = NoSpace} (λ c k. low_no_space c (omega (arith, k.0)) (λ e. omega (arith, e, k.0))) ds h
 
-pub number_read : (n : ℕ) (ds : List ℕ) → IsDecimal n ds → n ≤ MAX_NUMBER → number_of ds ≡ Some n
+pub number_read : (n : ℕ) (ds : List ℕ) → IsDecimal n ds → n ≤ MAX_INT → number_of ds ≡ Some n
 number_read n ds is few =
     ap (λ v. int_of (behind_plus v)) (trimmed_same ds (digits_no_space ds is.digits))
     ∙ ap int_of (behind_digits ds is.digits)
-    ∙ rw (is.some, digits_test ds is.digits, is.value, le-leb n MAX_NUMBER few) refl
+    ∙ rw (is.some, digits_test ds is.digits, is.value, le-leb n MAX_INT few) refl
 
 -- ---- komi
 
@@ -164,7 +165,7 @@ size_read n q w d t is parts digits zeros value few =
     ap₂ size_by parts.whole parts.decimals
     ∙ rw (digits_test w is.digits, digits, is.some, zeros, value, le-leb n MOST_HUNDREDTHS few) refl
 
-value_two : (w : List ℕ) (x y : ℕ) → value_of (w ++ x ∷ y ∷ []) ≡ 10 * (10 * value_of w + (x - 48)) + (y - 48)
+value_two : (w : List ℕ) (x y : ℕ) → value_of_digits (w ++ x ∷ y ∷ []) ≡ 10 * (10 * value_of_digits w + (x - 48)) + (y - 48)
 value_two w x y = fold-append (λ value c. 10 * value + (c - 48)) 0 w (x ∷ y ∷ [])
 
 equal_is : (a b : ℕ) → (a == b) ≡ true → a ≡ b

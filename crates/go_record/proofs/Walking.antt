@@ -19,8 +19,9 @@ use Rattle.go_record.specs.declared.error.RecordError.TheVariants.{BadValue, Mem
 use Rattle.go_record.specs.declared.state.Left.{Left}
 use Rattle.go_record.specs.declared.state.Left.TheVariants.{All, Moves, Nothing}
 use Rattle.go_record.specs.MainLine.{Event, stones, turn, move}
-use Rattle.go_record.specs.Progress.{Goes, GoesFrom, Passes, Place, Stops, Walked, is_nothing, playing, seen}
-use Rattle.go_record.specs.Walks.{Begins, IsAlive, IsDeadSetup, IsReason, IsRefused, Outcome, Plays, SetsUp, colour_of, start_of, with_points}
+use Rattle.go_record.specs.inner.Progress.{Goes, GoesFrom, Passes, Place, Stops, Walked, is_nothing, playing, seen}
+use Rattle.go_board.specs.Clearing.{AreAlive}
+use Rattle.go_record.specs.Walks.{Begins, IsDeadSetup, IsReason, IsRefused, Outcome, Plays, SetsUp, colour_of, start_of, with_points}
 
 -- ---- what is looked at
 
@@ -179,7 +180,7 @@ pub end_playing : (w : Place) (game : GameValue) → playing w ≡ Some game →
 end_playing w game e = goes_by w (Some game) [] [] (Ok game.standing) e (seen_none w.0.left) (plays_end game.standing)
 
 pub end_started : {T : Type 0} (w : Place) (r : Result T RecordError) (s : Standing) → playing w ≡ None →
-    OnOk r (IsAlive w.0.grid.lines w.0.grid.colours × (s ≡ start_of w.0.grid.lines w.0.komi w.0.grid.colours w.0.turn)) → OnOk r (Goes w [] (Ok s))
+    OnOk r (AreAlive w.0.grid.lines w.0.grid.colours × (s ≡ start_of w.0.grid.lines w.0.komi w.0.grid.colours w.0.turn)) → OnOk r (Goes w [] (Ok s))
 end_started w (Ok x) s e h =
     let start : Standing = start_of w.0.grid.lines w.0.komi w.0.grid.colours w.0.turn in
     goes_by w None [] [] (Ok s) e (seen_none w.0.left) (sets_end w.0.grid.lines w.0.komi w.0.grid.colours w.0.turn (Ok s)
@@ -219,7 +220,7 @@ if_err (Ok x) f h = h
 if_err (Err e) f h = f e h
 
 -- the game that the first move begins
-pub began_setting : (w : Place) (s : Standing) → playing w ≡ None → IsAlive w.0.grid.lines w.0.grid.colours → s ≡ start_of w.0.grid.lines w.0.komi w.0.grid.colours w.0.turn →
+pub began_setting : (w : Place) (s : Standing) → playing w ≡ None → AreAlive w.0.grid.lines w.0.grid.colours → s ≡ start_of w.0.grid.lines w.0.komi w.0.grid.colours w.0.turn →
     (node : ℕ) (c : Colour) (value : List ℕ) (events : List Event) (outcome : Outcome) → Plays s (move node c value ∷ events) outcome →
     GoesFrom w.0 (playing w) (move node c value ∷ events) outcome
 began_setting w s e alive is node c value events outcome h =

@@ -1,5 +1,6 @@
 -- How the pieces that are written make up the text of a record.
 use Rattle.std.proofs.Common.{◌≡◌, ◌∙◌, ℕ, zero, suc, Bool, true, false, if◌then◌else◌, take, ◌+◌, List, [], ◌∷◌, ◌++◌, refl, sym, ap, add-one, append_assoc, arith, map}
+use Rattle.go_board.specs.lemmas.Numbers.{numbers_more}
 use Rattle.std.specs.Prelude.{Some, codes, decimal, filter, option_to_list, slice_get}
 use Rattle.std.specs.List.{flat_map, range_with_len}
 use Rattle.std.proofs.lemmas.List.{append-nil, map-append}
@@ -18,21 +19,12 @@ use Rattle.go_game.specs.Standings.{Standing}
 use Rattle.go_sgf.specs.Record.{Property, is_upper, plain_property}
 use Rattle.go_sgf.specs.Spelling.{Part, closing, value, joined, node_parts, property_parts, text}
 use Rattle.go_record.specs.Records.{colour_letter, move_node, point_value, points_coloured, record_body, stones_property, vertex_value}
-use Rattle.go_record.specs.Texts.{coloured_within, move_text, named_stones, setting_text, stone_text, stones_text, turn_text}
+use Rattle.go_record.specs.inner.Texts.{coloured_within, move_text, named_stones, setting_text, stone_text, stones_text, turn_text}
 
 -- what stands in front of the next stone: the name, if none stands before it
 abbrev pub in_front : List ℕ → List ℕ → List ℕ
 in_front name [] = name
 in_front name (k ∷ ks) = []
-
-map_same : {X : Type 0} (xs : List X) → map (λ x. x) xs ≡ xs
-map_same [] = refl
-map_same (x ∷ xs) = ap (λ ys. x ∷ ys) (map_same xs)
-
-numbers_more : (k : ℕ) → range_with_len 0 (k + 1) ≡ range_with_len 0 k ++ k ∷ []
-numbers_more k =
-    sym (map_same (range_with_len 0 (k + 1))) ∙ map-range_with_len_more (λ (x : ℕ). x) 0 k k (omega arith)
-    ∙ ap (λ xs. xs ++ k ∷ []) (map_same (range_with_len 0 k))
 
 -- one more point, where it has the colour
 pub chosen_more : (test : ℕ → Bool) (k : ℕ) → filter test (range_with_len 0 (k + 1)) ≡ filter test (range_with_len 0 k) ++ (if test k then k ∷ [] else [])

@@ -1,5 +1,6 @@
 -- The game of a record: that of the main line of its first tree.
 use Rattle.std.specs.Prelude.{◌≡◌, ◌*◌, ℕ, ℤ, pos, Bool, true, false, ◌==◌, ◌&&◌, ◌||◌, nat_le, if◌then◌else◌, List, [], ◌∷◌, Option, Some, None, Err, codes, drop, position, replicate, take}
+use Rattle.go_board.specs.Sizes.{size_with}
 use Rattle.std.specs.List.{list_all}
 use Rattle.std.specs.Option.{option_and_then}
 use Rattle.go_board.specs.declared.size.TheConstants.{MAX_LINES}
@@ -41,10 +42,6 @@ is_one (Some n) = n == 1
 abbrev pub is_go : List ℕ → Bool
 is_go value = is_blank value || is_one (number_of value)
 
--- the lines of a board, where there is one with so many
-abbrev pub lines_within : ℕ → Option ℕ
-lines_within n = if nat_le 1 n && nat_le n MAX_LINES then Some n else None
-
 -- columns and rows, where they are as many
 abbrev pub same_number : Option ℕ → Option ℕ → Option ℕ
 same_number (Some m) (Some n) = if m == n then Some m else None
@@ -57,7 +54,7 @@ number_by value (Some k) = same_number (number_of (take k value)) (number_of (dr
 
 abbrev pub lines_in : List ℕ → Option ℕ
 lines_in value =
-    if is_blank value then Some USUAL_LINES else option_and_then lines_within (number_by value (position (λ b. b == 58) value))
+    if is_blank value then Some USUAL_LINES else option_and_then size_with (number_by value (position (λ b. b == 58) value))
 
 abbrev pub komi_in : List ℕ → Option ℤ
 komi_in value = if is_blank value then Some (pos 0) else hundredths_of value

@@ -2,8 +2,7 @@ pub mod MainLine
 pub mod Walks
 pub mod Games
 pub mod Verdicts
-pub mod Progress
 pub mod Records
-pub mod Texts
 pub mod Laws
 pub mod Reasons
+pub mod inner

@@ -6,7 +6,7 @@ use Rattle.go_board.specs.declared.point.Point.{Point}
 use Rattle.go_board.specs.declared.vertex.Move.{Move}
 use Rattle.go_board.specs.declared.vertex.Vertex.{Vertex}
 use Rattle.go_board.specs.declared.vertex.Vertex.TheVariants.{Pass, At}
-use Rattle.go_board.specs.Colours.{Colouring}
+use Rattle.go_board.specs.Colours.{Colouring, letter_of}
 use Rattle.go_board.specs.Points.{point_at}
 use Rattle.go_board.specs.Reaching.{has_colour, points}
 use Rattle.go_game.specs.Scores.{hundredths_word}
@@ -24,8 +24,7 @@ alone name value = property name (value ∷ [])
 
 -- B or W
 abbrev pub colour_letter : Colour → List ℕ
-colour_letter Black = codes "B"
-colour_letter White = codes "W"
+colour_letter colour = letter_of colour ∷ []
 
 -- a point as a value: the column from the left and the row from the top, `a` the first
 abbrev pub point_value : ℕ → Point → List ℕ

@@ -6,7 +6,7 @@ use Rattle.go_board.specs.declared.colour.Colour.{Colour}
 use Rattle.go_board.specs.declared.colour.Colour.TheVariants.{Black, White}
 use Rattle.go_board.specs.declared.point.Point.{Point}
 use Rattle.go_board.specs.declared.vertex.Vertex.{Vertex}
-use Rattle.go_board.specs.Clearing.{IsFirstDead}
+use Rattle.go_board.specs.Clearing.{IsFirstDead, AreAlive}
 use Rattle.go_board.specs.Colours.{Colouring}
 use Rattle.go_board.specs.Points.{number_of}
 use Rattle.go_board.specs.Reaching.{has_colour, is_dead, points}
@@ -83,10 +83,6 @@ first_mover n g None = if has_stones n g Black && not (has_stones n g White) the
 abbrev pub start_of : ℕ → ℤ → Colouring → Option Colour → Standing
 start_of n komi g given = record { lines = n; komi = komi; rule = Positional; start = g; first = first_mover n g given; moves = [] }
 
--- every stone reaches empty
-abbrev pub IsAlive : ℕ → Colouring → Type 0
-IsAlive n g = (k : ℕ) → k < n * n → is_dead n g k ≡ false
-
 -- The start has a stone that doesn't reach empty.
 pub record IsDeadSetup (n : ℕ) (g : Colouring) (outcome : Outcome) : Type 0 where
   pub point : Point
@@ -95,7 +91,7 @@ pub record IsDeadSetup (n : ℕ) (g : Colouring) (outcome : Outcome) : Type 0 wh
 
 -- the start is judged, and then the moves
 abbrev pub Begins : ℕ → ℤ → Colouring → Option Colour → List Event → Outcome → Type 0
-Begins n komi g given events outcome = (IsAlive n g × Plays (start_of n komi g given) events outcome) ⊎ IsDeadSetup n g outcome
+Begins n komi g given events outcome = (AreAlive n g × Plays (start_of n komi g given) events outcome) ⊎ IsDeadSetup n g outcome
 
 -- Before the first move: stones are set up, and the colour to move is given.
 unfoldable pub SetsUp : ℕ → ℤ → Colouring → Option Colour → List Event → Outcome → Type 0

@@ -16,13 +16,13 @@ pub fn sound_games()
     ensures { SoundGames }
 {}
 
-/// And it stands under the positional rule, by which every record is judged.
+/// The game of a record stands under the positional rule, by which every record is judged.
 pub fn judged_by_positions()
     ensures { JudgedByPositions }
 {}
 
-/// The record of a standing that play can come to is spelled by its text, which spells nothing else,
-/// and under the positional rule replays to that standing.
+/// The record of a standing that play can come to is spelled by its text, which spells nothing
+/// else, and under the positional rule replays to that standing.
 pub fn record_law()
     ensures { RecordLaw }
 {

@@ -1,4 +1,20 @@
 //! Games of Go in records: a record's main line replayed and judged, and a game's record written.
+//!
+//! - [`replay`], [`replay_on`], [`RecordError`]: the game of a record, or why it has none.
+//! - [`judge`], [`Verdict`], [`Stated`]: its score, and whether the record states that score.
+//! - [`write_record`], [`put_record`]: the record of a game, which replays to it.
+//!
+//! The game of a record before its eleventh move:
+//!
+//! ```
+//! let collection = read(rt.alloc(), source)?;
+//! let game = replay(rt.alloc(), &collection, Some(11))?;
+//! ```
+//!
+//! What is promised is in the clauses of `replaying.rt`, `judging.rt` and `writer.rt`. Their words
+//! are in `specs/`: `MainLine` says what a record's main line has, `Walks` and `Games` what comes
+//! of it, `Verdicts` what is judged, and `Records` what a game's record is. `Laws` has what holds
+//! of all of them. What `specs/inner/` defines serves private functions alone.
 #![tactic(auto)]
 
 mod error;

@@ -1,11 +1,10 @@
 ghost use Rattle.std.specs.Prelude.{◌≡◌, ◌≢◌, ◌+◌, Err, IfErr, IfOk, Ok, OnErr, OnOk, length, true};
 ghost use Rattle.go_sgf.specs.View.{collection_of};
 ghost use Rattle.go_record.specs.declared.error.RecordError.TheVariants.{Memory};
-ghost use Rattle.go_board.specs.Sizes.{lines_of};
 ghost use Rattle.go_game.specs.Standings.{is_vacant};
 ghost use Rattle.go_record.specs.Games.{IsGameOf};
 ghost use Rattle.go_record.specs.MainLine.{events_from, main_line};
-ghost use Rattle.go_record.specs.Progress.{Says, Walked, left_by};
+ghost use Rattle.go_record.specs.inner.Progress.{Says, Walked, left_by};
 
 use crate::error::RecordError;
 use crate::root::{Root, root_of};
@@ -79,7 +78,7 @@ fn walk_on<A: Allocator + Copy>(
     collection: &Collection<'_, A>,
     number: Option<u32>,
 ) -> Result<(), RecordError>
-    requires { Says (collection_of collection.now) (lines_of root.now.size) root.now.komi }
+    requires { Says (collection_of collection.now) root.now.size root.now.komi }
     ensures ok { OnOk result
         (IsGameOf (collection_of collection.now) number (Ok game.new.standing)) }
     ensures err { IfErr result

@@ -1,9 +1,8 @@
 ghost use Rattle.std.specs.Prelude.{◌≡◌, ◌==◌, ◌<◌, ◌≤ℤ◌, Err, IfErr, IfOk, IfSome, ℕ, Option, length, negsuc, option_map, pos, position};
-ghost use Rattle.go_board.specs.Sizes.{lines_of};
 ghost use Rattle.go_game.specs.Standings.{IsKomi};
 ghost use Rattle.go_sgf.specs.View.{collection_of};
-ghost use Rattle.go_record.specs.Progress.{Says};
-ghost use Rattle.go_record.specs.Games.{IsGameOf, is_blank as is_white, is_go as is_go_by, is_one as is_one_of, komi_in, lines_in, lines_within, number_by, root_value as value_by, same_number as number_same, value_in as value_by_name};
+ghost use Rattle.go_record.specs.inner.Progress.{Says};
+ghost use Rattle.go_record.specs.Games.{IsGameOf, is_blank as is_white, is_go as is_go_by, is_one as is_one_of, komi_in, lines_in, number_by, root_value as value_by, same_number as number_same, value_in as value_by_name};
 
 use crate::error::RecordError;
 use crate::kind::first_value;
@@ -27,7 +26,7 @@ pub(crate) fn root_of<A: Allocator + Copy>(
     collection: &Collection<'_, A>,
 ) -> Result<Root, RecordError>
     ensures ok { IfOk result
-        (λ root. Says (collection_of collection.now) (lines_of root.size) root.komi) }
+        (λ root. Says (collection_of collection.now) root.size root.komi) }
     ensures err { IfErr result (λ e. (number : Option ℕ)
         → IsGameOf (collection_of collection.now) number (Err e)) }
 {
@@ -97,24 +96,15 @@ fn is_blank(value: &[u8]) -> bool
 
 /// The size that an SZ value says: one number, or two that are equal.
 pub(crate) fn size_of(value: &[u8]) -> Option<Size>
-    ensures { option_map lines_of result ≡ lines_in value.now }
+    ensures { result ≡ lines_in value.now }
 {
     if is_blank(value) {
-        return size_within(u32::from(USUAL_LINES));
+        return Size::of(u32::from(USUAL_LINES));
     }
     match lines_number(value) {
-        Some(number) => size_within(number),
+        Some(number) => Size::of(number),
         None => None,
     }
-}
-
-fn size_within(number: u32) -> Option<Size>
-    ensures { option_map lines_of result ≡ lines_within number }
-{
-    if number > 255 {
-        return None;
-    }
-    Size::new(number as u8)
 }
 
 fn lines_number(value: &[u8]) -> Option<u32>

@@ -6,13 +6,13 @@ use go_board::{Colour, Grid};
 #[derive(Clone, Copy)]
 pub(crate) enum Left {
     All,
-    /// What comes before one more than so many moves.
+    /// All before the first of the moves that are one too many for this number.
     Moves(u32),
     Nothing,
 }
 
-/// A walk along a main line: the stones set up and the colour given to move, until a move is met and
-/// the game is played on.
+/// A walk along a main line: the stones set up and the colour given to move, until a move is met
+/// and the game is played on.
 #[derive(Drop)]
 pub(crate) struct Walk {
     pub(crate) komi: i64,

@@ -2,9 +2,10 @@ ghost use Rattle.std.specs.Prelude.{◌≡◌, ◌≢◌, [], ◌∷◌, Err, If
 ghost use Rattle.go_record.specs.declared.error.RecordError.{RecordError};
 ghost use Rattle.go_record.specs.declared.error.RecordError.TheVariants.{Memory};
 ghost use Rattle.go_record.specs.MainLine.{events_from, events_of, Event, move as move_met, move_event, setup_event, stones, turn};
-ghost use Rattle.go_record.specs.Progress.{Goes, GoesFrom, Walked, is_nothing, playing};
+ghost use Rattle.go_record.specs.inner.Progress.{Goes, GoesFrom, Walked, is_nothing, playing};
 ghost use Rattle.go_game.specs.Standings.{GameValue};
-ghost use Rattle.go_record.specs.Walks.{IsAlive, IsDeadSetup, Outcome, Plays, start_of};
+ghost use Rattle.go_board.specs.Clearing.{AreAlive};
+ghost use Rattle.go_record.specs.Walks.{IsDeadSetup, Outcome, Plays, start_of};
 ghost use Rattle.std.specs.List.{flat_map};
 
 use crate::error::RecordError;
@@ -181,7 +182,7 @@ impl Walk {
 
     /// Begins the game from the stones set up.
     fn begin<A: Allocator + Copy>(&self, game: &mut Game<A>) -> Result<(), RecordError>
-        ensures ok { OnOk result (IsAlive self.now.grid.lines self.now.grid.colours
+        ensures ok { OnOk result (AreAlive self.now.grid.lines self.now.grid.colours
             × (game.new.standing
             ≡ start_of self.now.grid.lines self.now.komi self.now.grid.colours self.now.turn)) }
         ensures err { IfErr result (λ e. e ≢ Memory
@@ -244,7 +245,8 @@ fn refusal(count: usize, why: PlayError) -> RecordError
     }
 }
 
-/// The number after this one. Want of memory where it has no place: so many things have none.
+/// The number after this one, of a node or a move. There is none past the greatest; memory would
+/// be wanting for so many nodes long before.
 pub(crate) fn next(number: usize) -> Result<usize, RecordError>
     ensures ok { IfOk result (λ after. after ≡ number + 1) }
     ensures err { IfErr result (λ e. e ≡ Memory) }

@@ -1,12 +1,12 @@
 ghost use Rattle.std.specs.Prelude.{◌≡◌, ◌++◌, ◌∷◌, [], Some, if◌then◌else◌};
 ghost use Rattle.std.specs.List.{flat_map};
-ghost use Rattle.go_board.specs.Device.{Adds, Sent, failures_after, place};
+ghost use Rattle.go_board.specs.Device.{Sent, failures_after};
+ghost use Rattle.go_board.specs.Pens.{Writes};
 ghost use Rattle.go_board.specs.Points.{IsOn, number_of};
 ghost use Rattle.go_board.specs.Reaching.{has_colour};
-ghost use Rattle.go_board.specs.Sizes.{lines_of};
 ghost use Rattle.go_board.specs.Vertices.{IsOnBoard};
-ghost use Rattle.go_record.specs.Records.{colour_letter, point_value, record_body, record_of};
-ghost use Rattle.go_record.specs.Texts.{move_text, numbered_text, setting_text, stones_text, turn_text};
+ghost use Rattle.go_record.specs.Records.{point_value, record_body, record_of};
+ghost use Rattle.go_record.specs.inner.Texts.{move_text, numbered_text, setting_text, stones_text, turn_text};
 
 use crate::start::is_of;
 use go_board::{Colour, Move, Pen, Point, Sink, Size, Vertex, WriteFault};
@@ -24,56 +24,40 @@ pub fn write_record<A: Allocator + Copy, W: Sink>(
         (record_of game.now.standing) }
     ensures failures { W.failures writer.new ≡ failures_after result (W.failures writer.old) }
 {
-    let mut pen = Pen::new();
-    put_record(game, &mut pen, writer);
-    pen.put(b"\n", writer);
+    let mut pen = Pen::new(writer);
+    put_record(game, &mut pen);
+    pen.put(b"\n");
     pen.finish()
 }
 
 /// Writes the record of a game without the LF behind it.
-pub fn put_record<A: Allocator + Copy, W: Sink>(game: &Game<A>, pen: &mut Pen, writer: &mut W)
-    ensures { Adds (place pen.old.has_failed (W.taken writer.old) (W.failures writer.old))
-        (place pen.new.has_failed (W.taken writer.new) (W.failures writer.new))
-        (record_body game.now.standing) }
+pub fn put_record<A: Allocator + Copy, W: Sink>(game: &Game<A>, pen: &mut Pen<'_, W>)
+    ensures { Writes W.Sink pen.old pen.new (record_body game.now.standing) }
 {
-    put_setting(game, pen, writer);
-    put_turn(game, pen, writer);
-    put_stones(game, b"AB", Colour::Black, pen, writer);
-    put_stones(game, b"AW", Colour::White, pen, writer);
-    put_moves(game, pen, writer);
-    pen.put(b")", writer);
+    put_setting(game, pen);
+    put_turn(game, pen);
+    put_stones(game, b"AB", Colour::Black, pen);
+    put_stones(game, b"AW", Colour::White, pen);
+    put_moves(game, pen);
+    pen.put(b")");
 }
 
-fn put_setting<A: Allocator + Copy, W: Sink>(game: &Game<A>, pen: &mut Pen, writer: &mut W)
-    ensures { Adds (place pen.old.has_failed (W.taken writer.old) (W.failures writer.old))
-        (place pen.new.has_failed (W.taken writer.new) (W.failures writer.new))
-        (setting_text game.now.standing) }
+fn put_setting<A: Allocator + Copy, W: Sink>(game: &Game<A>, pen: &mut Pen<'_, W>)
+    ensures { Writes W.Sink pen.old pen.new (setting_text game.now.standing) }
 {
-    pen.put(b"(;GM[1]FF[4]SZ[", writer);
+    pen.put(b"(;GM[1]FF[4]SZ[");
     let mut digits = Buffer::new();
-    pen.put(digits.format(game.size().lines()).as_bytes(), writer);
-    pen.put(b"]KM[", writer);
-    pen.put(hundredths_text(game.komi()).as_bytes(), writer);
+    pen.put(digits.format(game.size().lines()).as_bytes());
+    pen.put(b"]KM[");
+    pen.put(hundredths_text(game.komi()).as_bytes());
 }
 
-fn put_turn<A: Allocator + Copy, W: Sink>(game: &Game<A>, pen: &mut Pen, writer: &mut W)
-    ensures { Adds (place pen.old.has_failed (W.taken writer.old) (W.failures writer.old))
-        (place pen.new.has_failed (W.taken writer.new) (W.failures writer.new))
-        (turn_text game.now.standing) }
+fn put_turn<A: Allocator + Copy, W: Sink>(game: &Game<A>, pen: &mut Pen<'_, W>)
+    ensures { Writes W.Sink pen.old pen.new (turn_text game.now.standing) }
 {
-    pen.put(b"]PL[", writer);
-    pen.put(letter(game.start_mover()), writer);
-    pen.put(b"]", writer);
-}
-
-/// The letter of a colour, which is the name of its moves too.
-fn letter(colour: Colour) -> &'static [u8]
-    ensures { result.now ≡ colour_letter colour }
-{
-    match colour {
-        Colour::Black => b"B",
-        Colour::White => b"W",
-    }
+    pen.put(b"]PL[");
+    pen.put(&[game.start_mover().letter()]);
+    pen.put(b"]");
 }
 
 /// Writes the stones of a colour at the start, if there are any, behind their property's name.
@@ -81,24 +65,14 @@ fn put_stones<A: Allocator + Copy, W: Sink>(
     game: &Game<A>,
     name: &[u8],
     colour: Colour,
-    pen: &mut Pen,
-    writer: &mut W,
+    pen: &mut Pen<'_, W>,
 )
-    ensures { Adds (place pen.old.has_failed (W.taken writer.old) (W.failures writer.old))
-        (place pen.new.has_failed (W.taken writer.new) (W.failures writer.new))
-        (stones_text game.now.standing name.now colour) }
+    ensures { Writes W.Sink pen.old pen.new (stones_text game.now.standing name.now colour) }
 {
     let size = game.size();
     let mut front = name;
     for number in 0..size.points() {
-        front = put_if_coloured(
-            game,
-            Point::numbered(size, number),
-            colour,
-            front,
-            pen,
-            writer,
-        );
+        front = put_if_coloured(game, Point::numbered(size, number), colour, front, pen);
     }
 }
 
@@ -109,71 +83,57 @@ fn put_if_coloured<'a, A: Allocator + Copy, W: Sink>(
     at: Point,
     colour: Colour,
     front: &'a [u8],
-    pen: &mut Pen,
-    writer: &mut W,
+    pen: &mut Pen<'_, W>,
 ) -> &'a [u8]
     requires { IsOn game.now.standing.lines at }
-    ensures stone { Adds (place pen.old.has_failed (W.taken writer.old) (W.failures writer.old))
-        (place pen.new.has_failed (W.taken writer.new) (W.failures writer.new))
+    ensures stone { Writes W.Sink pen.old pen.new
         (if has_colour game.now.standing.start (number_of game.now.standing.lines at) (Some colour)
         then front.now ++ (91 ∷ (point_value game.now.standing.lines at ++ 93 ∷ [])) else []) }
     ensures next { result.now ≡ (if has_colour game.now.standing.start
         (number_of game.now.standing.lines at) (Some colour) then [] else front.now) }
 {
     if is_of(game.start_at(at), colour) {
-        pen.put(front, writer);
-        put_point(at, game.size(), pen, writer);
+        pen.put(front);
+        put_point(at, game.size(), pen);
         return b"";
     }
     front
 }
 
-fn put_point<W: Sink>(at: Point, size: Size, pen: &mut Pen, writer: &mut W)
-    requires { IsOn (lines_of size) at }
-    ensures { Adds (place pen.old.has_failed (W.taken writer.old) (W.failures writer.old))
-        (place pen.new.has_failed (W.taken writer.new) (W.failures writer.new))
-        (91 ∷ (point_value (lines_of size) at ++ 93 ∷ [])) }
+fn put_point<W: Sink>(at: Point, size: Size, pen: &mut Pen<'_, W>)
+    requires { IsOn size at }
+    ensures { Writes W.Sink pen.old pen.new (91 ∷ (point_value size at ++ 93 ∷ [])) }
 {
     let row = size.lines() - 1 - at.row;
-    pen.put(&[b'[', b'a' + at.col, b'a' + row, b']'], writer);
+    pen.put(&[b'[', b'a' + at.col, b'a' + row, b']']);
 }
 
-fn put_moves<A: Allocator + Copy, W: Sink>(game: &Game<A>, pen: &mut Pen, writer: &mut W)
-    ensures { Adds (place pen.old.has_failed (W.taken writer.old) (W.failures writer.old))
-        (place pen.new.has_failed (W.taken writer.new) (W.failures writer.new))
+fn put_moves<A: Allocator + Copy, W: Sink>(game: &Game<A>, pen: &mut Pen<'_, W>)
+    ensures { Writes W.Sink pen.old pen.new
         (flat_map (move_text game.now.standing.lines) game.now.standing.moves) }
 {
     for number in 0..game.move_count() {
-        put_numbered(game, number, pen, writer);
+        put_numbered(game, number, pen);
     }
 }
 
 /// Writes the move with this number, if there is one.
-fn put_numbered<A: Allocator + Copy, W: Sink>(
-    game: &Game<A>,
-    number: usize,
-    pen: &mut Pen,
-    writer: &mut W,
-)
-    ensures { Adds (place pen.old.has_failed (W.taken writer.old) (W.failures writer.old))
-        (place pen.new.has_failed (W.taken writer.new) (W.failures writer.new))
-        (numbered_text game.now.standing number) }
+fn put_numbered<A: Allocator + Copy, W: Sink>(game: &Game<A>, number: usize, pen: &mut Pen<'_, W>)
+    ensures { Writes W.Sink pen.old pen.new (numbered_text game.now.standing number) }
 {
     if let Some(made) = game.move_at(number) {
-        put_move(made, game.size(), pen, writer);
+        put_move(made, game.size(), pen);
     }
 }
 
-fn put_move<W: Sink>(made: Move, size: Size, pen: &mut Pen, writer: &mut W)
-    requires { IsOnBoard (lines_of size) made.vertex }
-    ensures { Adds (place pen.old.has_failed (W.taken writer.old) (W.failures writer.old))
-        (place pen.new.has_failed (W.taken writer.new) (W.failures writer.new))
-        (move_text (lines_of size) made) }
+fn put_move<W: Sink>(made: Move, size: Size, pen: &mut Pen<'_, W>)
+    requires { IsOnBoard size made.vertex }
+    ensures { Writes W.Sink pen.old pen.new (move_text size made) }
 {
-    pen.put(b";", writer);
-    pen.put(letter(made.colour), writer);
+    pen.put(b";");
+    pen.put(&[made.colour.letter()]);
     match made.vertex {
-        Vertex::Pass => pen.put(b"[]", writer),
-        Vertex::At(p) => put_point(p, size, pen, writer),
+        Vertex::Pass => pen.put(b"[]"),
+        Vertex::At(p) => put_point(p, size, pen),
     }
 }

@@ -6,8 +6,8 @@ use Rattle.std.specs.List.{flat_map}
 use Rattle.go_sgf.specs.Record.{Property, Trees, none, tree, AreTrees, depth}
 use Rattle.go_sgf.specs.Spelling.{Part, closing, text, after_space, is_space, node_parts, parts, SpellsParts}
 use Rattle.go_sgf.specs.Stands.{State, Place, step, run, stands, opened, whole, IsUnfinished, IsWhole}
-use Rattle.go_sgf.specs.Outcome.{outcome, outcome_on, IsWithin}
-use Rattle.go_sgf.specs.Reads.{begins_space}
+use Rattle.go_sgf.specs.inner.Outcome.{outcome, outcome_on, IsWithin}
+use Rattle.go_sgf.specs.inner.Reads.{begins_space}
 use Rattle.go_sgf.specs.Laws.{FrontsStand}
 use Rattle.go_sgf.specs.declared.fault.Fault.TheVariants.{End, TooDeep}
 use Rattle.go_sgf.proofs.Machine as machine

@@ -6,8 +6,8 @@ use Rattle.std.specs.List.{flat_map, AllByRecursion}
 use Rattle.go_sgf.specs.Record.{Property, Trees, IsProperty, AreTrees, depth}
 use Rattle.go_sgf.specs.Spelling.{Part, opening, closing, node_parts, parts, after_space, begins_with, SpellsParts}
 use Rattle.go_sgf.specs.Stands.{Place, opened, closed}
-use Rattle.go_sgf.specs.Outcome.{outcome, outcome_after, IsWithin, here}
-use Rattle.go_sgf.specs.Reads.{ReadsNodes, ReadsTree}
+use Rattle.go_sgf.specs.inner.Outcome.{outcome, outcome_after, IsWithin, here}
+use Rattle.go_sgf.specs.inner.Reads.{ReadsNodes, ReadsTree}
 use Rattle.go_sgf.specs.PartsIn.{nodes_at, parts_in}
 use Rattle.go_sgf.specs.View.{chain, tree_of, tree_step}
 use Rattle.go_sgf.specs.declared.record.Tree.{Tree}

@@ -4,7 +4,7 @@ use Rattle.std.proofs.lemmas.Bool.{and_parts, not-true, not-false, or_parts, or_
 use Rattle.std.proofs.lemmas.List.{take-append-drop, take_at, length-take-le}
 use Rattle.std.specs.List.{list_all}
 use Rattle.go_sgf.specs.Record.{is_inside, IsValue}
-use Rattle.go_sgf.specs.Reads.{is_ordinary}
+use Rattle.go_sgf.specs.inner.Reads.{is_ordinary}
 
 pub is_inside-append : (e : Bool) (v w : List ℕ) → is_inside e v ≡ true → is_inside e (v ++ w) ≡ is_inside false w
 is_inside-append true [] w h = cc

@@ -7,8 +7,9 @@ use Rattle.std.specs.List.{list_all, list_any}
 use Rattle.go_sgf.specs.Record.{is_upper, is_lower, is_letter, is_inside}
 use Rattle.go_sgf.specs.Spelling.{after_space, begins_with, is_space}
 use Rattle.go_sgf.specs.Stands.{State, Place, step, outside, on_space, on_open, on_close, on_semicolon, on_bracket, on_upper, on_lower, opened, in_node, low, named, gap, in_value, escape, after, closed}
-use Rattle.go_sgf.specs.Outcome.{outcome, outcome_on, IsWithin, here}
-use Rattle.go_sgf.specs.Reads.{begins_letter, begins_space, is_ordinary}
+use Rattle.go_sgf.specs.inner.Outcome.{outcome, outcome_on, IsWithin, here}
+use Rattle.go_sgf.specs.inner.Reads.{begins_space, is_ordinary}
+use Rattle.go_sgf.specs.PartsIn.{begins_letter}
 use Rattle.go_sgf.specs.declared.fault.Fault.TheVariants.{End, Unexpected}
 use Rattle.go_sgf.proofs.Inside.{ordinary_inside}
 use Rattle.go_sgf.proofs.Scanning.{after_space_more, after_space_stop}

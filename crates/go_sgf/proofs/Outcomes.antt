@@ -5,8 +5,8 @@ use Rattle.std.specs.List.{flat_map, AllByRecursion}
 use Rattle.go_sgf.specs.Record.{Property, Trees, none, tree, is_upper, is_lower, IsValue, IsProperty, AreTrees, depth}
 use Rattle.go_sgf.specs.Spelling.{closing, value, property_parts, node_parts, parts, after_space, SpellsParts}
 use Rattle.go_sgf.specs.Stands.{State, opened, in_node, named, after, closed}
-use Rattle.go_sgf.specs.Outcome.{outcome, outcome_after, IsWithin}
-use Rattle.go_sgf.specs.Reads.{begins_letter}
+use Rattle.go_sgf.specs.inner.Outcome.{outcome, outcome_after, IsWithin}
+use Rattle.go_sgf.specs.PartsIn.{begins_letter}
 use Rattle.go_sgf.proofs.Growing.{closes, out_of_child}
 use Rattle.go_sgf.proofs.Machine as machine
 use Rattle.go_sgf.proofs.Parts.{SpellsParts-split, bracket_no_letter, name_letter}

@@ -5,7 +5,8 @@ use Rattle.std.proofs.lemmas.Bool.Decides.{nat_tests}
 use Rattle.std.specs.List.{list_all, AllByRecursion}
 use Rattle.go_sgf.specs.Spelling.{Part, text, after_space, is_space, SpellsParts}
 use Rattle.go_sgf.specs.Record.{is_letter, IsName}
-use Rattle.go_sgf.specs.Reads.{begins_letter, begins_space}
+use Rattle.go_sgf.specs.inner.Reads.{begins_space}
+use Rattle.go_sgf.specs.PartsIn.{begins_letter}
 use Rattle.go_sgf.proofs.Scanning.{after_space_more, after_space_stop}
 
 -- ---- lists

@@ -9,8 +9,8 @@ use Rattle.std.specs.Borrow.{Bor}
 use Rattle.std.specs.List.{list_all, flat_map, AllByRecursion}
 use Rattle.go_sgf.specs.Record.{Property, is_letter, is_inside, IsValue, IsProperty}
 use Rattle.go_sgf.specs.Spelling.{Part, opening, closing, semicolon, name, value, property_parts, node_parts, after_space, is_space, begins_with, SpellsParts}
-use Rattle.go_sgf.specs.Reads.{ReadsNodes, begins_letter, begins_space}
-use Rattle.go_sgf.specs.PartsIn.{nodes_at, parts_from, parts_in, properties_at, values_at, with_byte, with_letter}
+use Rattle.go_sgf.specs.inner.Reads.{ReadsNodes, begins_space}
+use Rattle.go_sgf.specs.PartsIn.{begins_letter, nodes_at, parts_from, parts_in, properties_at, values_at, with_byte, with_letter}
 use Rattle.go_sgf.proofs.Parts.{SpellsParts-split, bracket_no_letter, length-after_space, name_letter, no_space_after, no_space_first}
 use Rattle.go_sgf.proofs.Scanning.{after_space_more, after_space_stop}
 

@@ -7,8 +7,9 @@ use Rattle.std.specs.List.{list_all, list_any, flat_map, AllByRecursion}
 use Rattle.go_sgf.specs.Record.{Property, is_letter, is_upper, IsValue, IsName, IsProperty}
 use Rattle.go_sgf.specs.Spelling.{Part, value, property_parts, node_parts, after_space, begins_with, SpellsParts}
 use Rattle.go_sgf.specs.Stands.{opened, in_node, named, gap, in_value, after, closed}
-use Rattle.go_sgf.specs.Outcome.{outcome, Meets, IsWithin, here}
-use Rattle.go_sgf.specs.Reads.{ReadsValues, ReadsProperty, ReadsNode, ReadsNodes, begins_letter}
+use Rattle.go_sgf.specs.inner.Outcome.{outcome, Meets, IsWithin, here}
+use Rattle.go_sgf.specs.inner.Reads.{ReadsValues, ReadsProperty, ReadsNode, ReadsNodes}
+use Rattle.go_sgf.specs.PartsIn.{begins_letter}
 use Rattle.go_sgf.specs.declared.fault.Fault.{Fault}
 use Rattle.go_sgf.specs.declared.fault.Fault.TheVariants.{Memory, End, Unexpected, TooDeep}
 use Rattle.go_sgf.specs.declared.limits.TheConstants.{MAX_DEPTH}

@@ -3,7 +3,7 @@ use Rattle.std.proofs.Common.{◌≡◌, ℕ, zero, suc, ◌<◌, List, [], ◌�
 use Rattle.std.proofs.lemmas.Bool.{not_from_false, false_from_ne_true}
 use Rattle.std.specs.List.{list_all}
 use Rattle.memchr.specs.Find.{is_byte2}
-use Rattle.go_sgf.specs.Reads.{is_ordinary}
+use Rattle.go_sgf.specs.inner.Reads.{is_ordinary}
 use Rattle.go_sgf.specs.Spelling.{after_space, begins_tree, from_tree, is_space}
 
 pub after_space_more : (c : ℕ) (cs : List ℕ) → is_space c ≡ true → after_space (c ∷ cs) ≡ after_space cs

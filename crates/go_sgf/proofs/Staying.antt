@@ -6,9 +6,9 @@ use Rattle.std.specs.Prelude.{Option, Some, None, IfSome}
 use Rattle.std.specs.List.{flat_map, filter, list_all}
 use Rattle.go_sgf.specs.Record.{Property, is_letter, is_upper, IsValue}
 use Rattle.go_sgf.specs.Spelling.{Part, semicolon, name, value, after_space, begins_with}
-use Rattle.go_sgf.specs.Reads.{begins_letter, begins_space}
-use Rattle.go_sgf.specs.PartsIn.{nodes_at, parts_in, properties_at, values_at}
-use Rattle.go_sgf.specs.Texts.{StayValues, Stays, node_text, parts_text, property_text, value_text}
+use Rattle.go_sgf.specs.inner.Reads.{begins_space}
+use Rattle.go_sgf.specs.PartsIn.{begins_letter, nodes_at, parts_in, properties_at, values_at}
+use Rattle.go_sgf.specs.inner.Texts.{StayValues, Stays, node_text, parts_text, property_text, value_text}
 use Rattle.go_sgf.proofs.Passing.{flat_map-push}
 use Rattle.go_sgf.proofs.PartsIn.{first_part, name_first, no_part, nodes_passed_values, semicolon_part, values_given, values_passed}
 use Rattle.go_sgf.proofs.Written.{filter-all, node_text-is, property_text-is}

@@ -5,8 +5,8 @@ use Rattle.std.specs.List.{flat_map, AllByRecursion}
 use Rattle.go_sgf.specs.Record.{Property, Trees, none, tree, IsProperty, AreTrees, depth}
 use Rattle.go_sgf.specs.Spelling.{Part, opening, closing, begins_with, node_parts, parts, after_space, begins_tree, from_tree, Spells, SpellsParts}
 use Rattle.go_sgf.specs.Stands.{stands, run, opened, IsAtDepth}
-use Rattle.go_sgf.specs.Outcome.{outcome, left_of, place_of, Meets}
-use Rattle.go_sgf.specs.Reads.{ReadsTree}
+use Rattle.go_sgf.specs.inner.Outcome.{outcome, left_of, place_of, Meets}
+use Rattle.go_sgf.specs.inner.Reads.{ReadsTree}
 use Rattle.go_sgf.specs.Refusals.{StopsAt, EndsAt, StandsNoLonger, StandsTooDeep, IsRefusal}
 use Rattle.go_sgf.specs.View.{chain}
 use Rattle.go_sgf.specs.declared.fault.Fault.{Fault}

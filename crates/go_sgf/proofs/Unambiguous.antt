@@ -5,7 +5,8 @@ use Rattle.std.proofs.lemmas.Bool.Decides.{nat_tests}
 use Rattle.std.specs.List.{list_all, flat_map, AllByRecursion}
 use Rattle.go_sgf.specs.Record.{Property, Trees, none, tree, is_letter, is_inside, IsValue, IsProperty, AreTrees}
 use Rattle.go_sgf.specs.Spelling.{Part, closing, value, property_parts, node_parts, parts, after_space, begins_tree, begins_with, from_tree, SpellsParts}
-use Rattle.go_sgf.specs.Reads.{begins_letter, begins_space}
+use Rattle.go_sgf.specs.inner.Reads.{begins_space}
+use Rattle.go_sgf.specs.PartsIn.{begins_letter}
 use Rattle.go_sgf.specs.Laws.{OneRecord}
 use Rattle.go_sgf.proofs.Parts.{SpellsParts-split, bracket_no_letter, name_letter, after_space-same, no_space_after}
 use Rattle.go_sgf.proofs.Stops.{tree_begins}

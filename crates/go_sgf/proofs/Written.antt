@@ -7,7 +7,7 @@ use Rattle.std.proofs.lemmas.List.{append-nil, map-append, take_all, take_more}
 use Rattle.std.specs.List.{flat_map, filter, list_all}
 use Rattle.go_sgf.specs.Record.{Property, Trees, is_upper, plain, plain_property}
 use Rattle.go_sgf.specs.Spelling.{Part, opening, closing, value, text, joined, node_parts, property_parts, parts, tree_text, canonical}
-use Rattle.go_sgf.specs.Texts.{value_text, property_text, node_text, text_of}
+use Rattle.go_sgf.specs.inner.Texts.{value_text, property_text, node_text, text_of}
 use Rattle.go_sgf.specs.PartsIn.{nodes_at, parts_in}
 use Rattle.go_sgf.specs.View.{chain, tree_of, tree_step, trees_of}
 use Rattle.go_sgf.specs.declared.record.Tree.{Tree}

@@ -2,13 +2,11 @@ pub mod Record
 pub mod View
 pub mod Spelling
 pub mod Stands
-pub mod Outcome
-pub mod Reads
 pub mod Refusals
-pub mod Texts
 pub mod Laws
 pub mod Cooked
 pub mod Numbers
 pub mod BoardValues
 pub mod Rectangles
 pub mod PartsIn
+pub mod inner

@@ -3,7 +3,7 @@ use Rattle.std.specs.Prelude.{ℕ, ℤ, pos, ◌+◌, ◌-◌, ◌*◌, ◌-ℤ�
 use Rattle.std.specs.Char.{is_ascii_digit}
 use Rattle.std.specs.List.{list_all}
 use Rattle.go_sgf.specs.Spelling.{after_space}
-use Rattle.go_sgf.specs.declared.numbers.TheConstants.{MAX_NUMBER}
+use Rattle.go_board.specs.Decimals.{int_of, is_empty, value_of_digits}
 use Rattle.go_sgf.specs.declared.hundredths.TheConstants.{MOST_HUNDREDTHS}
 
 -- without the white space at the end
@@ -13,20 +13,6 @@ trimmed_end v = reverse (after_space (reverse v))
 -- without the white space at both ends
 abbrev pub trimmed : List ℕ → List ℕ
 trimmed v = trimmed_end (after_space v)
-
-abbrev pub is_empty : List ℕ → Bool
-is_empty [] = true
-is_empty (c ∷ cs) = false
-
--- the value of decimal digits
-abbrev pub value_of : List ℕ → ℕ
-value_of digits = fold (λ value c. 10 * value + (c - 48)) 0 digits
-
--- one or more digits, with a value that is at most MAX_NUMBER
-abbrev pub int_of : List ℕ → Option ℕ
-int_of digits =
-    if (not (is_empty digits) && list_all is_ascii_digit digits) && nat_le (value_of digits) MAX_NUMBER
-    then Some (value_of digits) else None
 
 abbrev pub behind_plus : List ℕ → List ℕ
 behind_plus [] = []
@@ -65,7 +51,7 @@ is_decimal whole decimals =
 
 -- the digits with two decimals
 abbrev pub hundredths_in : List ℕ → List ℕ → ℕ
-hundredths_in whole decimals = value_of (whole ++ take 2 (decimals ++ codes "00"))
+hundredths_in whole decimals = value_of_digits (whole ++ take 2 (decimals ++ codes "00"))
 
 abbrev pub size_by : List ℕ → List ℕ → Option ℕ
 size_by whole decimals =

@@ -2,7 +2,10 @@
 use Rattle.std.specs.Prelude.{ℕ, ◌==◌, if◌then◌else◌, Bool, true, false, List, [], ◌∷◌, Option, Some, None}
 use Rattle.go_sgf.specs.Record.{Property, is_letter}
 use Rattle.go_sgf.specs.Spelling.{Part, semicolon, name, value, is_space}
-use Rattle.go_sgf.specs.Reads.{begins_letter}
+
+abbrev pub begins_letter : List ℕ → Bool
+begins_letter [] = false
+begins_letter (c ∷ cs) = is_letter c
 
 -- a letter, where letters follow or not, before the parts behind it
 abbrev pub with_letter : ℕ → Bool → List Part → List Part

@@ -1,9 +1,11 @@
 ghost use Rattle.std.specs.Prelude.{◌≡◌, ◌+◌, ◌-◌, ◌*◌, ◌<◌, ◌≤◌, ◌==◌, ◌++◌, ◌≤ℤ◌, codes, drop, length, min, negsuc, option_map, position, pos, IfSome, slice_index_or, take, true, unwrap_or};
 ghost use Rattle.std.specs.Char.{is_ascii_digit};
 ghost use Rattle.std.specs.List.{list_all};
-ghost use Rattle.go_sgf.specs.Numbers.{decimals_in, hundredths_in, hundredths_of as hundredths_by, is_decimal, komi_of, point_place, size_by, size_of_number, value_of, whole_part, with_sign};
+ghost use Rattle.go_board.specs.Decimals.{value_of_digits};
+ghost use Rattle.go_sgf.specs.Numbers.{decimals_in, hundredths_in, hundredths_of as hundredths_by, is_decimal, komi_of, point_place, size_by, size_of_number, whole_part, with_sign};
 
-use crate::numbers::{are_digits, trim, value_of_digits, with_digit};
+use crate::numbers::trim;
+use go_board::{are_digits, value_of_digits, with_digit};
 
 /// The most hundredths that a komi has, either way.
 pub const MOST_HUNDREDTHS: u64 = 99_999_999_999;

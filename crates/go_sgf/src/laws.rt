@@ -5,14 +5,11 @@ ghost use Rattle.go_sgf.specs.Cooked.{CookedByFront, CookingUndoesEscaping};
 ghost use Rattle.go_sgf.specs.Laws.{CanonicalSpellsPlain, FrontsStand, OneRecord, SpelledIsFit};
 ghost use Rattle.go_sgf.specs.declared.hundredths.TheConstants.{MOST_HUNDREDTHS};
 ghost use Rattle.go_sgf.specs.declared.limits.TheConstants.{MAX_DEPTH, MAX_RECORD};
-ghost use Rattle.go_sgf.specs.declared.numbers.TheConstants.{MAX_NUMBER};
 
-/// The most bytes and the deepest nesting of a record, and the greatest number and the most
-/// hundredths that a value spells.
+/// The most bytes and the deepest nesting of a record, and the most hundredths that a value spells.
 pub fn limits()
     ensures bytes { MAX_RECORD ≡ 16777216 }
     ensures depth { MAX_DEPTH ≡ 1000 }
-    ensures number { MAX_NUMBER ≡ 2147483647 }
     ensures hundredths { MOST_HUNDREDTHS ≡ 99999999999 }
 {}
 

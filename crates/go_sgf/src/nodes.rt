@@ -1,6 +1,7 @@
 ghost use Rattle.std.specs.Prelude.{◌≡◌, [], bytes_eq, filter, false};
 ghost use Rattle.go_sgf.specs.PartsIn.{nodes_at, parts_in, properties_at, values_at};
-ghost use Rattle.go_sgf.specs.Reads.{begins_letter as is_letter_first, begins_space};
+ghost use Rattle.go_sgf.specs.inner.Reads.{begins_space};
+ghost use Rattle.go_sgf.specs.PartsIn.{begins_letter as is_letter_first};
 ghost use Rattle.go_sgf.specs.Record.{is_upper as is_upper_byte, plain_property};
 
 use crate::scan::{begins_letter, is_upper, letters, strip};
@@ -10,7 +11,9 @@ use std::marker::Model;
 /// A property: a name and its values, as they stand in the source.
 #[derive(Drop)]
 pub struct Property<'a> {
+    /// As it is written, with any lower-case letters.
     name: &'a [u8],
+    /// The source from behind the name on.
     text: &'a [u8],
 }
 
@@ -39,9 +42,11 @@ impl<'a> Property<'a> {
     }
 }
 
-/// The properties of a node, in the source's order. A contract sees it as the list of those to come.
+/// The properties of a node, in the source's order. A contract sees it as the list of those to
+/// come.
 #[derive(Drop)]
 pub struct Properties<'a> {
+    /// The source from the next of them on.
     text: &'a [u8],
 }
 

@@ -1,6 +1,5 @@
 ghost use Rattle.std.specs.Prelude.{◌≡◌, ◌<◌, ◌==◌, All, IfSome, length, option_map, position};
 ghost use Rattle.go_board.specs.Points.{IsOn};
-ghost use Rattle.go_board.specs.Sizes.{lines_of};
 ghost use Rattle.go_board.specs.Vertices.{IsOnBoard};
 ghost use Rattle.go_sgf.specs.BoardValues.{is_pass as is_pass_word, names_line, point_in, point_of as point_by, points_alone, points_in as points_by};
 ghost use Rattle.go_sgf.specs.Rectangles.{listed};
@@ -13,8 +12,8 @@ use go_board::{Point, Size, Vertex};
 /// top, `a` the first. An empty value is a pass, and so is `tt` on boards where it is no point.
 /// White space at both ends is skipped. None where the value is neither.
 pub fn point_of(value: &[u8], size: Size) -> Option<Vertex>
-    ensures value { result ≡ point_by (lines_of size) value.now }
-    ensures on { IfSome result (IsOnBoard (lines_of size)) }
+    ensures value { result ≡ point_by size value.now }
+    ensures on { IfSome result (IsOnBoard size) }
 {
     let word = trim(value);
     match read_point(word, size) {
@@ -35,8 +34,8 @@ fn is_pass(word: &[u8]) -> bool
 }
 
 fn read_point(word: &[u8], size: Size) -> Option<Point>
-    ensures value { result ≡ point_in (lines_of size) word.now }
-    ensures on { IfSome result (IsOn (lines_of size)) }
+    ensures value { result ≡ point_in size word.now }
+    ensures on { IfSome result (IsOn size) }
 {
     match word {
         [column, row] if is_line(*column, size) && is_line(*row, size) => Some(Point {
@@ -48,17 +47,17 @@ fn read_point(word: &[u8], size: Size) -> Option<Point>
 }
 
 fn is_line(letter: u8, size: Size) -> bool
-    ensures { result ≡ names_line (lines_of size) letter }
+    ensures { result ≡ names_line size letter }
 {
     b'a' <= letter && letter <= b'z' && letter - b'a' < size.lines()
 }
 
-/// The points that one value names: a point, or two opposite corners of a rectangle with `:` between
-/// them, or nothing, for no point. White space at both ends of the value or of a corner is skipped.
-/// None where the value is malformed.
+/// The points that one value names: a point, or two opposite corners of a rectangle with `:`
+/// between them, or nothing, for no point. White space at both ends of the value or of a corner is
+/// skipped. None where the value is malformed.
 pub fn points_in(value: &[u8], size: Size) -> Option<Rectangle>
-    ensures value { option_map listed result ≡ points_by (lines_of size) value.now }
-    ensures on { IfSome result (λ r. All (IsOn (lines_of size)) (listed r)) }
+    ensures value { option_map listed result ≡ points_by size value.now }
+    ensures on { IfSome result (λ r. All (IsOn size) (listed r)) }
 {
     match colon_in(value) {
         Some(place) => {
@@ -80,8 +79,8 @@ fn colon_in(value: &[u8]) -> Option<usize>
 
 /// The point of a word, or no point where the word is empty.
 fn point_alone(word: &[u8], size: Size) -> Option<Rectangle>
-    ensures value { option_map listed result ≡ points_alone (lines_of size) word.now }
-    ensures on { IfSome result (λ r. All (IsOn (lines_of size)) (listed r)) }
+    ensures value { option_map listed result ≡ points_alone size word.now }
+    ensures on { IfSome result (λ r. All (IsOn size) (listed r)) }
 {
     if word.is_empty() {
         return Some(Rectangle::empty());

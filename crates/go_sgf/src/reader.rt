@@ -1,7 +1,7 @@
 ghost use Rattle.std.specs.Prelude.{◌≡◌, ◌≤◌, ◌+◌, ◌++◌, ◌∷◌, ℕ, List, Err, IfOk, OnOk, [], false, true, IfErr, ◌<◌, ◌↔◌, length};
-ghost use Rattle.go_sgf.specs.Outcome.{IsWithin, Meets, here, left_of, outcome, outcome_after, place_of};
-ghost use Rattle.go_sgf.specs.Reads.{ReadsNode, ReadsNodes, ReadsProperty, ReadsTree, ReadsValues, begins_letter as is_letter_first};
-ghost use Rattle.go_sgf.specs.PartsIn.{nodes_at, parts_in};
+ghost use Rattle.go_sgf.specs.inner.Outcome.{IsWithin, Meets, here, left_of, outcome, outcome_after, place_of};
+ghost use Rattle.go_sgf.specs.inner.Reads.{ReadsNode, ReadsNodes, ReadsProperty, ReadsTree, ReadsValues};
+ghost use Rattle.go_sgf.specs.PartsIn.{begins_letter as is_letter_first, nodes_at, parts_in};
 ghost use Rattle.go_sgf.specs.Record.{Property};
 ghost use Rattle.go_sgf.specs.Refusals.{IsRefusal};
 ghost use Rattle.go_sgf.specs.Spelling.{Spells, begins_with as begins_with_by};

@@ -7,6 +7,7 @@ use std::alloc::Allocator;
 /// A tree: its nodes, then the trees that go on from the last of them.
 #[derive(Drop)]
 pub struct Tree<'a, A: Allocator + Copy> {
+    /// The source from behind the tree's `(` on.
     pub(crate) text: &'a [u8],
     pub(crate) children: Vec<Tree<'a, A>, A>,
 }

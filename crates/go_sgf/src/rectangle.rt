@@ -12,8 +12,10 @@ use std::marker::Model;
 /// its rows, and over the points of each, costs no more than these points.
 #[derive(Clone, Copy)]
 pub struct Rectangle {
+    /// The leftmost column, and how many there are.
     column: u8,
     columns: u8,
+    /// The lowest row, and how many there are.
     row: u8,
     rows: u8,
 }
@@ -108,6 +110,7 @@ impl Rectangle {
 #[derive(Drop)]
 pub struct Row {
     row: u8,
+    /// The column of the next point, and how many are to come.
     column: u8,
     columns: u8,
 }

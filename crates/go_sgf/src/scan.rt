@@ -1,7 +1,8 @@
 ghost use Rattle.std.specs.Prelude.{◌≡◌, ◌∷◌, ◌++◌, ◌||◌, ◌==◌, IfNone, IfSome, IsTrue, false, true};
 ghost use Rattle.std.specs.List.{list_all, list_any};
 ghost use Rattle.memchr.specs.Find.{IsFirstByte, is_byte2};
-ghost use Rattle.go_sgf.specs.Reads.{begins_letter as is_letter_first, is_ordinary};
+ghost use Rattle.go_sgf.specs.inner.Reads.{is_ordinary};
+ghost use Rattle.go_sgf.specs.PartsIn.{begins_letter as is_letter_first};
 ghost use Rattle.go_sgf.specs.Record.{is_letter as is_letter_byte, is_upper as is_upper_byte};
 ghost use Rattle.go_sgf.specs.Spelling.{after_space as without_space, begins_tree as is_tree_first, begins_with as is_first, from_tree as tree_in, is_space};
 
@@ -139,8 +140,8 @@ pub(crate) fn from_tree(bytes: &[u8]) -> &[u8]
     rest
 }
 
-/// How many bytes of a value are looked at one by one. Most values have fewer, and have ended before a
-/// search over many bytes at once has begun.
+/// How many bytes of a value are looked at one by one. Most values have fewer, and have ended
+/// before a search over many bytes at once has begun.
 const NEAR: usize = 16;
 
 /// Whether a byte is `]` or `\`.

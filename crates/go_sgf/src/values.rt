@@ -1,9 +1,9 @@
 ghost use Rattle.std.specs.Prelude.{◌≡◌, ◌<◌, ◌≤◌, ◌∷◌, ◌++◌, [], ℕ, Err, IfNone, IfSome, Some, length, false};
 ghost use Rattle.go_sgf.specs.declared.fault.Fault.TheVariants.{End};
 ghost use Rattle.go_sgf.specs.declared.limits.TheConstants.{MAX_DEPTH};
-ghost use Rattle.go_sgf.specs.Outcome.{IsWithin, outcome};
+ghost use Rattle.go_sgf.specs.inner.Outcome.{IsWithin, outcome};
 ghost use Rattle.go_sgf.specs.PartsIn.{nodes_at, parts_from, parts_in, properties_at, values_at};
-ghost use Rattle.go_sgf.specs.Reads.{begins_space};
+ghost use Rattle.go_sgf.specs.inner.Reads.{begins_space};
 ghost use Rattle.go_sgf.specs.Record.{IsValue};
 ghost use Rattle.go_sgf.specs.Spelling.{value as value_part};
 ghost use Rattle.go_sgf.specs.Stands.{in_value};
@@ -11,10 +11,11 @@ ghost use Rattle.go_sgf.specs.Stands.{in_value};
 use crate::scan::{after_space, ordinary, strip};
 use std::marker::Model;
 
-/// The values of a property, in the source's order, without their brackets. A contract sees it as the
-/// list of those to come.
+/// The values of a property, in the source's order, without their brackets. A contract sees it as
+/// the list of those to come.
 #[derive(Drop)]
 pub struct Values<'a> {
+    /// The source from the next of them on.
     text: &'a [u8],
 }
 

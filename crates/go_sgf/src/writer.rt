@@ -1,11 +1,12 @@
 ghost use Rattle.std.specs.Prelude.{◌≡◌, ◌≤◌, ◌++◌, ℕ, List, [], false, filter, length};
 ghost use Rattle.std.specs.List.{flat_map};
-ghost use Rattle.go_board.specs.Device.{Adds, Sent, failures_after, place};
+ghost use Rattle.go_board.specs.Device.{Sent, failures_after};
+ghost use Rattle.go_board.specs.Pens.{Writes};
 ghost use Rattle.go_sgf.specs.PartsIn.{nodes_at, parts_in, values_at};
-ghost use Rattle.go_sgf.specs.Reads.{begins_space};
+ghost use Rattle.go_sgf.specs.inner.Reads.{begins_space};
 ghost use Rattle.go_sgf.specs.Record.{is_upper as is_upper_byte};
 ghost use Rattle.go_sgf.specs.Spelling.{begins_with as is_first, canonical};
-ghost use Rattle.go_sgf.specs.Texts.{node_text, parts_text, text_of, value_text};
+ghost use Rattle.go_sgf.specs.inner.Texts.{node_text, parts_text, text_of, value_text};
 ghost use Rattle.go_sgf.specs.View.{collection_of};
 
 use crate::nodes::behind_properties;
@@ -26,60 +27,52 @@ pub fn write<A: Allocator + Copy, W: Sink>(
         (canonical (collection_of collection.now)) }
     ensures failures { W.failures writer.new ≡ failures_after result (W.failures writer.old) }
 {
-    let mut pen = Pen::new();
-    put_collection(collection, &mut pen, writer);
+    let mut pen = Pen::new(writer);
+    put_collection(collection, &mut pen);
     pen.finish()
 }
 
 fn put_collection<A: Allocator + Copy, W: Sink>(
     collection: &Collection<'_, A>,
-    pen: &mut Pen,
-    writer: &mut W,
+    pen: &mut Pen<'_, W>,
 )
-    ensures { Adds (place pen.old.has_failed (W.taken writer.old) (W.failures writer.old))
-        (place pen.new.has_failed (W.taken writer.new) (W.failures writer.new))
-        (canonical (collection_of collection.now)) }
+    ensures { Writes W.Sink pen.old pen.new (canonical (collection_of collection.now)) }
 {
     for tree in collection.trees.as_slice() {
-        put_tree(tree, pen, writer);
-        pen.put(b"\n", writer);
+        put_tree(tree, pen);
+        pen.put(b"\n");
     }
 }
 
-fn put_tree<A: Allocator + Copy, W: Sink>(tree: &Tree<'_, A>, pen: &mut Pen, writer: &mut W)
-    ensures { Adds (place pen.old.has_failed (W.taken writer.old) (W.failures writer.old))
-        (place pen.new.has_failed (W.taken writer.new) (W.failures writer.new))
-        (text_of tree.now) }
+fn put_tree<A: Allocator + Copy, W: Sink>(tree: &Tree<'_, A>, pen: &mut Pen<'_, W>)
+    ensures { Writes W.Sink pen.old pen.new (text_of tree.now) }
 {
-    pen.put(b"(", writer);
-    put_nodes(tree.text, pen, writer);
+    pen.put(b"(");
+    put_nodes(tree.text, pen);
     for child in tree.children.as_slice() {
-        put_tree(child, pen, writer);
+        put_tree(child, pen);
     }
-    pen.put(b")", writer);
+    pen.put(b")");
 }
 
 /// Writes the nodes at a text's front. What stands there just as it is written goes in one piece.
-fn put_nodes<W: Sink>(text: &[u8], pen: &mut Pen, writer: &mut W)
-    ensures { Adds (place pen.old.has_failed (W.taken writer.old) (W.failures writer.old))
-        (place pen.new.has_failed (W.taken writer.new) (W.failures writer.new))
-        (flat_map node_text (nodes_at (parts_in text.now))) }
+fn put_nodes<W: Sink>(text: &[u8], pen: &mut Pen<'_, W>)
+    ensures { Writes W.Sink pen.old pen.new (flat_map node_text (nodes_at (parts_in text.now))) }
 {
-    let mut rest = put_verbatim(behind_properties(text), pen, writer);
+    let mut rest = put_verbatim(behind_properties(text), pen);
     while begins_letter(rest) {
         let (name, behind) = letters(rest);
-        put_name(name, pen, writer);
-        put_values(Values::at(behind), pen, writer);
-        rest = put_verbatim(behind, pen, writer);
+        put_name(name, pen);
+        put_values(Values::at(behind), pen);
+        rest = put_verbatim(behind, pen);
     }
 }
 
-/// Writes the `;` and properties behind the values at a text's front, as far as they stand there just
-/// as they are written, and gives what follows them. White space is left out.
-fn put_verbatim<'a, W: Sink>(text: &'a [u8], pen: &mut Pen, writer: &mut W) -> &'a [u8]
+/// Writes the `;` and properties behind the values at a text's front, as far as they stand there
+/// just as they are written, and gives what follows them. White space is left out.
+fn put_verbatim<'a, W: Sink>(text: &'a [u8], pen: &mut Pen<'_, W>) -> &'a [u8]
     ensures written { (more : List ℕ)
-        × Adds (place pen.old.has_failed (W.taken writer.old) (W.failures writer.old))
-        (place pen.new.has_failed (W.taken writer.new) (W.failures writer.new)) more
+        × Writes W.Sink pen.old pen.new more
         × (parts_text (parts_in text.now) ≡ more ++ parts_text (parts_in result.now)) }
     ensures trimmed { begins_space result.now ≡ false }
     ensures values { values_at (parts_in result.now) ≡ [] }
@@ -88,45 +81,39 @@ fn put_verbatim<'a, W: Sink>(text: &'a [u8], pen: &mut Pen, writer: &mut W) -> &
 {
     let mut rest = behind_values(text);
     while let Some((front, more)) = verbatim(rest) {
-        pen.put(front, writer);
+        pen.put(front);
         rest = behind_values(more);
     }
     rest
 }
 
 /// The upper-case letters of a name.
-fn put_name<W: Sink>(name: &[u8], pen: &mut Pen, writer: &mut W)
-    ensures { Adds (place pen.old.has_failed (W.taken writer.old) (W.failures writer.old))
-        (place pen.new.has_failed (W.taken writer.new) (W.failures writer.new))
-        (filter is_upper_byte name.now) }
+fn put_name<W: Sink>(name: &[u8], pen: &mut Pen<'_, W>)
+    ensures { Writes W.Sink pen.old pen.new (filter is_upper_byte name.now) }
 {
     if is_plain(name) {
-        pen.put(name, writer);
+        pen.put(name);
     } else {
-        put_upper(name, pen, writer);
+        put_upper(name, pen);
     }
 }
 
-fn put_upper<W: Sink>(name: &[u8], pen: &mut Pen, writer: &mut W)
-    ensures { Adds (place pen.old.has_failed (W.taken writer.old) (W.failures writer.old))
-        (place pen.new.has_failed (W.taken writer.new) (W.failures writer.new))
-        (filter is_upper_byte name.now) }
+fn put_upper<W: Sink>(name: &[u8], pen: &mut Pen<'_, W>)
+    ensures { Writes W.Sink pen.old pen.new (filter is_upper_byte name.now) }
 {
     for letter in name {
         if is_upper(*letter) {
-            pen.put(&[*letter], writer);
+            pen.put(&[*letter]);
         }
     }
 }
 
-fn put_values<W: Sink>(values: Values<'_>, pen: &mut Pen, writer: &mut W)
-    ensures { Adds (place pen.old.has_failed (W.taken writer.old) (W.failures writer.old))
-        (place pen.new.has_failed (W.taken writer.new) (W.failures writer.new))
-        (flat_map value_text values.entry) }
+fn put_values<W: Sink>(values: Values<'_>, pen: &mut Pen<'_, W>)
+    ensures { Writes W.Sink pen.old pen.new (flat_map value_text values.entry) }
 {
     for value in values {
-        pen.put(b"[", writer);
-        pen.put(value, writer);
-        pen.put(b"]", writer);
+        pen.put(b"[");
+        pen.put(value);
+        pen.put(b"]");
     }
 }

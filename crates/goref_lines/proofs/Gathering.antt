@@ -13,7 +13,7 @@ use Rattle.go_board.specs.declared.vertex.Vertex.TheVariants.{At}
 use Rattle.go_board.specs.Points.{IsOn, number_of}
 use Rattle.goref_lines.specs.declared.stones.ListError.TheVariants.{Bad}
 use Rattle.goref_lines.specs.Stones.{are_distinct, is_free_handicap, point_in, points_in, stones_at, stones_of, with_first}
-use Rattle.goref_lines.specs.Gathered.{AreApart, Gathered, can_follow, comes_from, comes_to}
+use Rattle.goref_lines.specs.inner.Gathered.{AreApart, Gathered, can_follow, comes_from, comes_to}
 
 -- a number that stands among others is not distinct behind them
 twice : (xs ys : List ℕ) (y : ℕ) → list_any (λ x. x == y) xs ≡ true → are_distinct (xs ++ y ∷ ys) ≡ false

@@ -5,7 +5,7 @@ use Rattle.std.specs.List.{slice_split, join_with_byte}
 use Rattle.std.proofs.lemmas.List.{append-nil}
 use Rattle.std.proofs.lemmas.List.Elements.{filter-append}
 use Rattle.goref_lines.specs.Kept.{has_bytes, is_space, words, joined, ends_with_space}
-use Rattle.goref_lines.specs.Front.{with_space}
+use Rattle.goref_lines.specs.inner.Front.{with_space}
 use Rattle.goref_lines.proofs.Splits.{onto_last, HasParts, slice_split_push_yes, slice_split_push_no}
 
 -- whether the last part is empty

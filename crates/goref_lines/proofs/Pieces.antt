@@ -1,5 +1,6 @@
 -- What a line keeps as several bytes come to its end.
 use Rattle.std.proofs.Common.{◌≡◌, ◌∙◌, ◌+◌, ◌<◌, ℕ, zero, suc, Some, None, Bool, true, false, not, cond, drop, if◌then◌else◌, ◌&&◌, ◌||◌, List, [], ◌∷◌, ◌++◌, refl, sym, ap, subst, take, length, nat_lt, map, arith, append_assoc, length-append}
+use Rattle.std.proofs.lemmas.Bool.{and_parts}
 use Rattle.std.specs.List.{list_all, list_any, prefix_len}
 use Rattle.std.proofs.lemmas.List.{append-nil, map-append, take-append-le}
 use Rattle.std.proofs.lemmas.List.Elements.{filter-append}
@@ -9,7 +10,7 @@ use Rattle.std.specs.Prelude.{slice_index}
 use Rattle.memchr.specs.Find.{IsFirstByte, is_byte}
 use Rattle.goref_lines.specs.declared.line.TheConstants.{LINE_LIMIT}
 use Rattle.goref_lines.specs.Kept.{is_control, is_hash, is_space, spaced, printable, before_comment, cleaned, has_bytes, joined, ends_with_space, Kept, kept}
-use Rattle.goref_lines.specs.Front.{AreOfWord, KeepsFront, is_of_word, last_of, space_after, with_space}
+use Rattle.goref_lines.specs.inner.Front.{AreOfWord, KeepsFront, is_of_word, last_of, space_after, with_space}
 use Rattle.goref_lines.proofs.Joins.{has_trailing_space, joined_push_space, joined_push_byte, has_trailing_space_push_byte}
 use Rattle.goref_lines.proofs.Pushes.{before_comment_none, kept_comment, kept_hash, plain, plain_is, plain_before, has_comment_is, spaced_other}
 
@@ -42,15 +43,11 @@ of_word_parts false false false e = (refl, refl, refl)
 of_word : (b : ℕ) → is_of_word b ≡ true → (is_control b ≡ false) × (is_hash b ≡ false) × (is_space (spaced b) ≡ false)
 of_word b e = of_word_parts (is_control b) (is_hash b) (is_space (spaced b)) e
 
-both : (x y : Bool) → (x && y) ≡ true → (x ≡ true) × (y ≡ true)
-both true y e = (refl, e)
-both false y e = cc
-
 first_of : (b : ℕ) (word : List ℕ) → AreOfWord (b ∷ word) → is_of_word b ≡ true
-first_of b word h = (both (is_of_word b) (list_all is_of_word word) h).0
+first_of b word h = (and_parts (is_of_word b) (list_all is_of_word word) h).0
 
 others_of : (b : ℕ) (word : List ℕ) → AreOfWord (b ∷ word) → AreOfWord word
-others_of b word h = (both (is_of_word b) (list_all is_of_word word) h).1
+others_of b word h = (and_parts (is_of_word b) (list_all is_of_word word) h).1
 
 one_more : (n : ℕ) → suc n ≡ 1 + n
 one_more n = omega arith

@@ -1,6 +1,5 @@
 pub mod Kept
-pub mod Front
 pub mod Words
 pub mod Requests
 pub mod Stones
-pub mod Gathered
+pub mod inner

@@ -1,7 +1,7 @@
 -- What the words of a line ask for: a command with an id and arguments.
 use Rattle.std.specs.Prelude.{ℕ, if◌then◌else◌, List, [], ◌∷◌, Option, Some, None, option_and_then, position, take}
 use Rattle.goref_lines.specs.Kept.{is_space}
-use Rattle.goref_lines.specs.Words.{is_int, value_of, int_of}
+use Rattle.go_board.specs.Decimals.{is_int, value_of_digits, int_of}
 
 pub record Asked : Type 0 where
   pub id : Option ℕ
@@ -16,7 +16,7 @@ asked id (word ∷ words) = record { id = id; name = Some word; arguments = word
 -- what the words ask for: a number that stands first is the id
 abbrev pub asked_by : List (List ℕ) → Asked
 asked_by [] = asked None []
-asked_by (word ∷ words) = if is_int word then asked (Some (value_of word)) words else asked None (word ∷ words)
+asked_by (word ∷ words) = if is_int word then asked (Some (value_of_digits word)) words else asked None (word ∷ words)
 
 -- the id of a text that was cut: what stands before its first space, where that is a number
 abbrev pub id_of_cut : List ℕ → Option ℕ

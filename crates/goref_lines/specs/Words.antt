@@ -1,24 +1,11 @@
--- What a word of a command says: a number, or a colour.
+-- What colour a word of a command names.
 use Rattle.std.specs.Prelude.{ℕ, ◌+◌, ◌-◌, ◌*◌, ◌&&◌, ◌||◌, nat_le, Bool, if◌then◌else◌, List, Option, Some, None, fold, codes}
 use Rattle.std.specs.Char.{is_ascii_digit}
 use Rattle.std.specs.List.{list_all}
 use Rattle.std.specs.Str.{str_eq_ignore_ascii_case}
 use Rattle.go_board.specs.declared.colour.Colour.{Colour}
 use Rattle.go_board.specs.declared.colour.Colour.TheVariants.{Black, White}
-use Rattle.goref_lines.specs.declared.words.TheConstants.{MAX_INT}
 use Rattle.goref_lines.specs.Kept.{has_bytes}
-
--- the value of decimal digits
-abbrev pub value_of : List ℕ → ℕ
-value_of digits = fold (λ value b. 10 * value + (b - 48)) 0 digits
-
--- one or more digits with a value that is at most MAX_INT
-abbrev pub is_int : List ℕ → Bool
-is_int word = (has_bytes word && list_all is_ascii_digit word) && nat_le (value_of word) MAX_INT
-
--- the number that a word spells
-abbrev pub int_of : List ℕ → Option ℕ
-int_of word = if is_int word then Some (value_of word) else None
 
 -- a word is this name in any case
 abbrev pub is_named : List ℕ → List ℕ → Bool

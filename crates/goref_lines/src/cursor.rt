@@ -8,6 +8,7 @@ use std::marker::Model;
 /// The words of a text that are still to come.
 #[derive(Drop)]
 pub struct Words<'a> {
+    /// Words that are joined by single spaces.
     text: &'a [u8],
 }
 

@@ -2,10 +2,8 @@
 //! function that does nothing.
 ghost use Rattle.std.specs.Prelude.{◌≡◌};
 ghost use Rattle.goref_lines.specs.declared.line.TheConstants.{LINE_LIMIT};
-ghost use Rattle.goref_lines.specs.declared.words.TheConstants.{MAX_INT};
 
-/// The most bytes that a line keeps of its words, and the greatest number that a word spells.
+/// The most bytes that a line keeps of its words.
 pub fn limits()
     ensures bytes { LINE_LIMIT ≡ 8192 }
-    ensures number { MAX_INT ≡ 2147483647 }
 {}

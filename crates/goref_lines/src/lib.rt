@@ -12,4 +12,4 @@ pub use cursor::Words;
 pub use line::{LINE_LIMIT, Line};
 pub use request::{Request, id_of_cut};
 pub use stones::{ListError, read_stones};
-pub use words::{read_colour, read_int};
+pub use words::read_colour;

@@ -1,7 +1,7 @@
 ghost use Rattle.std.specs.Prelude.{◌≡◌, ◌+◌, ◌<◌, ◌≤◌, ℕ, List, [], ◌∷◌, ◌++◌, length, take, false, true};
 ghost use Rattle.std.specs.List.{list_any, prefix_len};
 ghost use Rattle.goref_lines.specs.Kept.{Kept, has_bytes, kept, is_control as is_control_of, is_hash, is_space, printable, spaced};
-ghost use Rattle.goref_lines.specs.Front.{AreOfWord, KeepsFront, is_of_word as is_of_word_by, last_of, with_space};
+ghost use Rattle.goref_lines.specs.inner.Front.{AreOfWord, KeepsFront, is_of_word as is_of_word_by, last_of, with_space};
 
 use arrayvec::ArrayVec;
 use memchr::memchr;
@@ -13,9 +13,13 @@ pub const LINE_LIMIT: usize = 8192;
 /// What is kept of a line as its bytes come in.
 #[derive(Drop)]
 pub struct Line {
+    /// The words so far, joined by single spaces.
     text: ArrayVec<u8, LINE_LIMIT>,
+    /// Whether the words were more than there is place for.
     is_long: bool,
+    /// Whether a `#` came, after which nothing is kept.
     has_comment: bool,
+    /// Whether white space came behind the last word.
     has_space: bool,
 }
 

@@ -3,7 +3,7 @@ ghost use Rattle.goref_lines.specs.Kept.{is_space, words};
 ghost use Rattle.goref_lines.specs.Requests.{Asked, asked_by, id_of_cut as id_before_space};
 
 use crate::cursor::Words;
-use crate::words::read_int;
+use go_board::read_int;
 use std::marker::Model;
 
 /// What the words of a line ask for: a command with an id and arguments.
@@ -17,7 +17,11 @@ pub struct Request<'a> {
 impl<'a> Model for Request<'a> {
     ghost Value = { Asked };
 
-    ghost view = { λ r. record { id = r.id; name = option_copied r.name; arguments = r.arguments } };
+    ghost view = { λ r. record {
+      id = r.id;
+      name = option_copied r.name;
+      arguments = r.arguments;
+    } };
 }
 
 impl<'a> Request<'a> {
@@ -27,7 +31,10 @@ impl<'a> Request<'a> {
     {
         let mut arguments = Words::of(text);
         let first = arguments.next_word();
-        let id = first.and_then(read_int);
+        let id = match first {
+            Some(word) => read_int(word),
+            None => None,
+        };
         let name = match id {
             Some(_) => arguments.next_word(),
             None => first,

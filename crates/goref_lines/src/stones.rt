@@ -2,9 +2,8 @@ ghost use Rattle.std.specs.Prelude.{◌≡◌, ◌<◌, ◌*◌, ◌∷◌, ◌=
 ghost use Rattle.std.specs.List.{list_any};
 ghost use Rattle.go_board.specs.declared.vertex.Vertex.{Vertex as VertexValue};
 ghost use Rattle.go_board.specs.Points.{IsOn, number_of};
-ghost use Rattle.go_board.specs.Sizes.{lines_of};
 ghost use Rattle.goref_lines.specs.Stones.{spelled, stones_listed, with_first};
-ghost use Rattle.goref_lines.specs.Gathered.{can_follow as can_follow_on, comes_to};
+ghost use Rattle.goref_lines.specs.inner.Gathered.{can_follow as can_follow_on, comes_to};
 
 use crate::cursor::Words;
 use arrayvec::ArrayVec;
@@ -27,11 +26,11 @@ pub fn read_stones(
     size: Size,
 ) -> Result<ArrayVec<Point, MAX_POINTS>, ListError>
     ensures ok { IfOk result
-        (λ points. stones_listed (lines_of size) words.entry ≡ Ok points.items) }
-    ensures err { IfErr result (λ error. stones_listed (lines_of size) words.entry ≡ Err error) }
-    ensures on { IfOk result (λ points. All (IsOn (lines_of size)) points.items) }
+        (λ points. stones_listed size words.entry ≡ Ok points.items) }
+    ensures err { IfErr result (λ error. stones_listed size words.entry ≡ Err error) }
+    ensures on { IfOk result (λ points. All (IsOn size) points.items) }
     ensures few { IfOk result
-        (λ points. length points.items < lines_of size * lines_of size) }
+        (λ points. length points.items < size * size) }
 {
     let mut stones = Stones::new(size);
     match words.next_word() {
@@ -54,22 +53,21 @@ struct Stones {
 
 impl Model for Stones {
     ghost use Rattle.std.specs.Prelude.{if◌then◌else◌, Some, None};
-    ghost use Rattle.go_board.specs.Sizes.{lines_of};
-    ghost use Rattle.goref_lines.specs.Gathered.{AreApart, Gathered};
+    ghost use Rattle.goref_lines.specs.inner.Gathered.{AreApart, Gathered};
 
     ghost Value = { Gathered };
 
     ghost view = { λ s. record {
-      lines = lines_of s.size;
+      lines = s.size;
       points = if s.is_bad then None else Some s.points.items;
     } };
 
-    ghost invariant = { λ s. AreApart (lines_of s.size) s.points.items };
+    ghost invariant = { λ s. AreApart s.size s.points.items };
 }
 
 impl Stones {
     fn new(size: Size) -> Stones
-        ensures lines { result.lines ≡ lines_of size }
+        ensures lines { result.lines ≡ size }
         ensures points { result.points ≡ Some [] }
     {
         Stones {
@@ -126,17 +124,17 @@ impl Stones {
 
 /// Whether a point is none of these points, and one more is left behind it.
 fn can_follow(points: &[Point], point: Point, size: Size) -> bool
-    requires points { All (IsOn (lines_of size)) points.now }
-    requires point { IsOn (lines_of size) point }
-    ensures { result ≡ can_follow_on (lines_of size) points.now point }
+    requires points { All (IsOn size) points.now }
+    requires point { IsOn size point }
+    ensures { result ≡ can_follow_on size points.now point }
 {
     points.len() + 1 < usize::from(size.points()) && !has_number(points, point.index(size), size)
 }
 
 /// Whether the point with this number is among points of the board.
 fn has_number(points: &[Point], number: u16, size: Size) -> bool
-    requires { All (IsOn (lines_of size)) points.now }
-    ensures { result ≡ list_any (λ p. number_of (lines_of size) p == number) points.now }
+    requires { All (IsOn size) points.now }
+    ensures { result ≡ list_any (λ p. number_of size p == number) points.now }
 {
     for point in points {
         if point.index(size) == number {

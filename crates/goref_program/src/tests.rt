@@ -147,8 +147,8 @@ fn streams_that_fail(rt: HostRuntime) {
     );
 }
 
-/// How many bytes are written to a stream with so much room and to the errors for words that name no
-/// task, and the status.
+/// How many bytes are written to a stream with so much room and to the errors for words that name
+/// no task, and the status.
 fn explained_to(rt: &HostRuntime, words: &[&str], room: usize) -> Option<(usize, usize, u8)> {
     let mut output = Page::new(rt.alloc(), room);
     let mut errors = Page::new(rt.alloc(), 10_000);

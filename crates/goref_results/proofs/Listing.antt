@@ -1,5 +1,6 @@
 -- How a text over the numbers from 0 grows by the next number.
 use Rattle.std.proofs.Common.{◌≡◌, ◌∙◌, ◌<◌, ℕ, Bool, true, false, cond, get_or, if◌then◌else◌, length, take, ◌+◌, List, [], ◌∷◌, ◌++◌, refl, sym, ap, append_assoc, arith, map}
+use Rattle.go_board.specs.lemmas.Numbers.{numbers_more}
 use Rattle.std.specs.Prelude.{◌==◌, ℤ, pos, negsuc, codes, filter}
 use Rattle.std.specs.List.{flat_map, join_with_byte, range_with_len}
 use Rattle.std.proofs.lemmas.List.{append-nil, take_more}
@@ -13,15 +14,6 @@ use Rattle.go_board.specs.Points.{point_at}
 use Rattle.goref_results.specs.Places.{spaced_point}
 use Rattle.goref_results.specs.Results.{result_text}
 use Rattle.goref_results.specs.ChainLines.{chain_line, spaced_vertex, stone_text}
-
-map_same : {X : Type 0} (xs : List X) → map (λ x. x) xs ≡ xs
-map_same [] = refl
-map_same (x ∷ xs) = ap (λ ys. x ∷ ys) (map_same xs)
-
-numbers_more : (k : ℕ) → range_with_len 0 (k + 1) ≡ range_with_len 0 k ++ k ∷ []
-numbers_more k =
-    sym (map_same (range_with_len 0 (k + 1))) ∙ map-range_with_len_more (λ (x : ℕ). x) 0 k k (omega arith)
-    ∙ ap (λ xs. xs ++ k ∷ []) (map_same (range_with_len 0 k))
 
 -- a text of each number
 pub all_more : (f : ℕ → List ℕ) (k : ℕ) → flat_map f (range_with_len 0 k) ++ f k ≡ flat_map f (range_with_len 0 (k + 1))

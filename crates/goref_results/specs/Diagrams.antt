@@ -3,16 +3,11 @@ use Rattle.std.specs.Prelude.{ℕ, ◌+◌, ◌-◌, ◌*◌, nat_lt, if◌then�
 use Rattle.std.specs.List.{flat_map, range_with_len}
 use Rattle.go_board.specs.declared.colour.Colour.{Colour}
 use Rattle.go_board.specs.declared.colour.Colour.TheVariants.{Black, White}
-use Rattle.go_board.specs.Colours.{Colouring, colour_at}
+use Rattle.go_board.specs.Colours.{Colouring, colour_at, letter_of}
 use Rattle.go_board.specs.Vertices.{column_letters}
 use Rattle.go_game.specs.Standings.{Standing, board_of, mover_of}
 use Rattle.go_game.specs.Playing.{prisoners_of}
 use Rattle.go_game.specs.Scores.{hundredths_word}
-
--- a colour by its letter
-abbrev pub letter_of_colour : Colour → ℕ
-letter_of_colour Black = 66
-letter_of_colour White = 87
 
 -- a point of the diagram: X for black, O for white
 abbrev pub mark_of : Option Colour → ℕ
@@ -30,7 +25,7 @@ prisoners_text s = codes " prisoners B " ++ (decimal (prisoners_of s Black) ++ (
 
 -- and how many moves stand, and whose turn it is
 abbrev pub turn_text : Standing → List ℕ
-turn_text s = codes " moves " ++ (decimal (length s.moves) ++ (codes " next " ++ letter_of_colour (mover_of s) ∷ []))
+turn_text s = codes " moves " ++ (decimal (length s.moves) ++ (codes " next " ++ letter_of (mover_of s) ∷ []))
 
 -- a number, right in two places
 abbrev pub padding_of : ℕ → List ℕ

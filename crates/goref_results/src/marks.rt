@@ -12,6 +12,7 @@ const WORDS: usize = (MAX_POINTS + 63) / 64;
 /// point. It is as small as the numbers of points allow, since a decision carries it.
 #[derive(Drop)]
 pub struct Plays {
+    /// A bit for each point, 64 in a word.
     words: [u64; WORDS],
 }
 

@@ -1,6 +1,5 @@
 ghost use Rattle.std.specs.Prelude.{◌≡◌, ◌<◌, ◌*◌, [], IfOk, false, if◌then◌else◌, slice_index_or};
-ghost use Rattle.go_board.specs.Device.{Adds, place};
-ghost use Rattle.go_board.specs.Sizes.{lines_of};
+ghost use Rattle.go_board.specs.Pens.{Writes};
 ghost use Rattle.go_game.specs.Counts.{IsAsBefore};
 ghost use Rattle.goref_results.specs.ChainLines.{spaced_vertex};
 ghost use Rattle.goref_results.specs.Plays.{marked_plays, plays_text};
@@ -30,27 +29,23 @@ pub fn legal_plays<A: Allocator + Copy>(
 }
 
 /// Writes the vertices of plays, each behind a space.
-pub fn put_plays<W: Sink>(size: Size, plays: &Plays, pen: &mut Pen, writer: &mut W)
-    ensures { Adds (place pen.old.has_failed (W.taken writer.old) (W.failures writer.old))
-        (place pen.new.has_failed (W.taken writer.new) (W.failures writer.new))
-        (result_text (plays_text (lines_of size) plays.now)) }
+pub fn put_plays<W: Sink>(size: Size, plays: &Plays, pen: &mut Pen<'_, W>)
+    ensures { Writes W.Sink pen.old pen.new (result_text (plays_text size plays.now)) }
 {
     for number in 0..size.points() {
-        put_if_play(size, plays, number, pen, writer);
+        put_if_play(size, plays, number, pen);
     }
 }
 
 /// Writes the vertex of a point behind a space, if a play there is legal.
-fn put_if_play<W: Sink>(size: Size, plays: &Plays, number: u16, pen: &mut Pen, writer: &mut W)
-    requires { number < lines_of size * lines_of size }
-    ensures { Adds (place pen.old.has_failed (W.taken writer.old) (W.failures writer.old))
-        (place pen.new.has_failed (W.taken writer.new) (W.failures writer.new))
-        (if slice_index_or plays.now number false
-        then spaced_vertex (lines_of size) number else []) }
+fn put_if_play<W: Sink>(size: Size, plays: &Plays, number: u16, pen: &mut Pen<'_, W>)
+    requires { number < size * size }
+    ensures { Writes W.Sink pen.old pen.new (if slice_index_or plays.now number false
+        then spaced_vertex size number else []) }
 {
     if plays.has(number) {
         let at = Point::numbered(size, number);
-        pen.put(b" ", writer);
-        pen.put(vertex_text(Vertex::At(at)).as_bytes(), writer);
+        pen.put(b" ");
+        pen.put(vertex_text(Vertex::At(at)).as_bytes());
     }
 }

@@ -1,5 +1,5 @@
 ghost use Rattle.std.specs.List.{flat_map};
-ghost use Rattle.go_board.specs.Device.{Adds, place};
+ghost use Rattle.go_board.specs.Pens.{Writes};
 ghost use Rattle.go_game.specs.Handicaps.{fixed};
 ghost use Rattle.go_game.specs.Scores.{margin_of, score_word};
 ghost use Rattle.goref_results.specs.Diagrams.{diagram};
@@ -12,50 +12,39 @@ use go_game::{Game, fixed_points, score_text};
 use std::alloc::Allocator;
 
 /// Writes the score, behind a space.
-pub fn put_score<A: Allocator + Copy, W: Sink>(game: &Game<A>, pen: &mut Pen, writer: &mut W)
-    ensures { Adds (place pen.old.has_failed (W.taken writer.old) (W.failures writer.old))
-        (place pen.new.has_failed (W.taken writer.new) (W.failures writer.new))
+pub fn put_score<A: Allocator + Copy, W: Sink>(game: &Game<A>, pen: &mut Pen<'_, W>)
+    ensures { Writes W.Sink pen.old pen.new
         (result_text (score_word (margin_of game.now.standing))) }
 {
-    pen.put(b" ", writer);
-    pen.put(score_text(game.margin()).as_bytes(), writer);
+    pen.put(b" ");
+    pen.put(score_text(game.margin()).as_bytes());
 }
 
 /// Writes the diagram, behind a space.
-pub fn put_board<A: Allocator + Copy, W: Sink>(game: &Game<A>, pen: &mut Pen, writer: &mut W)
-    ensures { Adds (place pen.old.has_failed (W.taken writer.old) (W.failures writer.old))
-        (place pen.new.has_failed (W.taken writer.new) (W.failures writer.new))
-        (result_text (diagram game.now.standing)) }
+pub fn put_board<A: Allocator + Copy, W: Sink>(game: &Game<A>, pen: &mut Pen<'_, W>)
+    ensures { Writes W.Sink pen.old pen.new (result_text (diagram game.now.standing)) }
 {
-    pen.put(b" ", writer);
-    put_diagram(game, pen, writer);
+    pen.put(b" ");
+    put_diagram(game, pen);
 }
 
 /// Writes the places of so many fixed handicap stones, each behind a space.
-pub fn put_places<A: Allocator + Copy, W: Sink>(
-    game: &Game<A>,
-    number: u32,
-    pen: &mut Pen,
-    writer: &mut W,
-)
-    ensures { Adds (place pen.old.has_failed (W.taken writer.old) (W.failures writer.old))
-        (place pen.new.has_failed (W.taken writer.new) (W.failures writer.new))
+pub fn put_places<A: Allocator + Copy, W: Sink>(game: &Game<A>, number: u32, pen: &mut Pen<'_, W>)
+    ensures { Writes W.Sink pen.old pen.new
         (result_text (places_text (fixed game.now.standing.lines number))) }
 {
     match fixed_points(game.size(), number) {
-        Some(points) => put_points(points.as_slice(), pen, writer),
+        Some(points) => put_points(points.as_slice(), pen),
         None => {}
     }
 }
 
 /// Writes points, each behind a space.
-fn put_points<W: Sink>(points: &[Point], pen: &mut Pen, writer: &mut W)
-    ensures { Adds (place pen.old.has_failed (W.taken writer.old) (W.failures writer.old))
-        (place pen.new.has_failed (W.taken writer.new) (W.failures writer.new))
-        (flat_map spaced_point points.now) }
+fn put_points<W: Sink>(points: &[Point], pen: &mut Pen<'_, W>)
+    ensures { Writes W.Sink pen.old pen.new (flat_map spaced_point points.now) }
 {
     for point in points {
-        pen.put(b" ", writer);
-        pen.put(vertex_text(Vertex::At(*point)).as_bytes(), writer);
+        pen.put(b" ");
+        pen.put(vertex_text(Vertex::At(*point)).as_bytes());
     }
 }

@@ -5,10 +5,10 @@ use Rattle.go_game.specs.Standings.{Standing}
 use Rattle.goref_lines.specs.Kept.{kept}
 use Rattle.goref.specs.Contents.{Content, nothing, missing}
 use Rattle.goref_runs.specs.Shelves.{Pair}
-use Rattle.goref.specs.Answers.{Said, Reply, wants}
+use Rattle.goref.specs.Answers.{Said, Reply, wanted}
 use Rattle.goref.specs.Laws.{SomeReply}
 use Rattle.goref_runs.specs.Conversation.{Asks, Conversation, ends, quits, goes_on}
-use Rattle.goref_runs.specs.Progress.{Reaches}
+use Rattle.goref_runs.specs.inner.Progress.{Reaches}
 
 -- the same session, told in other words
 pub retold : {s : Standing} {lines lines' : List (List ℕ)} {asked asked' : List Pair} {text text' : List ℕ} →
@@ -29,7 +29,7 @@ SomeConversation s lines = (asked : List Pair) × (text : List ℕ) × Conversat
 
 -- a reply that ends the session, or one behind which it goes on
 pub some_more : (s : Standing) (line : List ℕ) (lines : List (List ℕ)) (content : Content) (asked : List Pair) (reply : Said) (stop : Bool) →
-    Asks (wants (kept line)) content asked → Reply s (kept line) content reply → reply.ends ≡ stop → SomeConversation reply.standing lines →
+    Asks (wanted (kept line)) content asked → Reply s (kept line) content reply → reply.ends ≡ stop → SomeConversation reply.standing lines →
     (later : List Pair) × (rest : List ℕ) × Conversation s (line ∷ lines) (asked ++ later) (reply.text ++ rest)
 some_more s line lines content asked reply true asks is e c =
     ([], [], retold refl (sym (append-nil asked)) (sym (append-nil reply.text)) (quits s line lines content asked reply asks is e))
@@ -40,7 +40,7 @@ some_more s line lines content asked reply false asks is e c =
 pub some_conversation : SomeReply → (lines : List (List ℕ)) (s : Standing) → SomeConversation s lines
 some_conversation law [] s = ([], [], ends s)
 some_conversation law (line ∷ lines) s =
-    let f = some_content (wants (kept line)) in
+    let f = some_content (wanted (kept line)) in
     let r = law s (kept line) f.0 in
     let reply : Said = r.0 in
     let c = some_more s line lines f.0 f.1 reply reply.ends f.2 r.1 refl (some_conversation law lines reply.standing) in
@@ -53,7 +53,7 @@ reaches_first s = record { on = λ more later rest c. c }
 -- a line that was answered, with the session going on
 pub reaches_next : {s now : Standing} {lines : List (List ℕ)} {asked : List Pair} {text : List ℕ} → Reaches s lines asked text now →
     (line : List ℕ) (content : Content) (asked' : List Pair) (reply : Said) →
-    Asks (wants (kept line)) content asked' → Reply now (kept line) content reply → reply.ends ≡ false →
+    Asks (wanted (kept line)) content asked' → Reply now (kept line) content reply → reply.ends ≡ false →
     Reaches s (lines ++ line ∷ []) (asked ++ asked') (text ++ reply.text) reply.standing
 reaches_next {s} {now} {lines} {asked} {text} r line content asked' reply asks is e = record {
   on = λ more later rest c.

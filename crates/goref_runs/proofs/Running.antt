@@ -8,7 +8,7 @@ use Rattle.goref_lines.specs.Kept.{Kept}
 use Rattle.goref_runs.specs.Lines.{lines}
 use Rattle.goref_runs.specs.Shelves.{Pair}
 use Rattle.goref_runs.specs.Conversation.{ends, BreaksOff}
-use Rattle.goref_runs.specs.Progress.{Progress}
+use Rattle.goref_runs.specs.inner.Progress.{Progress}
 use Rattle.goref_runs.specs.Runs.{AnswersComplete, AnswersFront}
 use Rattle.goref_runs.proofs.Conversations.{retold}
 

@@ -5,7 +5,7 @@ use Rattle.go_game.specs.Standings.{Standing}
 use Rattle.goref_lines.specs.Kept.{kept}
 use Rattle.goref.specs.Contents.{Content, nothing}
 use Rattle.goref_runs.specs.Shelves.{Pair, then_pairs}
-use Rattle.goref.specs.Answers.{Said, Reply, wants}
+use Rattle.goref.specs.Answers.{Said, Reply, wanted}
 
 -- what is asked of the shelf for a line: its file, where it wants one
 abbrev pub Asks : Option (List ℕ) → Content → List Pair → Type 0
@@ -17,10 +17,10 @@ Asks (Some name) content asked = asked ≡ (name, content) ∷ []
 pub data Conversation : Standing → List (List ℕ) → List Pair → List ℕ → Type 0 where
   ends : (s : Standing) → Conversation s [] [] []
   quits : (s : Standing) (line : List ℕ) (lines : List (List ℕ)) (content : Content) (asked : List Pair) (reply : Said) →
-      Asks (wants (kept line)) content asked → Reply s (kept line) content reply → reply.ends ≡ true →
+      Asks (wanted (kept line)) content asked → Reply s (kept line) content reply → reply.ends ≡ true →
       Conversation s (line ∷ lines) asked reply.text
   goes_on : (s : Standing) (line : List ℕ) (lines : List (List ℕ)) (content : Content) (asked : List Pair) (reply : Said) (later : List Pair) (rest : List ℕ) →
-      Asks (wants (kept line)) content asked → Reply s (kept line) content reply → reply.ends ≡ false →
+      Asks (wanted (kept line)) content asked → Reply s (kept line) content reply → reply.ends ≡ false →
       Conversation reply.standing lines later rest →
       Conversation s (line ∷ lines) (asked ++ later) (reply.text ++ rest)
 

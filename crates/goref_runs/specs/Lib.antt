@@ -1,5 +1,5 @@
 pub mod Lines
 pub mod Shelves
 pub mod Conversation
-pub mod Progress
 pub mod Runs
+pub mod inner

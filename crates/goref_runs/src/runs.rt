@@ -1,13 +1,12 @@
 ghost use Rattle.std.specs.Prelude.{◌≡◌, ◌≤◌, ◌+◌, ℕ, List, [], ◌∷◌, ◌++◌, Option, IfOk, IfSome, OnOk, IsErrOf, pos};
 ghost use Rattle.go_board.specs.Device.{failures_after};
-ghost use Rattle.go_board.specs.Sizes.{lines_of};
 ghost use Rattle.go_game.specs.Standings.{Standing};
 ghost use Rattle.goref.specs.Starts.{begun};
 ghost use Rattle.goref_runs.specs.Lines.{HasNoEnd, lines};
 ghost use Rattle.goref.specs.Contents.{content_of};
 ghost use Rattle.goref_runs.specs.Shelves.{Pair};
 ghost use Rattle.goref_runs.specs.Conversation.{Converses, BreaksOff};
-ghost use Rattle.goref_runs.specs.Progress.{Fetches, Responds, Progress, Proceeds, Finishes};
+ghost use Rattle.goref_runs.specs.inner.Progress.{Fetches, Responds, Progress, Proceeds, Finishes};
 ghost use Rattle.goref_runs.specs.Runs.{AnswersComplete, AnswersFront, ReadsAtLeast, read_failures_after, write_failures_after};
 
 use crate::fault::RunError;
@@ -33,13 +32,17 @@ pub fn run<A: Allocator + Copy, R: Source, W: Sink, S: Shelf<A>>(
     shelf: &mut S,
 ) -> Result<(), RunError>
     ensures ok { OnOk result (IfSome (R.left reader.old) (λ input.
-        Converses (begun (lines_of size) (pos 0)) (lines input) (S.given shelf.old) (S.given shelf.new) (W.taken writer.old) (W.taken writer.new))) }
+        Converses (begun size (pos 0)) (lines input)
+        (S.given shelf.old) (S.given shelf.new) (W.taken writer.old) (W.taken writer.new))) }
     ensures read { IsErrOf result RunError.Read →
-        AnswersComplete (begun (lines_of size) (pos 0)) (R.left reader.old) (R.left reader.new) (S.given shelf.old) (S.given shelf.new) (W.taken writer.old) (W.taken writer.new) }
+        AnswersComplete (begun size (pos 0)) (R.left reader.old) (R.left reader.new)
+        (S.given shelf.old) (S.given shelf.new) (W.taken writer.old) (W.taken writer.new) }
     ensures endless { IsErrOf result RunError.Endless →
-        AnswersComplete (begun (lines_of size) (pos 0)) (R.left reader.old) (R.left reader.new) (S.given shelf.old) (S.given shelf.new) (W.taken writer.old) (W.taken writer.new) }
+        AnswersComplete (begun size (pos 0)) (R.left reader.old) (R.left reader.new)
+        (S.given shelf.old) (S.given shelf.new) (W.taken writer.old) (W.taken writer.new) }
     ensures write { IsErrOf result RunError.Write →
-        AnswersFront (begun (lines_of size) (pos 0)) (R.left reader.old) (R.left reader.new) (S.given shelf.old) (S.given shelf.new) (W.taken writer.old) (W.taken writer.new) }
+        AnswersFront (begun size (pos 0)) (R.left reader.old) (R.left reader.new)
+        (S.given shelf.old) (S.given shelf.new) (W.taken writer.old) (W.taken writer.new) }
     ensures read_failures { R.failures reader.new ≡ read_failures_after result
         (R.failures reader.old) }
     ensures write_failures { W.failures writer.new ≡ write_failures_after result
@@ -65,13 +68,17 @@ pub fn run_within<A: Allocator + Copy, R: Source, W: Sink, S: Shelf<A>>(
     shelf: &mut S,
 ) -> Result<(), RunError>
     ensures ok { OnOk result (IfSome (R.left reader.old) (λ input.
-        Converses (begun (lines_of size) (pos 0)) (lines input) (S.given shelf.old) (S.given shelf.new) (W.taken writer.old) (W.taken writer.new))) }
+        Converses (begun size (pos 0)) (lines input)
+        (S.given shelf.old) (S.given shelf.new) (W.taken writer.old) (W.taken writer.new))) }
     ensures read { IsErrOf result RunError.Read →
-        AnswersComplete (begun (lines_of size) (pos 0)) (R.left reader.old) (R.left reader.new) (S.given shelf.old) (S.given shelf.new) (W.taken writer.old) (W.taken writer.new) }
+        AnswersComplete (begun size (pos 0)) (R.left reader.old) (R.left reader.new)
+        (S.given shelf.old) (S.given shelf.new) (W.taken writer.old) (W.taken writer.new) }
     ensures endless { IsErrOf result RunError.Endless →
-        AnswersComplete (begun (lines_of size) (pos 0)) (R.left reader.old) (R.left reader.new) (S.given shelf.old) (S.given shelf.new) (W.taken writer.old) (W.taken writer.new) }
+        AnswersComplete (begun size (pos 0)) (R.left reader.old) (R.left reader.new)
+        (S.given shelf.old) (S.given shelf.new) (W.taken writer.old) (W.taken writer.new) }
     ensures write { IsErrOf result RunError.Write →
-        AnswersFront (begun (lines_of size) (pos 0)) (R.left reader.old) (R.left reader.new) (S.given shelf.old) (S.given shelf.new) (W.taken writer.old) (W.taken writer.new) }
+        AnswersFront (begun size (pos 0)) (R.left reader.old) (R.left reader.new)
+        (S.given shelf.old) (S.given shelf.new) (W.taken writer.old) (W.taken writer.new) }
     ensures read_failures { R.failures reader.new ≡ read_failures_after result
         (R.failures reader.old) }
     ensures write_failures { W.failures writer.new ≡ write_failures_after result
@@ -118,8 +125,10 @@ fn feed<A: Allocator + Copy, W: Sink, S: Shelf<A>>(
 ) -> Result<Flow, WriteFault>
     ensures proceeds { (start : Standing) (read : List ℕ) (given : Option (List Pair))
         (taken : Option (List ℕ)) →
-        Progress start read line.old session.old given (S.given shelf.old) taken (W.taken writer.old) →
-        Proceeds result start (read ++ chunk.now) line.new session.new given (S.given shelf.new) taken (W.taken writer.new) }
+        Progress start read line.old session.old given
+        (S.given shelf.old) taken (W.taken writer.old) →
+        Proceeds result start (read ++ chunk.now) line.new session.new given
+        (S.given shelf.new) taken (W.taken writer.new) }
     ensures failures { W.failures writer.new ≡ failures_after result (W.failures writer.old) }
 {
     let mut rest = chunk;
@@ -147,8 +156,10 @@ fn end_line<A: Allocator + Copy, W: Sink, S: Shelf<A>>(
     requires { HasNoEnd part.now }
     ensures proceeds { (start : Standing) (read : List ℕ) (given : Option (List Pair))
         (taken : Option (List ℕ)) →
-        Progress start read line.old session.old given (S.given shelf.old) taken (W.taken writer.old) →
-        Proceeds result start (read ++ (part.now ++ 10 ∷ [])) line.new session.new given (S.given shelf.new) taken (W.taken writer.new) }
+        Progress start read line.old session.old given
+        (S.given shelf.old) taken (W.taken writer.old) →
+        Proceeds result start (read ++ (part.now ++ 10 ∷ [])) line.new session.new given
+        (S.given shelf.new) taken (W.taken writer.new) }
     ensures failures { W.failures writer.new ≡ failures_after result (W.failures writer.old) }
 {
     some_reply();
@@ -167,7 +178,8 @@ fn end_input<A: Allocator + Copy, W: Sink, S: Shelf<A>>(
 ) -> Result<(), WriteFault>
     ensures finishes { (start : Standing) (read : List ℕ) (given : Option (List Pair))
         (taken : Option (List ℕ)) →
-        Progress start read line.now session.old given (S.given shelf.old) taken (W.taken writer.old) →
+        Progress start read line.now session.old given
+        (S.given shelf.old) taken (W.taken writer.old) →
         Finishes result start read given (S.given shelf.new) taken (W.taken writer.new) }
     ensures failures { W.failures writer.new ≡ failures_after result (W.failures writer.old) }
 {

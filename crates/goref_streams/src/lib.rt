@@ -20,6 +20,7 @@ const KEPT: usize = 16_384;
 #[derive(Drop)]
 pub struct Input<R: Read> {
     stream: R,
+    /// How often it was read, how often that failed, and how often it was at its end: for contracts.
     pulls: Meter,
     failures: Meter,
     ends: Meter,
@@ -112,7 +113,9 @@ fn read_again<R: Read>(stream: &mut R, buffer: &mut [u8]) -> io::Result<usize>
 #[derive(Drop)]
 pub struct Output<W: Write> {
     stream: W,
+    /// What was not passed on yet.
     kept: ArrayVec<u8, KEPT>,
+    /// How often it failed: for contracts.
     failures: Meter,
 }
 

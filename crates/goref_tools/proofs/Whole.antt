@@ -4,7 +4,7 @@ use Rattle.std.specs.Prelude.{IfSome, OnOk, Result, Ok, Err}
 use Rattle.std.proofs.lemmas.List.{append-nil, length-append}
 use Rattle.std.proofs.Math.Nat.{lt_of_not-le}
 use Rattle.go_board.specs.Device.{TakesFront, after_bytes, then_bytes}
-use Rattle.go_board.specs.Reading.{has_read_more, of_input}
+use Rattle.go_board.specs.lemmas.Reading.{has_read_more, of_input}
 use Rattle.go_sgf.specs.Refusals.{IsRefusal}
 use Rattle.go_sgf.specs.declared.error.SgfError.{SgfError}
 use Rattle.go_sgf.specs.declared.error.SgfError.TheVariants.{NoTree, EndInside, Unexpected, TooDeep, Memory, TooLong}

@@ -1,5 +1,6 @@
 ghost use Rattle.std.specs.Prelude.{◌≡◌};
-ghost use Rattle.go_board.specs.Device.{Adds, Sent, failures_after, place};
+ghost use Rattle.go_board.specs.Device.{Sent, failures_after};
+ghost use Rattle.go_board.specs.Pens.{Writes};
 ghost use Rattle.goref_tools.specs.Judging.{line_of, stated_word as word_of_stated, verdict_text};
 
 use go_board::{Pen, Sink, WriteFault};
@@ -12,24 +13,22 @@ pub fn write_verdict<W: Sink>(verdict: Verdict, writer: &mut W) -> Result<(), Wr
     ensures sent { Sent result (W.taken writer.old) (W.taken writer.new) (verdict_text verdict) }
     ensures failures { W.failures writer.new ≡ failures_after result (W.failures writer.old) }
 {
-    let mut pen = Pen::new();
+    let mut pen = Pen::new(writer);
     let mut digits = Buffer::new();
     let moves = digits.format(verdict.moves).as_bytes();
-    put_line(b"moves ", moves, &mut pen, writer);
+    put_line(b"moves ", moves, &mut pen);
     let score = score_text(verdict.margin);
-    put_line(b"score ", score.as_bytes(), &mut pen, writer);
-    put_line(b"stated ", stated_word(verdict.stated), &mut pen, writer);
+    put_line(b"score ", score.as_bytes(), &mut pen);
+    put_line(b"stated ", stated_word(verdict.stated), &mut pen);
     pen.finish()
 }
 
-fn put_line<W: Sink>(name: &[u8], value: &[u8], pen: &mut Pen, writer: &mut W)
-    ensures { Adds (place pen.old.has_failed (W.taken writer.old) (W.failures writer.old))
-        (place pen.new.has_failed (W.taken writer.new) (W.failures writer.new))
-        (line_of name.now value.now) }
+fn put_line<W: Sink>(name: &[u8], value: &[u8], pen: &mut Pen<'_, W>)
+    ensures { Writes W.Sink pen.old pen.new (line_of name.now value.now) }
 {
-    pen.put(name, writer);
-    pen.put(value, writer);
-    pen.put(b"\n", writer);
+    pen.put(name);
+    pen.put(value);
+    pen.put(b"\n");
 }
 
 /// How the stated score compares, in a word.

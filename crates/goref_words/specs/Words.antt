@@ -7,7 +7,6 @@ use Rattle.clap.specs.Walk.{Row, Rule, Text, one_of}
 use Rattle.clap.specs.Simple.{App, new_app, new_rule, on_top, subcommand_of}
 use Rattle.clap.specs.Simple.{with_rule, with_subcommand}
 use Rattle.clap.specs.declared.builder.value_parser.ValueParser.TheVariants as vp
-use Rattle.go_board.specs.Sizes.{lines_of}
 use Rattle.go_board.specs.declared.size.TheConstants.{MAX_LINES}
 use Rattle.goref_words.specs.declared.task.Task.{Task}
 use Rattle.goref_words.specs.declared.task.Task.TheVariants.{Gtp, Judge, Tidy}
@@ -49,7 +48,7 @@ HasSize rows n = (t : Text) × (one_of (codes "size") rows ≡ Some t)
 
 -- the subcommand and its matches ask for the task
 abbrev pub Asks : Text × List Row → Task → Type 0
-Asks p (Gtp size) = (p.0 ≡ codes "gtp") × HasSize p.1 (lines_of size)
+Asks p (Gtp size) = (p.0 ≡ codes "gtp") × HasSize p.1 size
 Asks p Judge = p.0 ≡ codes "judge"
 Asks p Tidy = p.0 ≡ codes "tidy"
 

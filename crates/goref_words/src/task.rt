@@ -6,7 +6,6 @@ ghost use Rattle.clap.specs.Simple.{app_of, subcommand_rows_of};
 ghost use Rattle.clap.specs.Values.{kind_of};
 ghost use Rattle.clap.specs.Walk.{Row, Text, one_of, rows_of, rule_of};
 ghost use Rattle.clap.specs.declared.error.kind.ErrorKind.{ErrorKind};
-ghost use Rattle.go_board.specs.Sizes.{lines_of};
 ghost use Rattle.goref_words.specs.Words.{Asks, HasSize, IsPlainMatch, IsPlainUse, IsSize};
 ghost use Rattle.goref_words.specs.Words.{Means, program, size_option, texts_of};
 
@@ -28,8 +27,8 @@ pub enum Task {
 
 /// The task that the program's words name, the program's own name first.
 ///
-/// A call for help or for the version is an `Err` too: its text is for the standard output. Words that ask for no
-/// task are refused with the text that tells the user why.
+/// A call for help or for the version is an `Err` too: its text is for the standard output. Words
+/// that ask for no task are refused with the text that tells the user why.
 pub fn task_of<'a>(alloc: Global, words: &'a [&'a str]) -> Result<Task, Error>
     ensures ok { IfOk result (Means (texts_of words.entry.now)) }
     ensures plain { IsPlainUse (texts_of words.entry.now)
@@ -95,7 +94,7 @@ fn asked<'a>(matches: &ArgMatches<'a>) -> Option<Task>
 
 /// The size that the option `--size` states.
 fn size_of(matches: &ArgMatches) -> Option<Size>
-    ensures is { IfSome result (λ size. HasSize (rows_of (found_of matches.now)) (lines_of size)) }
+    ensures is { IfSome result (λ size. HasSize (rows_of (found_of matches.now)) size) }
     ensures some { (n : ℕ) → IsSize n
         → one_of (codes "size") (rows_of (found_of matches.now)) ≡ Some (decimal n)
         → IsSome result }

@@ -1,5 +1,7 @@
 -- What the cells of a kept board answer.
 use Rattle.std.specs.Prelude.{Option, None, Some, replicate, IsTrue}
+use Rattle.go_board.specs.Laws.{JoinedByPath, LibertyByPath}
+use Rattle.go_board.specs.lemmas.Squares.{square-le}
 use Rattle.std.specs.Int.{bit_at}
 use Rattle.std.proofs.Common.{zero, suc, ℕ, ◌+◌, ◌*◌, ◌/◌, ◌%◌, ◌^◌, ◌<◌, ◌≤◌, ◌≡◌, ◌↔◌, ◌++◌, ◌∷◌, [], refl, sym, ap, ◌∙◌, arith, inl, inr, Bool, true, false, List, length, nat_eq, bit_and, get_or}
 use Rattle.std.proofs.lemmas.Bool.{cases_lt, eq-eqb, eqb-true, false_from_ne_true}
@@ -22,7 +24,6 @@ use Rattle.go_chains.specs.Sound.{IsKept, IsStoneOf, colouring_of, value_of}
 use Rattle.go_chains.specs.inner.Tables.{IsStone}
 use Rattle.go_chains.proofs.rules.Sound.{IsKept-tidy, colouring-at, far_stone, length-colouring, length-ring_from, of_stone, stone-kept, tidy-kept, colouring-inside}
 use Rattle.go_chains.proofs.rules.Counting.{counted}
-use Rattle.go_chains.proofs.writes.Neighbours.{square-le}
 
 -- two tests that hold together have one answer
 pub same_answer : (a b : Bool) → (a ≡ true → b ≡ true) → (b ≡ true → a ≡ true) → a ≡ b
@@ -31,15 +32,6 @@ same_answer false b there back = sym (false_from_ne_true b (λ t. (let e : false
 
 none-some : (v : Option Colour) (c : Colour) → v ≡ None → v ≡ Some c → ⊥
 none-some v c e f = cc
-
--- the law of the crate below on chains
-pub record JoinedByPath : Type 0 where
-  pub law : (n : ℕ) (g : Colouring) (p q : ℕ) → p < n * n → IsTrue (joined n g p q) ↔ Joined n g p q
-
--- and on liberties
-pub record LibertyByPath : Type 0 where
-  pub law : (n : ℕ) (g : Colouring) (p q : ℕ) → p < n * n
-      → IsTrue (is_liberty_of n g p q) ↔ ((colour_at g q ≡ None) × ((r : ℕ) × Joined n g p r × IsTrue (is_adjacent n r q)))
 
 module _ (n : ℕ) (cells : List ℕ) (kept : IsKept n cells) where
   pub points-kept : n * n ≤ MAX_POINTS
@@ -61,7 +53,7 @@ module _ (n : ℕ) (cells : List ℕ) (kept : IsKept n cells) where
       → a ≡ label_of cells p → b ≡ label_of cells q → nat_eq a b ≡ joined n (colouring_of n cells) p q
   labels_joined by p q a b p_stone q_stone a_is b_is =
       let same = kept.sound.labels p q p_stone q_stone in
-      let path = by.law n (colouring_of n cells) p q (stone-kept n cells kept p p_stone).0 in
+      let path = by n (colouring_of n cells) p q (stone-kept n cells kept p p_stone).0 in
       same_answer (nat_eq a b) (joined n (colouring_of n cells) p q)
       (λ e. path.1 (same.0 (sym a_is ∙ eqb-true a b e ∙ b_is)))
       (λ t. eq-eqb a b (a_is ∙ same.1 (path.0 t) ∙ sym b_is))
@@ -70,7 +62,7 @@ module _ (n : ℕ) (cells : List ℕ) (kept : IsKept n cells) where
       → (v : Option Colour) → value_of (colour_of cells q) ≡ v → is_labelled v (label_of cells q) l ≡ joined n (colouring_of n cells) p q
   labelled by p q l stone q_in l_is None e =
       sym (false_from_ne_true (joined n (colouring_of n cells) p q) (λ t. (
-      let j = (by.law n (colouring_of n cells) p q (stone-kept n cells kept p stone).0).0 t in
+      let j = (by n (colouring_of n cells) p q (stone-kept n cells kept p stone).0).0 t in
       let far = far_stone n (colouring_of n cells) cells (colouring-inside n cells) kept.sound.colours kept.sound.coded p q (stone-kept n cells kept p stone) j in
       let held = of_stone n (colouring_of n cells) cells (colouring-inside n cells) kept.sound.colours kept.sound.coded q far.0 in
       none-some (value_of (colour_of cells q)) held.0 e (sym (colouring-at n cells q q_in) ∙ held.1))))
@@ -90,8 +82,8 @@ module _ (n : ℕ) (cells : List ℕ) (kept : IsKept n cells) where
       let lists = kept.sound.rings p stone in
       let p_in = (stone-kept n cells kept p stone).0 in
       let as_many : length (members n g p) ≡ length ring = counted n (joined n g p) ring lists.0
-      (λ q has. let j = (lists.1 q).0 has in (far-kept p q stone j, (by.law n g p q p_in).1 j))
-      (λ q q_in t. (lists.1 q).1 ((by.law n g p q p_in).0 t)) in
+      (λ q has. let j = (lists.1 q).0 has in (far-kept p q stone j, (by n g p q p_in).1 j))
+      (λ q q_in t. (lists.1 q).1 ((by n g p q p_in).0 t)) in
       ap (size_of cells) l_is ∙ sym (length-ring_from (next_of cells) (size_of cells (label_of cells p)) p) ∙ sym as_many
 
   pub size_few : JoinedByPath → (p l : ℕ) → IsStoneOf (colouring_of n cells) p → l ≡ label_of cells p → size_of cells l ≤ MAX_POINTS
@@ -105,7 +97,7 @@ module _ (n : ℕ) (cells : List ℕ) (kept : IsKept n cells) where
       → nat_eq (lib_of cells l q) 1 ≡ is_liberty_of n (colouring_of n cells) p q
   liberty_answers by p q l stone q_in l_is =
       let g = colouring_of n cells in
-      let path = by.law n g p q (stone-kept n cells kept p stone).0 in
+      let path = by n g p q (stone-kept n cells kept p stone).0 in
       let bit = kept.sound.liberties p q stone q_in in
       same_answer (nat_eq (lib_of cells l q) 1) (is_liberty_of n g p q)
       (λ e. (let free = bit.0 (ap (λ k. lib_of cells k q) (sym l_is) ∙ eqb-true (lib_of cells l q) 1 e) in

@@ -1,5 +1,6 @@
 -- A play over the cells, step by step, and what it comes to in the words of the board's rules.
 use Rattle.std.specs.Prelude.{slice_set}
+use Rattle.go_board.specs.Laws.{ReachesByPath, JoinedByPath}
 use Rattle.std.proofs.Common.{ℕ, ◌+◌, ◌*◌, ◌<◌, ◌≤◌, ◌≡◌, ◌≢◌, ◌⊎◌, ◌↔◌, inl, inr, sym, ap, ◌∙◌, subst, arith, Some, List, length, slice_index}
 use Rattle.std.proofs.lemmas.Bool.{cases_eq}
 use Rattle.go_board.specs.declared.colour.Colour.{Colour}
@@ -15,10 +16,10 @@ use Rattle.go_chains.specs.inner.Steps.{CountsTaken, IsCapturing, IsCleared, IsC
 use Rattle.go_chains.specs.inner.Tables.{IsDead, IsStone, IsTidy, IsWhole, Tables}
 use Rattle.go_chains.proofs.rules.Sound.{IsKept-tidy, alive-kept, tidy-kept, whole-kept}
 use Rattle.go_chains.proofs.tables.Capturing.{IsCapturing_none}
-use Rattle.go_chains.proofs.rules.Playing.{ReachesByPath, cleared_is, placed_is}
+use Rattle.go_chains.proofs.rules.Playing.{cleared_is, placed_is}
 use Rattle.go_chains.proofs.tables.Playing.{cleared_other, cleared_own, colours_joined, living, other_stays, own_stays, placed_joined, two_joined, whole_joined}
 use Rattle.go_chains.proofs.writes.Neighbours.{flip, inside}
-use Rattle.go_chains.proofs.rules.Taking.{JoinedByPath, ring-le, vanished_is}
+use Rattle.go_chains.proofs.rules.Taking.{ring-le, vanished_is}
 
 -- what a play begins with: a kept board, an empty point, and the numbers of the two colours
 pub record Begins (n : ℕ) (old : List ℕ) (p : ℕ) (c : Colour) (own theirs : ℕ) : Type 0 where

@@ -1,8 +1,9 @@
 -- What a play leaves in the words of the board's rules.
 use Rattle.std.specs.Prelude.{slice_set}
+use Rattle.go_board.specs.Laws.{ReachesByPath}
 use Rattle.std.specs.List.{range_with_len}
 use Rattle.std.proofs.Common.{ℕ, zero, suc, ◌+◌, ◌*◌, ◌<◌, ◌≤◌, ◌≡◌, ◌≢◌, ◌↔◌, ◌&&◌, inl, inr, refl, sym, ap, ◌∙◌, arith, Bool, true, false, not, cond, IsTrue, Option, Some, None, List, ◌∷◌, length, get_or, map}
-use Rattle.std.proofs.lemmas.Bool.{cases_Bool, cases_eq, false≢true}
+use Rattle.std.proofs.lemmas.Bool.{cases_Bool, cases_eq, false≢true, and_parts, and_from}
 use Rattle.std.proofs.lemmas.List.{ext_get_or, get_or-set_other, get_or-set_same, length-set}
 use Rattle.go_board.specs.declared.colour.Colour.{Colour}
 use Rattle.go_board.specs.declared.colour.Colour.TheVariants.{Black, White}
@@ -29,14 +30,6 @@ is_same-self None = refl
 is_same-self (Some Black) = refl
 is_same-self (Some White) = refl
 
-pub both_hold : (a b : Bool) → a ≡ true → b ≡ true → (a && b) ≡ true
-both_hold true b first second = second
-both_hold false b first second = absurd (false≢true first)
-
-pub both : (a b : Bool) → (a && b) ≡ true → (a ≡ true) × (b ≡ true)
-both true b e = (refl, e)
-both false b e = absurd (false≢true e)
-
 pub not-true : (b : Bool) → not b ≡ true → b ≡ true → ⊥
 not-true true no_way is = false≢true no_way
 not-true false is_not is = false≢true is
@@ -44,10 +37,6 @@ not-true false is_not is = false≢true is
 pub not-false : (b : Bool) → (b ≡ true → ⊥) → not b ≡ true
 not-false true never = absurd (never refl)
 not-false false never = refl
-
--- a law of the crate below: the test whether a point reaches a colour holds where a path leads there
-abbrev pub ReachesByPath : Type 0
-ReachesByPath = (n : ℕ) (g : Colouring) (p : ℕ) (c : Option Colour) → p < n * n → IsTrue (reaches n g p c) ↔ Reaches n g p c
 
 module _ (n : ℕ) (cells : List ℕ) (coded : (p : ℕ) → p < n * n → colour_of cells p < 3) where
   pub reaches_of : (p : ℕ) → p < n * n → ReachesEmpty (n * n) (IsAdjacent n) (colour_of cells) p → Reaches n (colouring_of n cells) p None
@@ -82,7 +71,7 @@ point_cleared : ReachesByPath → (n : ℕ) (cells cells' : List ℕ) (c : Colou
     → IsCleared (n * n) (IsAdjacent n) (colour_of cells) (colour_of cells') code → (p : ℕ) → p < n * n → value_of (colour_of cells' p) ≡ after_clearing n (colouring_of n cells) c p
 point_cleared law n cells cells' c code coded code_small code_is clear p p_in = elim (cases_Bool (is_taken n g c p)) [
   | inl taken ↦
-      let parts = both (has_colour g p (Some c)) (not (reaches n g p None)) taken in
+      let parts = and_parts (has_colour g p (Some c)) (not (reaches n g p None)) taken in
       let is = test_colour n cells p c code p_in (coded p p_in) code_small code_is parts.0 in
       let empty = clear.dead p p_in is (λ r. not-true (reaches n g p None) parts.1 ((law n g p None p_in).1 (reaches_of n cells coded p p_in r))) in
       ap value_of empty ∙ sym (ap (λ b. cond b None (colour_at g p)) taken)
@@ -97,7 +86,7 @@ point_cleared law n cells cells' c code coded code_small code_is clear p p_in = 
       | inr not_code ↦ clear.others p p_in not_code
       | inl is ↦ elim (cases_Bool (reaches n g p None)) [
         | inl alive ↦ clear.alive p p_in is (of_reaches n cells coded p p_in ((law n g p None p_in).0 alive))
-        | inr dead ↦ absurd (false≢true (sym stays ∙ both_hold (has_colour g p (Some c)) (not (reaches n g p None)) (colour_test n cells p c p_in (ap value_of is ∙ code_is)) (ap not dead)))
+        | inr dead ↦ absurd (false≢true (sym stays ∙ and_from (has_colour g p (Some c)) (not (reaches n g p None)) (colour_test n cells p c p_in (ap value_of is ∙ code_is)) (ap not dead)))
       ]
     ]
 

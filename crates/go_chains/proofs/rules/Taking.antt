@@ -1,7 +1,8 @@
 -- How many stones a play takes, and how many stand in its own chains: by lists of them.
 use Rattle.std.specs.Prelude.{Contains, filter}
+use Rattle.go_board.specs.Laws.{JoinedByPath}
 use Rattle.std.proofs.Common.{ℕ, suc, ◌+◌, ◌*◌, ◌<◌, ◌≤◌, ◌≡◌, ◌≢◌, ◌↔◌, ◌&&◌, inl, inr, refl, sym, ap, ◌∙◌, subst, arith, true, not, IsTrue, Some, List, [], ◌∷◌, length}
-use Rattle.std.proofs.lemmas.Bool.{cases_eq}
+use Rattle.std.proofs.lemmas.Bool.{cases_eq, and_parts, and_from}
 use Rattle.std.proofs.lemmas.List.Folds.{list_any-from_Any}
 use Rattle.std.proofs.lemmas.List.Sums.{length-filter}
 use Rattle.go_board.specs.declared.colour.Colour.{Colour}
@@ -17,7 +18,7 @@ use Rattle.go_chains.specs.inner.Steps.{CountsTaken}
 use Rattle.go_chains.specs.inner.Tables.{IsJoined, IsStone, IsTidy, Links}
 use Rattle.go_chains.proofs.rules.Sound.{IsOn-Contains, chain_of, colouring-at, colouring-inside, length-ring_from, ring_from-apart}
 use Rattle.go_chains.proofs.rules.Counting.{below_point, counted_by, passing-has}
-use Rattle.go_chains.proofs.rules.Playing.{both, both_hold, colour_test, not-false, not-true, test_colour}
+use Rattle.go_chains.proofs.rules.Playing.{colour_test, not-false, not-true, test_colour}
 use Rattle.go_chains.proofs.tables.Tidy.{length-le_members}
 
 -- the list counts the stones of a colour that are in the one colouring and not in the other
@@ -28,10 +29,10 @@ vanished_is n before after c code taken coded coded' small is counts =
     sym (counts.1) ∙ sym (counted_by n (λ p. has_colour g p (Some c) && not (has_colour h p (Some c))) counts.0 counts.2
     (λ q has. (let of = (counts.3 q).0 has in (
       of.0,
-      both_hold (has_colour g q (Some c)) (not (has_colour h q (Some c))) (colour_test n before q c of.0 (ap value_of of.1 ∙ is))
+      and_from (has_colour g q (Some c)) (not (has_colour h q (Some c))) (colour_test n before q c of.0 (ap value_of of.1 ∙ is))
           (not-false (has_colour h q (Some c)) (λ still. of.2 (test_colour n after q c code of.0 (coded' q of.0) small is still))),
     )))
-    (λ q q_in passes. (let parts = both (has_colour g q (Some c)) (not (has_colour h q (Some c))) passes in
+    (λ q q_in passes. (let parts = and_parts (has_colour g q (Some c)) (not (has_colour h q (Some c))) passes in
     (counts.3 q).1 (
       q_in,
       test_colour n before q c code q_in (coded q q_in) small is parts.0,
@@ -64,10 +65,6 @@ seen n f f' p c x (y ∷ ys) q off is had x_in links =
           ]
     ]
 
--- a law of the crate below: the test whether points are joined holds where a path joins them
-abbrev pub JoinedByPath : Type 0
-JoinedByPath = (n : ℕ) (g : Colouring) (p q : ℕ) → p < n * n → IsTrue (joined n g p q) ↔ Joined n g p q
-
 -- the placed stone's ring has no more stones than that stone and the own chains beside it
 pub ring-le : JoinedByPath → (n : ℕ) (before after : List ℕ) (p code : ℕ) (c : Colour) → ((q : ℕ) → q < n * n → colour_of before q < 3) → code < 3 → value_of code ≡ Some c → 0 < code
     → IsTidy (n * n) (IsAdjacent n) (tables_of after) → p < n * n → colour_of after p ≡ code → ((q : ℕ) → q < n * n → q ≢ p → colour_of after q ≡ code → colour_of before q ≡ code)
@@ -96,10 +93,10 @@ ring-le law n before after p code c coded small is some tidy p_in p_is had =
         let s_in : s < n * n = near.1 in
         let s_joined = (law n g s q s_in).1 (chain_of n g before (colouring-inside n before) (colouring-at n before) coded s q s_in path) in
         let s_passes : (is_adjacent n p s && (has_colour g s (Some c) && joined n g s q)) ≡ true =
-        both_hold (is_adjacent n p s) (has_colour g s (Some c) && joined n g s q) near.2
-        (both_hold (has_colour g s (Some c)) (joined n g s q) (colour_test n before s c s_in (ap value_of s_is ∙ is)) s_joined) in
+        and_from (is_adjacent n p s) (has_colour g s (Some c) && joined n g s q) near.2
+        (and_from (has_colour g s (Some c)) (joined n g s q) (colour_test n before s c s_in (ap value_of s_is ∙ is)) s_joined) in
         let at = below_point n s s_in in
-        both_hold (has_colour g q (Some c)) (some_neighbour n p (λ k. has_colour g k (Some c) && joined n g k q)) (colour_test n before q c q_in (ap value_of q_is ∙ is))
+        and_from (has_colour g q (Some c)) (some_neighbour n p (λ k. has_colour g k (Some c) && joined n g k q)) (colour_test n before q c q_in (ap value_of q_is ∙ is))
         (list_any-from_Any (λ k. is_adjacent n p k && (has_colour g k (Some c) && joined n g k q)) (points n) (at.0, s, at.1, at.2, s_passes))
 
     members : (q : ℕ) → Contains (ring_from (next_of after) size p) q → Contains (p ∷ own) q

@@ -1,5 +1,6 @@
 -- Points beside each other, and a list of them.
 use Rattle.std.proofs.Common.{arith, ◌≡◌, ◌<◌, ◌≤◌, ◌+◌, ◌*◌, ◌∙◌, Bool, true, false, ℕ, List, IsTrue, All, Contains, get_or, length, map, sym, ap, subst}
+use Rattle.go_board.specs.Laws.{PointsByNumber}
 use Rattle.std.proofs.lemmas.List.{get_or-map, length-map}
 use Rattle.go_board.specs.declared.point.Point.{Point}
 use Rattle.std.proofs.Common.{◌==◌, ◌&&◌, ◌||◌, inl, inr}
@@ -14,15 +15,8 @@ use Rattle.go_chains.specs.inner.Beside.{AreBeside}
 abbrev pub origin : Point
 origin = record { col = 0; row = 0 }
 
--- the points of the board with their numbers, as a law of the crate below says it
-pub record ByNumber : Type 0 where
-  pub number : (n : ℕ) (p : Point) → IsOn n p → number_of n p < n * n
-  pub back : (n : ℕ) (p : Point) → IsOn n p → point_at n (number_of n p) ≡ p
-  pub on : (n k : ℕ) → k < n * n → IsOn n (point_at n k)
-  pub same : (n k : ℕ) → k < n * n → number_of n (point_at n k) ≡ k
-
 -- the numbers of the neighbours are those of the points beside
-pub are_beside_by_number : ByNumber → (n p : ℕ) (at : Point) (items : List Point) (xs : List ℕ) → p < n * n → at ≡ point_at n p → length items ≤ 4
+pub are_beside_by_number : PointsByNumber → (n p : ℕ) (at : Point) (items : List Point) (xs : List ℕ) → p < n * n → at ≡ point_at n p → length items ≤ 4
     → All (λ q. IsOn n q) items → All (λ q. IsTrue (are_beside at q)) items → ((q : Point) → IsOn n q → IsTrue (are_beside at q) → Contains items q)
     → xs ≡ map (number_of n) items → AreBeside n p xs
 are_beside_by_number law n p at items xs p_in at_is few on beside each numbers = record {
@@ -44,10 +38,6 @@ are_beside_by_number law n p at items xs p_in at_is few on beside each numbers =
       let e : length xs ≡ length items = ap length numbers ∙ length-map items (number_of n) in
       (has.0, omega arith, ap (λ l. get_or l has.0 0) numbers ∙ get_or-map (number_of n) items has.0 q 0 low ∙ ap (number_of n) has.2 ∙ law.same n k near.1);
 }
-
--- a board has no more points than the largest
-pub square-le : (n : ℕ) → n ≤ MAX_LINES → n * n ≤ MAX_POINTS
-square-le n small = grind arith
 
 is_next-self : (a : ℕ) → is_next a a ≡ false
 is_next-self a = false_from_ne_true (is_next a a) (λ e. elim (or_cases (a + 1 == a) (a + 1 == a) e) [

@@ -1,5 +1,5 @@
 use Rattle.std.proofs.Common.{◌∙◌, sym}
-use Rattle.go_board.specs.Flood.{IsMarked}
+use Rattle.go_board.specs.inner.Flood.{IsMarked}
 use Rattle.go_board.proofs.Beside.{all_done, are_neighbours, beside_more, done_more}
 use Rattle.go_board.proofs.flood.mark_beside.Goals as goal
 

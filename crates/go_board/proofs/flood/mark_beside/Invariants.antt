@@ -1,5 +1,5 @@
 use Rattle.go_board.specs.Points.{number_of}
-use Rattle.go_board.specs.Flood.{Grows, IsMarked, IsStep}
+use Rattle.go_board.specs.inner.Flood.{Grows, IsMarked, IsStep}
 use Rattle.go_board.proofs.Beside.{HoldsOfFirst}
 use Rattle.go_board.proofs.flood.mark_beside.Given as goal
 

@@ -1,6 +1,6 @@
 use Rattle.std.proofs.Common.{◌≡◌, ◌<◌, ◌*◌, ◌∙◌, ℕ, sym, subst, ap, true≢false}
 use Rattle.go_board.specs.Points.{number_of}
-use Rattle.go_board.specs.Flood.{Grows, IsMarked, IsStep}
+use Rattle.go_board.specs.inner.Flood.{Grows, IsMarked, IsStep}
 use Rattle.go_board.proofs.Flooding.{flood_done, flood_more, last_on}
 use Rattle.go_board.proofs.flood.spread.Goals as goal
 

@@ -1,4 +1,4 @@
-use Rattle.go_board.specs.Flood.{work}
+use Rattle.go_board.specs.inner.Flood.{work}
 use Rattle.go_board.proofs.Flooding.{IsFlood}
 use Rattle.go_board.proofs.flood.spread.Given as goal
 

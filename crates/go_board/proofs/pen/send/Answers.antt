@@ -1,6 +1,6 @@
 use Rattle.std.proofs.Common.{◌∙◌, ◌++◌, ap, sym, append_assoc}
 use Rattle.go_board.specs.Device.{then_bytes}
-use Rattle.go_board.specs.Writing.{then_bytes-then_bytes}
+use Rattle.go_board.specs.lemmas.Writing.{then_bytes-then_bytes}
 use Rattle.go_board.proofs.Devices.{no_failure_more}
 use Rattle.go_board.proofs.pen.send.Goals as goal
 

@@ -1,7 +1,7 @@
 use Rattle.std.proofs.Common.{◌∙◌, ℕ, ap, subst, sym, true≢false}
 use Rattle.std.proofs.lemmas.Bool.{false_from_ne_true}
 use Rattle.std.proofs.Math.ListN.{get_or}
-use Rattle.go_board.specs.Flood.{IsMarked}
+use Rattle.go_board.specs.inner.Flood.{IsMarked}
 use Rattle.go_board.specs.Points.{is_adjacent, number_of}
 use Rattle.go_board.specs.Reaching.{connects}
 use Rattle.go_board.proofs.Beside.{adjacent_at, are_neighbours, each_done, each_more, origin}

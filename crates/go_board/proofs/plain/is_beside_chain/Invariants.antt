@@ -1,4 +1,4 @@
-use Rattle.go_board.specs.Flood.{IsMarked}
+use Rattle.go_board.specs.inner.Flood.{IsMarked}
 use Rattle.go_board.proofs.Beside.{HoldsOfEach}
 use Rattle.go_board.proofs.plain.is_beside_chain.Given as goal
 

@@ -1,6 +1,6 @@
 use Rattle.std.proofs.Common.{◌≡◌, ◌∙◌, ℕ, ap, subst, sym}
 use Rattle.go_board.specs.Points.{number_of}
-use Rattle.go_board.specs.Flood.{Grows, IsMarked, IsSeed}
+use Rattle.go_board.specs.inner.Flood.{Grows, IsMarked, IsSeed}
 use Rattle.go_board.proofs.Seeding.{seeding_more}
 use Rattle.go_board.proofs.seeds.mark_seeds.Goals as goal
 

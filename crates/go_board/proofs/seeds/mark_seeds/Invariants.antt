@@ -1,4 +1,4 @@
-use Rattle.go_board.specs.Flood.{IsSeeding}
+use Rattle.go_board.specs.inner.Flood.{IsSeeding}
 use Rattle.go_board.proofs.seeds.mark_seeds.Given as goal
 
 abbrev pub invariant-loop-number : goal.invariant-loop-number

@@ -1,9 +1,9 @@
 use Rattle.std.proofs.Common.{arith, ◌≡◌, ◌<◌, ◌+◌, ◌*◌, ap, sym, ◌∙◌}
+use Rattle.go_board.specs.lemmas.Squares.{square-le}
 use Rattle.go_board.specs.Paths.{IsAdjacent}
 use Rattle.go_chains.specs.declared.cells.TheConstants.{LINKS, SIZES}
 use Rattle.go_chains.specs.Cells.{chain_size, label_of, size_of, tables_of, words_for}
 use Rattle.go_chains.proofs.writes.Joining.{IsJoin_written}
-use Rattle.go_chains.proofs.writes.Neighbours.{square-le}
 use Rattle.go_chains.proofs.writes.Editing.{Edited_next, Edited_within}
 use Rattle.go_chains.proofs.writes.Bounds.{label_small, ring_small, size_small}
 use Rattle.go_chains.proofs.join.join.Goals as goal

@@ -1,7 +1,7 @@
 use Rattle.std.proofs.Common.{arith, ℕ, sym, subst, List}
+use Rattle.go_board.specs.lemmas.Squares.{square-le}
 use Rattle.go_chains.specs.inner.Beside.{AreBeside}
 use Rattle.go_chains.proofs.writes.Lifting.{IsLifted_given}
-use Rattle.go_chains.proofs.writes.Neighbours.{square-le}
 use Rattle.go_chains.proofs.writes.Editing.{Edited_then}
 use Rattle.go_chains.proofs.lift.lift.Goals as goal
 

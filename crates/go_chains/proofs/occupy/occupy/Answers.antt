@@ -1,9 +1,9 @@
 use Rattle.std.proofs.Common.{arith, ◌<◌, ◌*◌, ℕ, slice_index, subst, sym}
+use Rattle.go_board.specs.lemmas.Squares.{square-le}
 use Rattle.std.proofs.lemmas.List.{get_or_default}
 use Rattle.go_board.specs.Paths.{IsAdjacent}
 use Rattle.go_board.specs.declared.size.TheConstants.{MAX_POINTS}
 use Rattle.go_chains.specs.Cells.{colour_of, label_of, tables_of, words_for}
-use Rattle.go_chains.proofs.writes.Neighbours.{square-le}
 use Rattle.go_chains.proofs.writes.Occupying.{IsOccupied_written}
 use Rattle.go_chains.proofs.writes.Editing.{Edited_next, Edited_within}
 use Rattle.go_chains.proofs.writes.Bounds.{label_small}

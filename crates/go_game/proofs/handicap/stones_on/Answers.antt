@@ -7,7 +7,6 @@ use Rattle.go_board.specs.declared.point.Point.{Point}
 use Rattle.go_board.specs.Colours.{Colouring}
 use Rattle.go_board.specs.Points.{IsOn, number_of}
 use Rattle.go_board.specs.Reaching.{is_dead}
-use Rattle.go_board.specs.Sizes.{lines_of}
 use Rattle.go_game.proofs.Stones.{laid, laid_is, with_black, with_black-more, stones_plain, stones_leave, past_alive}
 use Rattle.go_game.proofs.handicap.stones_on.Goals as goal
 
@@ -42,13 +41,13 @@ all_laid n m listed i g start size empty done now = now ∙ ap (with_black m sta
 
 pub returns-clause-colours : goal.returns-clause-colours
 returns-clause-colours c =
-    all_laid (lines_of c.args.size) c.new-grid.result.lines c.args.points.now c.loop-point.point-index c.loop-point.grid.colours c.new-grid.result.colours c.new-grid.ensures.lines c.new-grid.ensures.colours
+    all_laid c.args.size c.new-grid.result.lines c.args.points.now c.loop-point.point-index c.loop-point.grid.colours c.new-grid.result.colours c.new-grid.ensures.lines c.new-grid.ensures.colours
     c.loop-point-test.false c.loop-point.invariant.colours
-    ∙ laid_is (lines_of c.args.size) c.args.points.now
+    ∙ laid_is c.args.size c.args.points.now
 
 pub returns-clause-alive : goal.returns-clause-alive
 returns-clause-alive c = λ few k.
-    let n = lines_of c.args.size in
+    let n = c.args.size in
     let points = c.args.points.now in
     let colours : c.loop-point.grid.colours ≡ laid n points =
     all_laid n c.new-grid.result.lines points c.loop-point.point-index c.loop-point.grid.colours c.new-grid.result.colours c.new-grid.ensures.lines c.new-grid.ensures.colours c.loop-point-test.false

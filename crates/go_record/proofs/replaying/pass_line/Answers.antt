@@ -3,7 +3,7 @@ use Rattle.std.specs.Prelude.{Err}
 use Rattle.std.proofs.lemmas.Result.{err_from_is_err_and}
 use Rattle.go_sgf.specs.View.{tree_of}
 use Rattle.go_record.specs.MainLine.{Event, events_from, main_line}
-use Rattle.go_record.specs.Progress.{Goes, Place, line_from}
+use Rattle.go_record.specs.inner.Progress.{Goes, Place, line_from}
 use Rattle.go_record.proofs.Lines.{first_line, line_split}
 use Rattle.go_record.proofs.Walking.{walked_stops}
 use Rattle.go_record.proofs.replaying.pass_line.Goals as goal

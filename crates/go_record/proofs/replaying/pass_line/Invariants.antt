@@ -2,7 +2,7 @@ use Rattle.std.proofs.Common.{List, ◌++◌}
 use Rattle.go_sgf.specs.Record.{depth}
 use Rattle.go_sgf.specs.View.{collection_of}
 use Rattle.go_record.specs.MainLine.{Event, events_from, main_line}
-use Rattle.go_record.specs.Progress.{Goes, line_from}
+use Rattle.go_record.specs.inner.Progress.{Goes, line_from}
 use Rattle.go_record.specs.Walks.{Outcome}
 use Rattle.go_record.proofs.replaying.pass_line.Given as goal
 

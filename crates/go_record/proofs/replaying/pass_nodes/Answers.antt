@@ -3,7 +3,7 @@ use Rattle.std.proofs.lemmas.List.{append-nil}
 use Rattle.std.proofs.lemmas.Result.{err_from_is_err_and}
 use Rattle.std.specs.Prelude.{Err}
 use Rattle.go_record.specs.MainLine.{Event, events_from, events_of}
-use Rattle.go_record.specs.Progress.{Passes, Stops}
+use Rattle.go_record.specs.inner.Progress.{Passes, Stops}
 use Rattle.go_record.proofs.Lines.{node_on}
 use Rattle.go_record.proofs.Walking.{passes_nothing, passes_passes, passes_stops, stops_longer, walked_stops}
 use Rattle.go_record.proofs.replaying.pass_nodes.Goals as goal

@@ -1,6 +1,6 @@
 use Rattle.std.proofs.Common.{◌≡◌, ◌++◌, ◌+◌, List, length}
 use Rattle.go_record.specs.MainLine.{Event, events_from}
-use Rattle.go_record.specs.Progress.{Passes}
+use Rattle.go_record.specs.inner.Progress.{Passes}
 use Rattle.go_record.proofs.replaying.pass_nodes.Given as goal
 
 abbrev pub invariant-loop-node : goal.invariant-loop-node

@@ -1,5 +1,4 @@
 use Rattle.std.proofs.Common.{sym}
-use Rattle.go_board.specs.Sizes.{lines_of}
 use Rattle.go_sgf.specs.View.{collection_of}
 use Rattle.go_record.proofs.Lines.{bad_komi, bad_size, not_go}
 use Rattle.go_record.proofs.root.root_of.Goals as goal
@@ -15,6 +14,6 @@ returns-in_default-clause-err g c = λ number.
 
 pub returns-in-None-clause-err : goal.returns-in-None-clause-err
 returns-in-None-clause-err g c = λ number.
-    bad_komi (collection_of c.args.collection.now) number (lines_of c.in-Some.size) (sym (rw c.root_value.ensures at c.if-not-is_go.ensures))
+    bad_komi (collection_of c.args.collection.now) number c.in-Some.size (sym (rw c.root_value.ensures at c.if-not-is_go.ensures))
     (sym (rw (c.in-Some.is, c.root_value-2.ensures) at c.size_of.ensures))
     (sym (rw (c.in-None.is, c.root_value-3.ensures) at c.komi_of.ensures.value))

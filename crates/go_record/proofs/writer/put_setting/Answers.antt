@@ -1,7 +1,7 @@
 use Rattle.std.proofs.Common.{arith, ◌≡◌, ◌∙◌, ap, w64}
 use Rattle.std.proofs.lemmas.Int.{ints}
 use mir.Val.{of_z, to_z}
-use Rattle.go_board.specs.Writing.{adds_adds}
+use Rattle.go_board.specs.lemmas.Writing.{writes_writes}
 use Rattle.go_game.specs.Scores.{hundredths_word}
 use Rattle.std.specs.Prelude.{decimal}
 use Rattle.go_record.proofs.writer.put_setting.Goals as goal
@@ -13,4 +13,4 @@ returns g c =
     c.as_bytes-2.ensures.value ∙ c.deref.ensures.0 ∙ c.hundredths_text.ensures ∙ ap hundredths_word (back ∙ c.komi.ensures) in
     let lines : c.as_bytes.result.now ≡ decimal c.args.game.now.standing.lines =
     c.as_bytes.ensures.value ∙ c.format.ensures.text ∙ ap decimal (c.lines.ensures.value ∙ c.size.ensures.lines) in
-    adds_adds c.put.ensures (adds_adds (rw lines at c.put-2.ensures) (adds_adds c.put-3.ensures (rw komi at c.put-4.ensures)))
+    writes_writes c.put.ensures (writes_writes (rw lines at c.put-2.ensures) (writes_writes c.put-3.ensures (rw komi at c.put-4.ensures)))

@@ -1,5 +1,5 @@
 use Rattle.std.proofs.Common.{◌∙◌}
-use Rattle.go_board.specs.Writing.{adds_then}
+use Rattle.go_board.specs.lemmas.Writing.{writes_then}
 use Rattle.go_record.proofs.Writes.{front_more, stones_more}
 use Rattle.go_record.proofs.writer.put_stones.Goals as goal
 
@@ -11,7 +11,7 @@ loop-number-preserved g c =
     let is = rw c.size-size.ensures.lines at c.numbered.ensures.value in
     record {
       written =
-          adds_then _ c.loop-number.invariant.written (rw (back, is, c.loop-number.invariant.front) at c.put_if_coloured-front.ensures.stone)
+          writes_then _ c.loop-number.invariant.written (rw (back, is, c.loop-number.invariant.front) at c.put_if_coloured-front.ensures.stone)
           (stones_more c.args.name.now s.lines s.start c.args.colour k);
       front = rw (back, c.loop-number.invariant.front) at c.put_if_coloured-front.ensures.next ∙ front_more c.args.name.now s.start c.args.colour k;
     }

@@ -1,6 +1,6 @@
 use Rattle.std.proofs.Common.{◌≡◌, [], false, length}
 use Rattle.go_sgf.specs.PartsIn.{nodes_at, parts_in, values_at}
-use Rattle.go_sgf.specs.Reads.{begins_space}
+use Rattle.go_sgf.specs.inner.Reads.{begins_space}
 use Rattle.go_sgf.proofs.nodes.behind_properties.Given as goal
 
 abbrev pub invariant-loop-rest : goal.invariant-loop-rest

@@ -2,7 +2,7 @@ use Rattle.std.proofs.Common.{List, [], ◌∷◌, ◌++◌, refl, sym, ap, subs
 use Rattle.std.proofs.lemmas.Result.{err_from_is_err_and}
 use Rattle.go_sgf.specs.declared.limits.TheConstants.{MAX_DEPTH}
 use Rattle.std.specs.List.{flat_map}
-use Rattle.go_sgf.specs.Reads.{ReadsNodes}
+use Rattle.go_sgf.specs.inner.Reads.{ReadsNodes}
 use Rattle.go_sgf.specs.Record.{Property}
 use Rattle.go_sgf.specs.Spelling.{property_parts}
 use Rattle.go_sgf.proofs.Parts.{rest_le}

@@ -1,7 +1,7 @@
 use Rattle.std.proofs.Common.{◌≡◌, true, length, take, arith}
 use Rattle.std.proofs.lemmas.List.{take_all}
 use Rattle.std.specs.List.{list_all}
-use Rattle.go_sgf.specs.Reads.{is_ordinary}
+use Rattle.go_sgf.specs.inner.Reads.{is_ordinary}
 use Rattle.go_sgf.proofs.Scanning.{ordinary_before}
 use Rattle.go_sgf.proofs.scan.ordinary.Goals as goal
 

@@ -2,7 +2,7 @@ use Rattle.std.proofs.Common.{◌≡◌, ◌++◌, ℕ, List, length, map}
 use Rattle.std.specs.List.{flat_map}
 use Rattle.go_sgf.specs.PartsIn.{parts_in}
 use Rattle.go_sgf.specs.Spelling.{value}
-use Rattle.go_sgf.specs.Texts.{value_text}
+use Rattle.go_sgf.specs.inner.Texts.{value_text}
 use Rattle.go_sgf.proofs.verbatim.values.Given as goal
 
 abbrev pub invariant-loop-inside : goal.invariant-loop-inside

@@ -1,5 +1,5 @@
 use Rattle.std.proofs.Common.{◌<◌, length}
-use Rattle.go_sgf.specs.Texts.{Stays}
+use Rattle.go_sgf.specs.inner.Texts.{Stays}
 use Rattle.go_sgf.proofs.verbatim.verbatim.Given as goal
 
 abbrev pub invariant-loop-more : goal.invariant-loop-more

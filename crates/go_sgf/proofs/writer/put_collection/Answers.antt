@@ -1,5 +1,5 @@
 use Rattle.std.proofs.Common.{◌+◌, take}
-use Rattle.go_board.specs.Writing.{adds_adds, adds_then}
+use Rattle.go_board.specs.lemmas.Writing.{writes_writes, writes_then}
 use Rattle.go_sgf.specs.Spelling.{canonical}
 use Rattle.go_sgf.specs.View.{trees_of}
 use Rattle.go_sgf.proofs.Written.{canonical_more, next_item}
@@ -10,5 +10,5 @@ loop-tree-preserved g c =
     let at = c.loop-tree.tree-index in
     let all = c.as_slice-tree-items.result.now in
     let item = c.tree-item.result in
-    adds_then (canonical (trees_of (take (at + 1) all))) c.loop-tree.invariant (adds_adds c.put_tree.ensures c.put.ensures)
+    writes_then (canonical (trees_of (take (at + 1) all))) c.loop-tree.invariant (writes_writes c.put_tree.ensures c.put.ensures)
     (canonical_more all at item (next_item all at item c.loop-tree-test.true c.tree-item.is))

@@ -1,11 +1,11 @@
 use Rattle.std.proofs.Common.{◌≡◌, [], ◌∙◌, ◌++◌, ap, append_assoc, subst, sym, List, ℕ}
 use Rattle.std.proofs.lemmas.List.{append-nil}
 use Rattle.std.specs.List.{filter, flat_map}
-use Rattle.go_board.specs.Device.{Adds, place}
-use Rattle.go_board.specs.Writing.{adds_adds}
+use Rattle.go_board.specs.Pens.{Writes}
+use Rattle.go_board.specs.lemmas.Writing.{writes_writes}
 use Rattle.go_sgf.specs.PartsIn.{nodes_at, parts_in, properties_at, values_at}
 use Rattle.go_sgf.specs.Record.{is_upper}
-use Rattle.go_sgf.specs.Texts.{node_text, parts_text, property_text, value_text}
+use Rattle.go_sgf.specs.inner.Texts.{node_text, parts_text, property_text, value_text}
 use Rattle.go_sgf.proofs.PartsIn.{name_first, no_property}
 use Rattle.go_sgf.proofs.Staying.{name_text, nothing_left}
 use Rattle.go_sgf.proofs.writer.put_nodes.Goals as goal
@@ -39,7 +39,7 @@ loop-rest-preserved g c =
     record {
       written = (
         i.written.0 ++ (one ++ w.written.0),
-        adds_adds i.written.1 (adds_adds (adds_adds c.put_name.ensures (rw c.at.ensures at c.put_values.ensures)) w.written.1),
+        writes_writes i.written.1 (writes_writes (writes_writes c.put_name.ensures (rw c.at.ensures at c.put_values.ensures)) w.written.1),
         i.written.2
             ∙ ap (λ xs. i.written.0 ++ xs) (text ∙ ap (λ xs. one ++ xs) w.written.2 ∙ sym (append_assoc one w.written.0 (parts_text (parts_in c.put_verbatim-rest-in-loop-rest.result.now))))
             ∙ sym (append_assoc i.written.0 (one ++ w.written.0) (parts_text (parts_in c.put_verbatim-rest-in-loop-rest.result.now))),
@@ -53,6 +53,5 @@ pub returns : goal.returns
 returns g c =
     let i = c.loop-rest.invariant in
     let left : parts_text (parts_in c.loop-rest.rest.now) ≡ [] = nothing_left c.loop-rest.rest.now i.trimmed (sym c.loop-rest-test.ensures) i.node i.values in
-    subst (λ (xs : List ℕ). Adds (place c.args.pen.now.has_failed (g.W.Sink.taken c.args.writer.now) (g.W.Sink.failures c.args.writer.now))
-    (place c.loop-rest.pen.has_failed (g.W.Sink.taken c.loop-rest.writer) (g.W.Sink.failures c.loop-rest.writer)) xs)
+    subst (λ (xs : List ℕ). Writes g.W.Sink c.args.pen.now c.loop-rest.pen xs)
     (sym (i.written.2 ∙ ap (λ xs. i.written.0 ++ xs) left ∙ append-nil i.written.0)) i.written.1

@@ -1,6 +1,6 @@
 use Rattle.std.proofs.Common.{◌≡◌, ◌+◌, ◌++◌, ◌∷◌, [], sym, take, get_or}
 use Rattle.std.proofs.lemmas.List.{take_more}
-use Rattle.go_board.specs.Writing.{adds_then}
+use Rattle.go_board.specs.lemmas.Writing.{writes_then}
 use Rattle.std.specs.List.{filter}
 use Rattle.go_sgf.specs.Record.{is_upper}
 use Rattle.go_sgf.proofs.Written.{filter_more, filter_same}
@@ -14,10 +14,10 @@ loop-letter-preserved g c =
     let next : take (at + 1) c.args.name.now ≡ take at c.args.name.now ++ letter ∷ [] = take_more c.args.name.now at 0 c.loop-letter-test.true in
     elim c.if-is_upper.branch [
       | then-is_upper w ↦
-          rw (w.pen-is, w.writer-is)
-          (adds_then (filter is_upper (take (at + 1) c.args.name.now)) c.loop-letter.invariant w.put.ensures
+          rw w.pen-is
+          (writes_then (filter is_upper (take (at + 1) c.args.name.now)) c.loop-letter.invariant w.put.ensures
           (filter_more is_upper c.args.name.now at letter next (sym w.if-is_upper.ensures)))
       | else-is_upper w ↦
           let same = filter_same is_upper c.args.name.now at letter next (sym w.if-is_upper.ensures) in
-          rw (w.pen-is, w.writer-is, ← same) c.loop-letter.invariant
+          rw (w.pen-is, ← same) c.loop-letter.invariant
     ]

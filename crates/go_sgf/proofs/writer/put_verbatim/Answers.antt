@@ -1,8 +1,7 @@
 use Rattle.std.proofs.Common.{[], ◌∙◌, ◌++◌, ap, append_assoc, sym, arith}
-use Rattle.go_board.specs.Writing.{adds_adds, adds_nothing}
-use Rattle.go_board.specs.Device.{place}
+use Rattle.go_board.specs.lemmas.Writing.{writes_writes, writes_nothing}
 use Rattle.go_sgf.specs.PartsIn.{parts_in}
-use Rattle.go_sgf.specs.Texts.{parts_text}
+use Rattle.go_sgf.specs.inner.Texts.{parts_text}
 use Rattle.go_sgf.proofs.Staying.{same_text}
 use Rattle.go_sgf.proofs.writer.put_verbatim.Goals as goal
 
@@ -12,7 +11,7 @@ loop-front-init g c =
     record {
       written = (
         [],
-        adds_nothing (place c.args.pen.now.has_failed (g.W.Sink.taken c.args.writer.now) (g.W.Sink.failures c.args.writer.now)),
+        writes_nothing g.W.Sink c.args.pen.now,
         sym (same_text (parts_in b.result.now) (parts_in c.args.text.now) b.ensures.properties b.ensures.nodes),
       );
       trimmed = b.ensures.trimmed;
@@ -28,7 +27,7 @@ loop-front-preserved g c =
     record {
       written = (
         i.written.0 ++ front,
-        adds_adds i.written.1 c.put.ensures,
+        writes_writes i.written.1 c.put.ensures,
         i.written.2
             ∙ ap (λ xs. i.written.0 ++ xs)
             (c.in-Some.ensures.written ∙ ap (λ xs. front ++ xs) (sym (same_text (parts_in b.result.now) (parts_in c.in-Some.more.now) b.ensures.properties b.ensures.nodes)))

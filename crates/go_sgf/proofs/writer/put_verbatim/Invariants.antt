@@ -1,15 +1,14 @@
 use Rattle.std.proofs.Common.{◌≡◌, ◌≤◌, ◌++◌, [], ℕ, List, false, length}
-use Rattle.go_board.specs.Device.{Adds, place}
+use Rattle.go_board.specs.Pens.{Writes}
 use Rattle.go_sgf.specs.PartsIn.{parts_in, values_at}
-use Rattle.go_sgf.specs.Reads.{begins_space}
-use Rattle.go_sgf.specs.Texts.{parts_text}
+use Rattle.go_sgf.specs.inner.Reads.{begins_space}
+use Rattle.go_sgf.specs.inner.Texts.{parts_text}
 use Rattle.go_sgf.proofs.writer.put_verbatim.Given as goal
 
 abbrev pub invariant-loop-front : goal.invariant-loop-front
 invariant-loop-front g l = record {
   written : (more : List ℕ)
-      × Adds (place l.fn.pen.has_failed (g.W.Sink.taken l.fn.writer) (g.W.Sink.failures l.fn.writer))
-      (place l.pen.has_failed (g.W.Sink.taken l.writer) (g.W.Sink.failures l.writer)) more
+      × Writes g.W.Sink l.fn.pen l.pen more
       × (parts_text (parts_in l.text) ≡ more ++ parts_text (parts_in l.rest));
   trimmed : begins_space l.rest ≡ false;
   values : values_at (parts_in l.rest) ≡ [];

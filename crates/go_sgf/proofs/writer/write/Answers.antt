@@ -1,10 +1,11 @@
-use Rattle.go_board.specs.Writing.{finished}
+use Rattle.std.proofs.Common.{rules}
+use Rattle.go_board.specs.lemmas.Writing.{finished_pen}
 use Rattle.go_sgf.proofs.writer.write.Goals as goal
 
 pub returns-clause-sent : goal.returns-clause-sent
 returns-clause-sent g c =
-    (finished c.put_collection.new.pen.has_failed (rw c.new-pen.ensures at c.put_collection.ensures) c.finish.result c.finish.ensures).0
+    (finished_pen c.put_collection.ensures c.new-pen.ensures.fresh c.new-pen.ensures.writer (search rules) c.finish.result c.finish.ensures.value).0
 
 pub returns-clause-failures : goal.returns-clause-failures
 returns-clause-failures g c =
-    (finished c.put_collection.new.pen.has_failed (rw c.new-pen.ensures at c.put_collection.ensures) c.finish.result c.finish.ensures).1
+    (finished_pen c.put_collection.ensures c.new-pen.ensures.fresh c.new-pen.ensures.writer (search rules) c.finish.result c.finish.ensures.value).1

@@ -1,5 +1,5 @@
 use Rattle.std.proofs.Common.{◌∙◌, sym, ap}
-use Rattle.goref_lines.specs.Front.{last_of}
+use Rattle.goref_lines.specs.inner.Front.{last_of}
 use Rattle.goref_lines.specs.Kept.{printable}
 use Rattle.goref_lines.proofs.Pieces.{last_is}
 use Rattle.goref_lines.proofs.line.last_printable.Goals as goal

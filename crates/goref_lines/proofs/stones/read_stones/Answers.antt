@@ -1,12 +1,11 @@
 use Rattle.std.proofs.Common.{◌∙◌, sym, ap, ◌∷◌}
-use Rattle.go_board.specs.Sizes.{lines_of}
 use Rattle.goref_lines.specs.Stones.{spelled, stones_listed}
 use Rattle.goref_lines.proofs.Gathering.{begins}
 use Rattle.goref_lines.proofs.stones.read_stones.Goals as goal
 
 pub loop-word-init : goal.loop-word-init
 loop-word-init c =
-    let n = lines_of c.args.size in
+    let n = c.args.size in
     let rest = c.next_word.new.self in
     record {
       lines = c.push.ensures.lines ∙ c.new-stones.ensures.lines;

@@ -3,7 +3,7 @@ use Rattle.std.specs.List.{flat_map}
 use Rattle.go_board.specs.Chains.{liberties, members}
 use Rattle.go_board.specs.Colours.{colour_at}
 use Rattle.go_board.specs.Points.{number_of}
-use Rattle.go_board.specs.Writing.{adds_adds, adds_then}
+use Rattle.go_board.specs.lemmas.Writing.{writes_writes, writes_then}
 use Rattle.go_game.specs.Standings.{board_of}
 use Rattle.goref_results.specs.ChainLines.{stone_text}
 use Rattle.goref_results.specs.Places.{spaced_point}
@@ -17,5 +17,5 @@ returns g c =
     let p = number_of n c.args.at in
     let stones = ap (flat_map spaced_point) c.chain_points.ensures ∙ spaced_points n (members n (board_of s) p) in
     let free = ap (flat_map spaced_point) c.liberty_points.ensures ∙ spaced_points n (liberties n (board_of s) p) in
-    adds_then _ c.put_stone.ensures (adds_adds c.put_each.ensures (adds_adds c.put.ensures c.put_each-2.ensures))
+    writes_then _ c.put_stone.ensures (writes_writes c.put_each.ensures (writes_writes c.put.ensures c.put_each-2.ensures))
     (ap₂ (λ a b. stone_text (colour_at (board_of s) p) ++ (a ++ (codes " :" ++ b))) stones free)

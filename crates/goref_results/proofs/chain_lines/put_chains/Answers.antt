@@ -1,7 +1,7 @@
 use Rattle.std.proofs.Common.{arith, ◌≡◌, ◌*◌, ◌∙◌, ℕ, sym, ap}
 use Rattle.go_board.specs.Chains.{is_first_of_chain}
 use Rattle.go_board.specs.Points.{number_of}
-use Rattle.go_board.specs.Writing.{adds_then}
+use Rattle.go_board.specs.lemmas.Writing.{writes_then}
 use Rattle.go_game.specs.Standings.{board_of}
 use Rattle.goref_results.specs.ChainLines.{chain_line}
 use Rattle.goref_results.proofs.Listing.{lines_more, before_more, chain_some}
@@ -16,7 +16,7 @@ loop-number-preserved g c =
     let k = c.loop-number.number in
     let here : number_of n c.numbered.result ≡ k = ap (λ (m : ℕ). number_of m c.numbered.result) (sym c.size-size.ensures.lines) ∙ c.numbered.ensures.back in
     record {
-      lines = adds_then _ c.loop-number.invariant.lines (rw (here, c.loop-number.invariant.before) at c.put_if_first-before.ensures.line)
+      lines = writes_then _ c.loop-number.invariant.lines (rw (here, c.loop-number.invariant.before) at c.put_if_first-before.ensures.line)
           (lines_more line (chain_some n (board_of s)) first k);
       before = (rw (here, c.loop-number.invariant.before) at c.put_if_first-before.ensures.next) ∙ before_more first k;
     }

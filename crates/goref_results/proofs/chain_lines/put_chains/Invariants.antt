@@ -2,7 +2,7 @@ use Rattle.std.proofs.Common.{◌≡◌}
 use Rattle.std.specs.Prelude.{filter}
 use Rattle.std.specs.List.{range_with_len}
 use Rattle.go_board.specs.Chains.{is_first_of_chain}
-use Rattle.go_board.specs.Device.{Adds, place}
+use Rattle.go_board.specs.Pens.{Writes}
 use Rattle.go_game.specs.Standings.{board_of}
 use Rattle.goref_results.specs.ChainLines.{chain_line}
 use Rattle.goref_results.specs.Results.{result_text}
@@ -15,8 +15,6 @@ invariant-loop-number g l =
     let board = board_of l.game.standing in
     let firsts = filter (is_first_of_chain n board) (range_with_len 0 l.number) in
     record {
-      lines : Adds (place l.fn.pen.has_failed (g.W.Sink.taken l.fn.writer) (g.W.Sink.failures l.fn.writer))
-          (place l.pen.has_failed (g.W.Sink.taken l.writer) (g.W.Sink.failures l.writer))
-          (result_text (joined_lines (chain_line n board) firsts));
+      lines : Writes g.W.Sink l.fn.pen l.pen (result_text (joined_lines (chain_line n board) firsts));
       before : l.before ≡ before_next firsts;
     }

@@ -1,6 +1,6 @@
 use Rattle.std.proofs.Common.{◌∙◌, ◌++◌, ap, append_assoc, sym}
 use Rattle.std.specs.List.{flat_map}
-use Rattle.go_board.specs.Writing.{adds_adds}
+use Rattle.go_board.specs.lemmas.Writing.{writes_writes}
 use Rattle.goref_results.specs.Places.{spaced_point}
 use Rattle.goref_results.proofs.chain_lines.put_each.Goals as goal
 
@@ -9,6 +9,6 @@ loop-point-preserved g c =
     let i = c.loop-point.invariant in
     let text = spaced_point c.in-Some.point in (
       i.0 ++ text,
-      adds_adds i.1 (adds_adds c.put.ensures (rw (c.as_bytes.ensures.value, c.deref.ensures.0, c.vertex_text.ensures.text) at c.put-in-loop-point.ensures)),
+      writes_writes i.1 (writes_writes c.put.ensures (rw (c.as_bytes.ensures.value, c.deref.ensures.0, c.vertex_text.ensures.text) at c.put-in-loop-point.ensures)),
       append_assoc i.0 text (flat_map spaced_point c.next.new.self) ∙ ap (λ ps. i.0 ++ flat_map spaced_point ps) (sym c.in-Some.ensures.steps) ∙ i.2,
     )

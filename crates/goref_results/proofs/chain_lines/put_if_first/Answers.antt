@@ -1,6 +1,6 @@
 use Rattle.std.proofs.Common.{◌∙◌, ◌∷◌, [], sym}
 use Rattle.go_board.specs.Points.{number_of}
-use Rattle.go_board.specs.Writing.{adds_then}
+use Rattle.go_board.specs.lemmas.Writing.{writes_then}
 use Rattle.go_game.specs.Standings.{board_of}
 use Rattle.goref_results.specs.ChainLines.{chain_line}
 use Rattle.goref_results.proofs.Listing.{if_true}
@@ -10,4 +10,4 @@ pub returns-then-is_first-clause-line : goal.returns-then-is_first-clause-line
 returns-then-is_first-clause-line g c =
     let s = c.args.game.now.standing in
     let line = chain_line s.lines (board_of s) (number_of s.lines c.args.at) in
-    adds_then _ c.put.ensures c.put_chain.ensures (sym (if_true (sym c.is_first.ensures ∙ c.if-is_first.true) (c.args.before ∷ line) []))
+    writes_then _ c.put.ensures c.put_chain.ensures (sym (if_true (sym c.is_first.ensures ∙ c.if-is_first.true) (c.args.before ∷ line) []))

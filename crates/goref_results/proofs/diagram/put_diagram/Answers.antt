@@ -1,7 +1,7 @@
-use Rattle.go_board.specs.Writing.{adds_adds}
+use Rattle.go_board.specs.lemmas.Writing.{writes_writes}
 use Rattle.goref_results.proofs.diagram.put_diagram.Goals as goal
 
 pub returns : goal.returns
 returns g c =
-    adds_adds c.put_setting.ensures (adds_adds c.put_prisoners.ensures (adds_adds c.put_turn.ensures
-    (adds_adds c.put_rows.ensures (rw c.size.ensures.lines at c.put_letters.ensures))))
+    writes_writes c.put_setting.ensures (writes_writes c.put_prisoners.ensures (writes_writes c.put_turn.ensures
+    (writes_writes c.put_rows.ensures (rw c.size.ensures.lines at c.put_letters.ensures))))

@@ -1,5 +1,5 @@
-use Rattle.go_board.specs.Writing.{adds_adds}
+use Rattle.go_board.specs.lemmas.Writing.{writes_writes}
 use Rattle.goref_results.proofs.results.put_board.Goals as goal
 
 pub returns : goal.returns
-returns g c = adds_adds c.put.ensures c.put_diagram.ensures
+returns g c = writes_writes c.put.ensures c.put_diagram.ensures

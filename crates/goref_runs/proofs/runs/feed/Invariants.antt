@@ -1,7 +1,7 @@
 use Rattle.std.proofs.Common.{◌≡◌, ℕ, List, ◌++◌, Option, length}
 use Rattle.go_game.specs.Standings.{Standing}
 use Rattle.goref_runs.specs.Shelves.{Pair}
-use Rattle.goref_runs.specs.Progress.{Progress}
+use Rattle.goref_runs.specs.inner.Progress.{Progress}
 use Rattle.goref_runs.proofs.runs.feed.Given as goal
 
 abbrev pub invariant-loop-end : goal.invariant-loop-end

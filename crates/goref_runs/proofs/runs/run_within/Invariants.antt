@@ -1,15 +1,14 @@
 use Rattle.std.proofs.Common.{◌≡◌, ◌≤◌, ◌+◌, ℕ, List, length, pos}
 use Rattle.go_board.specs.Device.{after_bytes}
-use Rattle.go_board.specs.Sizes.{lines_of}
 use Rattle.goref.specs.Starts.{begun}
-use Rattle.goref_runs.specs.Progress.{Progress}
+use Rattle.goref_runs.specs.inner.Progress.{Progress}
 use Rattle.goref_runs.proofs.runs.run_within.Given as goal
 
 abbrev pub invariant-loop : goal.invariant-loop
 invariant-loop g l = record {
   read : List ℕ;
   left : g.R.Source.left l.initial.reader ≡ after_bytes read (g.R.Source.left l.reader);
-  progress : Progress (begun (lines_of l.fn.size) (pos 0)) read l.line l.session
+  progress : Progress (begun l.fn.size (pos 0)) read l.line l.session
       (g.S.Shelf.given l.initial.shelf) (g.S.Shelf.given l.shelf) (g.W.Sink.taken l.initial.writer) (g.W.Sink.taken l.writer);
   many : l.counter ≤ length read;
   pulls : g.R.Source.pulls l.reader ≡ g.R.Source.pulls l.initial.reader + l.counter;

@@ -1,5 +1,5 @@
-use Rattle.go_board.specs.Writing.{adds_adds}
+use Rattle.go_board.specs.lemmas.Writing.{writes_writes}
 use Rattle.goref_tools.proofs.verdict_lines.put_line.Goals as goal
 
 pub returns : goal.returns
-returns g c = adds_adds c.put.ensures (adds_adds c.put-2.ensures c.put-3.ensures)
+returns g c = writes_writes c.put.ensures (writes_writes c.put-2.ensures c.put-3.ensures)

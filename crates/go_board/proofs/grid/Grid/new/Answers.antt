@@ -1,7 +1,7 @@
 use Rattle.std.proofs.Common.{arith, None, ◌*◌}
 use Rattle.std.proofs.lemmas.List.{take-replicate}
 use Rattle.go_board.specs.declared.size.TheConstants.{MAX_POINTS}
-use Rattle.go_board.proofs.Squares.{square-le}
+use Rattle.go_board.specs.lemmas.Squares.{square-le}
 use Rattle.go_board.proofs.grid.Grid.new.Goals as goal
 
 pub returns-clause-colours : goal.returns-clause-colours

@@ -36,4 +36,4 @@ returns c =
     words_more cells c.from-points.result label full c.loop-word.count last.result c.loop-word.invariant.counted (last.ensures.counted ∙ ap (free_in_word cells c.from-points.result label) here) in
     let counted = subst (λ (k : ℕ). c.loop-word.count + last.result ≡ count_by (is_marked_free cells k label) (range_with_len 0 (64 * (full + 1)))) all both in
     words_counted n (full + 1) cells label (c.loop-word.count + last.result) (is_liberty_of n (grid_of c.args.self.now) p) (omega (arith, all, here)) counted
-    (λ q below. liberty_answers n cells kept (record { law = c.liberty_by_a_path.ensures }) p q label c.requires.stone below c.label_at-label.ensures.label)
+    (λ q below. liberty_answers n cells kept c.liberty_by_a_path.ensures p q label c.requires.stone below c.label_at-label.ensures.label)

@@ -14,4 +14,4 @@ returns c =
     let label = c.label_at-label.result in
     c.new-2.ensures
     ∙ left-all b Liberties label (is_liberty_of b.lines (grid_of b) p)
-    (λ q low. liberty_answers b.lines b.cells c.label_at-label.ensures.kept (record { law = c.liberty_by_a_path.ensures }) p q label c.requires.stone low c.label_at-label.ensures.label)
+    (λ q low. liberty_answers b.lines b.cells c.label_at-label.ensures.kept c.liberty_by_a_path.ensures p q label c.requires.stone low c.label_at-label.ensures.label)

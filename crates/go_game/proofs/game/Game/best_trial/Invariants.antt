@@ -1,5 +1,5 @@
 use Rattle.go_game.specs.Counts.{IsAsBefore}
-use Rattle.go_game.specs.Trials.{IsBestTrial}
+use Rattle.go_game.specs.inner.Trials.{IsBestTrial}
 use Rattle.go_game.proofs.game.Game.best_trial.Given as goal
 
 abbrev pub invariant-loop-number : goal.invariant-loop-number

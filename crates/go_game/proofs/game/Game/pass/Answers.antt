@@ -3,7 +3,7 @@ use Rattle.std.specs.declared.alloc.AllocError.{AllocError}
 use Rattle.go_board.specs.PackBytes.{bytes_of}
 use Rattle.go_game.specs.declared.step.Step.{Step}
 use Rattle.go_game.specs.Counts.{IsLogged}
-use Rattle.go_game.specs.Histories.{IsNoted}
+use Rattle.go_game.specs.inner.Histories.{IsNoted}
 use Rattle.go_game.specs.Standings.{GameValue, mover_by}
 use Rattle.go_game.proofs.Counting.{logged_pass, seen}
 use Rattle.go_game.proofs.Turns.{keep_pass, passed}

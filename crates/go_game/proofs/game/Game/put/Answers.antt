@@ -7,7 +7,7 @@ use Rattle.go_board.specs.Points.{IsOn, number_of}
 use Rattle.go_chains.specs.Sound.{grid_of}
 use Rattle.go_chains.specs.Playing.{most_of}
 use Rattle.go_game.specs.Counts.{IsLogged, most_for}
-use Rattle.go_game.specs.Held.{made_of}
+use Rattle.go_game.specs.inner.Held.{made_of}
 use Rattle.go_game.specs.Playing.{stones_taken}
 use Rattle.go_game.specs.Standings.{GameValue, IsLegal, Repeats, board_of, mover_by}
 use Rattle.go_game.proofs.Counting.{logged_put, seen, twice}

@@ -1,4 +1,4 @@
-use Rattle.go_record.specs.Progress.{Place}
+use Rattle.go_record.specs.inner.Progress.{Place}
 use Rattle.go_record.proofs.Walking.{end_dead, end_playing, end_started, met, none_met}
 use Rattle.go_record.proofs.state.Walk.finish.Goals as goal
 

@@ -1,6 +1,6 @@
 use Rattle.std.proofs.lemmas.Result.{err_from_is_err_and}
 use Rattle.std.specs.Prelude.{Err}
-use Rattle.go_record.specs.Progress.{Place}
+use Rattle.go_record.specs.inner.Progress.{Place}
 use Rattle.go_record.proofs.Walking.{began_dead, began_setting, if_err, none_met, on_ok}
 use Rattle.go_record.proofs.state.Walk.play.Goals as goal
 

@@ -3,7 +3,7 @@ use Rattle.std.proofs.lemmas.Result.{err_from_is_err_and}
 use Rattle.std.specs.List.{flat_map}
 use Rattle.std.specs.Prelude.{Err}
 use Rattle.go_record.specs.MainLine.{Event, move_event}
-use Rattle.go_record.specs.Progress.{Passes, Stops}
+use Rattle.go_record.specs.inner.Progress.{Passes, Stops}
 use Rattle.go_record.proofs.Walking.{all_on, one_on, passes_nothing, passes_passes, passes_stops, stops_longer, walked_stops}
 use Rattle.go_record.proofs.state.Walk.play_moves.Goals as goal
 

@@ -1,7 +1,7 @@
 use Rattle.std.proofs.Common.{◌≡◌, ◌++◌, List}
 use Rattle.std.specs.List.{flat_map}
 use Rattle.go_record.specs.MainLine.{Event, move_event}
-use Rattle.go_record.specs.Progress.{Passes}
+use Rattle.go_record.specs.inner.Progress.{Passes}
 use Rattle.go_record.proofs.state.Walk.play_moves.Given as goal
 
 abbrev pub invariant-loop-property : goal.invariant-loop-property

@@ -1,7 +1,7 @@
 use Rattle.std.proofs.Common.{◌≡◌, ◌∙◌, sym, false}
 use Rattle.std.specs.Prelude.{None, Some}
 use Rattle.go_record.specs.MainLine.{stones}
-use Rattle.go_record.specs.Progress.{Place, is_nothing}
+use Rattle.go_record.specs.inner.Progress.{Place, is_nothing}
 use Rattle.go_record.proofs.Walking.{met, none_met, passes_event, plays_stones, seen_stones, sets_stones, sets_stones_bad, stops_event}
 use Rattle.go_record.proofs.state.Walk.set_stones.Goals as goal
 

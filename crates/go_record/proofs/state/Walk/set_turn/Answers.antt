@@ -1,7 +1,7 @@
 use Rattle.std.proofs.Common.{◌≡◌, ◌∙◌, sym, false}
 use Rattle.std.specs.Prelude.{None}
 use Rattle.go_record.specs.MainLine.{turn}
-use Rattle.go_record.specs.Progress.{Place, is_nothing}
+use Rattle.go_record.specs.inner.Progress.{Place, is_nothing}
 use Rattle.go_record.proofs.Walking.{met, none_met, passes_event, passes_over, passes_turn_playing, seen_turn, sets_turn, sets_turn_bad, stops_event}
 use Rattle.go_record.proofs.state.Walk.set_turn.Goals.{then-is_over-via-then-is_over, then-is_over-via-else-is_over+then-self}
 use Rattle.go_record.proofs.state.Walk.set_turn.Goals as goal

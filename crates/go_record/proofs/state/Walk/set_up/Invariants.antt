@@ -2,7 +2,7 @@ use Rattle.std.proofs.Common.{◌≡◌, ◌++◌, List}
 use Rattle.std.specs.List.{flat_map}
 use Rattle.go_game.specs.Standings.{GameValue}
 use Rattle.go_record.specs.MainLine.{Event, setup_event}
-use Rattle.go_record.specs.Progress.{Passes}
+use Rattle.go_record.specs.inner.Progress.{Passes}
 use Rattle.go_record.proofs.state.Walk.set_up.Given as goal
 
 abbrev pub invariant-loop-property : goal.invariant-loop-property

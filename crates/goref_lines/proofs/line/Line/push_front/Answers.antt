@@ -1,5 +1,5 @@
 use Rattle.std.proofs.Common.{◌∙◌, sym, subst, ap, take}
-use Rattle.goref_lines.specs.Front.{AreOfWord}
+use Rattle.goref_lines.specs.inner.Front.{AreOfWord}
 use Rattle.goref_lines.proofs.Pieces.{word_first}
 use Rattle.goref_lines.proofs.line.Line.push_front.Goals as goal
 

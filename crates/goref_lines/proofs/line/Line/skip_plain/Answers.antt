@@ -1,5 +1,5 @@
 use Rattle.std.proofs.Common.{◌∙◌, ap, sym}
-use Rattle.goref_lines.specs.Front.{space_after}
+use Rattle.goref_lines.specs.inner.Front.{space_after}
 use Rattle.goref_lines.specs.Kept.{Kept}
 use Rattle.goref_lines.proofs.Pieces.{kept_behind, no_hash_printed}
 use Rattle.goref_lines.proofs.line.Line.skip_plain.Goals as goal

@@ -1,16 +1,15 @@
 use Rattle.std.proofs.Common.{◌≡◌, ◌∙◌, sym, ap, true, false, arith}
 use Rattle.std.specs.Prelude.{Some}
 use Rattle.go_board.specs.Points.{IsOn}
-use Rattle.go_board.specs.Sizes.{lines_of}
 use Rattle.go_board.specs.declared.vertex.Vertex.TheVariants.{At}
 use Rattle.goref_lines.specs.Stones.{with_first}
-use Rattle.goref_lines.specs.Gathered.{Gathered, can_follow, comes_to}
+use Rattle.goref_lines.specs.inner.Gathered.{Gathered, can_follow, comes_to}
 use Rattle.goref_lines.proofs.Gathering.{apart_more, grows, spoils, unless_bad}
 use Rattle.goref_lines.proofs.stones.Stones.add.Goals as goal
 
 pub invariant_of-self : goal.invariant_of-self
 invariant_of-self c =
-    let n = lines_of c.self.inside.size in
+    let n = c.self.inside.size in
     let points = c.self.inside.points.items in
     let lines : n ≡ c.args.self.now.lines = ap (λ (g : Gathered). g.lines) c.self.view_is in
     let on : IsOn n c.args.point = (omega (arith, lines), omega (arith, lines)) in
@@ -19,7 +18,7 @@ invariant_of-self c =
 
 pub returns-then-can_follow-clause-goes_on : goal.returns-then-can_follow-clause-goes_on
 returns-then-can_follow-clause-goes_on c = λ rest.
-    let n = lines_of c.self.inside.size in
+    let n = c.self.inside.size in
     let lines : n ≡ c.args.self.now.lines = ap (λ (g : Gathered). g.lines) c.self.view_is in
     let on : IsOn n c.args.point = (omega (arith, lines), omega (arith, lines)) in
     ap (λ (g : Gathered). comes_to g (with_first (Some (At c.args.point)) rest)) (sym c.self.view_is)
@@ -28,7 +27,7 @@ returns-then-can_follow-clause-goes_on c = λ rest.
 
 pub returns-else-can_follow-clause-goes_on : goal.returns-else-can_follow-clause-goes_on
 returns-else-can_follow-clause-goes_on c = λ rest.
-    let n = lines_of c.self.inside.size in
+    let n = c.self.inside.size in
     let points = c.self.inside.points.items in
     let lines : n ≡ c.args.self.now.lines = ap (λ (g : Gathered). g.lines) c.self.view_is in
     let on : IsOn n c.args.point = (omega (arith, lines), omega (arith, lines)) in

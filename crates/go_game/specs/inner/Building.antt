@@ -3,10 +3,6 @@ use Rattle.std.specs.Prelude.{◌≡◌, ◌<◌, ◌≤◌, ◌*◌, ◌⊎◌,
 use Rattle.go_board.specs.Colours.{Colouring, colour_at}
 use Rattle.go_board.specs.Reaching.{is_dead}
 
--- no stone of the grid is dead
-abbrev pub AreAlive : ℕ → Colouring → Type 0
-AreAlive n g = (k : ℕ) → k < n * n → is_dead n g k ≡ false
-
 -- a part of a grid: each point as there, or empty
 abbrev pub IsPart : Colouring → Colouring → Type 0
 IsPart f g = (k : ℕ) → (colour_at f k ≡ colour_at g k) ⊎ (colour_at f k ≡ None)

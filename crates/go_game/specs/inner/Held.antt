@@ -14,11 +14,11 @@ use Rattle.go_chains.specs.Sound.{BoardValue, IsKept, colouring_of}
 use Rattle.go_history.specs.Histories.{HistoryValue}
 use Rattle.go_game.specs.declared.step.Step.{Step}
 use Rattle.go_game.specs.declared.superko.Superko.{Superko}
-use Rattle.go_game.specs.Histories.{StandsFor}
+use Rattle.go_game.specs.inner.Histories.{StandsFor}
 use Rattle.go_game.specs.Standings.{IsSound, Standing, after_move, stood_of}
 use Rattle.go_game.specs.Prisoners.{share_of}
 use Rattle.go_game.specs.Playing.{prisoners_of, taken_by}
-use Rattle.go_game.specs.Trails.{WentThrough}
+use Rattle.go_game.specs.inner.Trails.{WentThrough}
 
 abbrev pub made_of : Step → Move
 made_of s = s.made

@@ -3,7 +3,10 @@ use Rattle.std.specs.Prelude.{◌≡◌, ℕ, List, [], ◌++◌, Option, Some, 
 use Rattle.std.proofs.Common.{sym, ap, subst, append_assoc, ◌∙◌}
 use Rattle.std.proofs.lemmas.List.{append-nil}
 use Rattle.go_board.specs.Device.{then_bytes, TakesFront, Sent, failures_after, Wrote, Place, place, Adds}
+use Rattle.go_board.specs.Pens.{Writes, place_of}
+use Rattle.go_board.specs.declared.device.Sink.{Ghosts}
 use Rattle.go_board.specs.declared.device.WriteFault.{WriteFault}
+use Rattle.go_board.specs.declared.pen.Pen.{Pen}
 
 pub then_bytes-then_bytes : (o : Option (List ℕ)) (a b : List ℕ) → then_bytes (then_bytes o a) b ≡ then_bytes o (a ++ b)
 then_bytes-then_bytes None a b = refl
@@ -74,3 +77,25 @@ finished false {taken} {taken'} {failures} {failures'} {text} a r e =
 finished true {taken} {taken'} {failures} {failures'} {text} a r e =
     let P : Result Unit WriteFault → Type 0 = λ x. Sent x taken taken' text × (failures' ≡ failures_after x failures) in
     let w = wrote a in subst P (sym e) (w.took, w.counted)
+
+-- a pen that wrote nothing
+pub writes_nothing : {S : Type 0} (sink : Ghosts S) (pen : Pen S) → Writes sink pen pen []
+writes_nothing sink pen = record { same = refl; adds = adds_nothing (place_of sink pen) }
+
+-- two pieces by a pen
+pub writes_writes : {S : Type 0} {sink : Ghosts S} {old mid new : Pen S} {first more : List ℕ} →
+    Writes sink old mid first → Writes sink mid new more → Writes sink old new (first ++ more)
+writes_writes a b = record { same = b.same ∙ a.same; adds = adds_adds a.adds b.adds }
+
+-- two pieces by a pen that make up a text
+pub writes_then : {S : Type 0} {sink : Ghosts S} {old mid new : Pen S} {first more : List ℕ} (whole : List ℕ) →
+    Writes sink old mid first → Writes sink mid new more → first ++ more ≡ whole → Writes sink old new whole
+writes_then whole a b e = record { same = b.same ∙ a.same; adds = adds_then whole a.adds b.adds e }
+
+-- what finishing a pen tells of the text that it wrote to a device
+pub finished_pen : {S : Type 0} {sink : Ghosts S} {fresh last : Pen S} {device device' : S} {text : List ℕ} →
+    Writes sink fresh last text → fresh.has_failed ≡ false → fresh.writer.now ≡ device → device' ≡ last.writer.now →
+    (r : Result Unit WriteFault) → r ≡ (if last.has_failed then Err record {} else Ok tt) →
+    Sent r (sink.taken device) (sink.taken device') text × (sink.failures device' ≡ failures_after r (sink.failures device))
+finished_pen {sink = sink} {last = last} {text = text} w unfailed from to r e =
+    rw (← from, to) (finished last.has_failed (rw unfailed at w.adds) r e)

@@ -31,10 +31,6 @@ pub record ReadsTree (d : ℕ) (b : List ℕ) (t : List (List Property) × Trees
   pub nesting : depth t.1 + d ≤ MAX_DEPTH
   pub spelling : SpellsParts b (flat_map node_parts t.0 ++ (parts t.1 ++ (closing ∷ []))) rest
 
-abbrev pub begins_letter : List ℕ → Bool
-begins_letter [] = false
-begins_letter (c ∷ cs) = is_letter c
-
 -- neither `]` nor `\`
 abbrev pub is_ordinary : ℕ → Bool
 is_ordinary c = not (c == 93 || c == 92)

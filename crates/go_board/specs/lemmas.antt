@@ -1,0 +1,5 @@
+-- Lemmas for the proofs of the crates above.
+pub mod Writing
+pub mod Reading
+pub mod Numbers
+pub mod Squares
