@@ -1,7 +1,7 @@
 -- A board built stone by stone: where the stones of a grid live, those of a part of it do, so placing one takes none.
 use Rattle.std.specs.Prelude.{replicate, slice_set}
 use Rattle.go_board.specs.Laws.{ReachesByPath}
-use Rattle.std.proofs.Common.{arith, ◌≡◌, ◌<◌, ◌≤◌, ◌+◌, ◌*◌, ◌∙◌, ◌↔◌, ◌&&◌, Bool, true, false, not, cond, inl, inr, ℕ, IsTrue, List, [], ◌∷◌, Option, Some, None, length, refl, sym, ap, subst}
+use Rattle.std.proofs.Common.{arith, ◌≡◌, ◌<◌, ◌≤◌, ◌+◌, ◌*◌, ◌∙◌, ◌&&◌, Bool, true, false, not, cond, inl, inr, ℕ, List, [], ◌∷◌, Option, Some, None, length, refl, sym, ap, subst}
 use Rattle.std.proofs.lemmas.Bool.{cases_Bool, cases_eq, cases_lt, false≢true, and_parts}
 use Rattle.std.proofs.lemmas.List.{ext_get_or, get_or-replicate, get_or-set_other, get_or-set_same, get_or_past, length-replicate, length-set}
 use Rattle.std.proofs.lemmas.List.FromFn.{get_or-map-range_with_len, length-map-range_with_len}

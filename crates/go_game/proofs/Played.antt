@@ -14,15 +14,14 @@ use Rattle.go_game.specs.declared.superko.Superko.{Superko}
 use Rattle.go_game.specs.Standings.{IsLegal, IsSound, after_move, after_vertex, board, mover_after}
 use Rattle.go_game.specs.Playing.{prisoners_from, taken_by}
 use Rattle.go_game.specs.Prisoners.{share_of}
-use Rattle.go_board.specs.declared.size.TheConstants.{MAX_LINES, MAX_POINTS}
+use Rattle.go_board.specs.declared.size.TheConstants.{MAX_LINES}
 use Rattle.go_board.specs.declared.vertex.Vertex.{Vertex}
 use Rattle.go_board.specs.declared.vertex.Vertex.TheVariants.{Pass, At}
 use Rattle.go_board.specs.Points.{number_of}
-use Rattle.go_board.specs.Reaching.{after_clearing, cleared, has_colour, moved, points, stones, vanished}
+use Rattle.go_board.specs.Reaching.{after_clearing, cleared, has_colour, moved, points, stones}
 use Rattle.std.proofs.lemmas.List.Sums.{count_by-le-length}
 use Rattle.std.specs.Prelude.{slice_set}
 use Rattle.std.proofs.lemmas.List.FromFn.{length-map-range_with_len, length-range_with_len}
-use Rattle.std.proofs.Math.ListN.{set}
 use Rattle.go_board.specs.Grids.{GridValue}
 use Rattle.go_game.specs.inner.Held.{ArePlayed, IsHeld, IsPlayed, made_of, standing_of}
 use Rattle.go_game.specs.lemmas.Sound.{sound_front, sound_more}

@@ -1,13 +1,12 @@
 -- What a record comes to is a standing that play can come to.
-use Rattle.std.proofs.Common.{◌≡◌, ◌≢◌, ◌∙◌, ◌<◌, ◌≤◌, ◌*◌, ℕ, ℤ, Bool, true, false, true≢false, List, [], ◌∷◌, ◌++◌, refl, sym, ap, subst, inl, inr, arith, length, length-append, take, get_or, replicate}
+use Rattle.std.proofs.Common.{◌≡◌, ◌≢◌, ◌∙◌, ◌<◌, ◌≤◌, ◌*◌, ℕ, ℤ, Bool, true, false, true≢false, List, [], ◌∷◌, refl, sym, subst, inl, inr, arith, length, replicate}
 use Rattle.go_board.specs.Sizes.{size_with}
 use Rattle.go_game.specs.lemmas.Sound.{sound_more}
 use Rattle.std.specs.Prelude.{Option, Some, None, Ok, ◌&&◌, not, option_map, position, ◌==◌, nat_le, pos, codes, IsTrue}
-use Rattle.std.proofs.lemmas.Bool.{and_parts, cases_Bool, cases_lt, leb-true}
+use Rattle.std.proofs.lemmas.Bool.{and_parts, cases_Bool, leb-true}
 use Rattle.std.specs.Option.{option_and_then}
 use Rattle.std.proofs.lemmas.Int.{ints}
-use Rattle.std.proofs.lemmas.List.{get_or_append_left, length-replicate, length-set, take-append-le, take_all}
-use Rattle.std.proofs.Math.Seq.{get_or-append_seam}
+use Rattle.std.proofs.lemmas.List.{length-replicate, length-set}
 use Rattle.go_board.specs.declared.colour.Colour.{Colour}
 use Rattle.go_board.specs.declared.colour.Colour.TheVariants.{Black, White}
 use Rattle.go_board.specs.declared.point.Point.{Point}

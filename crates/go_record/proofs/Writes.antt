@@ -1,11 +1,10 @@
 -- How the pieces that are written make up the text of a record.
-use Rattle.std.proofs.Common.{◌≡◌, ◌∙◌, ℕ, zero, suc, Bool, true, false, if◌then◌else◌, take, ◌+◌, List, [], ◌∷◌, ◌++◌, refl, sym, ap, add-one, append_assoc, arith, map}
+use Rattle.std.proofs.Common.{◌≡◌, ◌∙◌, ℕ, zero, suc, Bool, true, false, if◌then◌else◌, take, ◌+◌, List, [], ◌∷◌, ◌++◌, refl, sym, ap, add-one, append_assoc, map}
 use Rattle.go_board.specs.lemmas.Numbers.{numbers_more}
 use Rattle.std.specs.Prelude.{Some, codes, decimal, filter, option_to_list, slice_get}
 use Rattle.std.specs.List.{flat_map, range_with_len}
 use Rattle.std.proofs.lemmas.List.{append-nil, map-append}
 use Rattle.std.proofs.lemmas.List.Elements.{filter-append}
-use Rattle.std.proofs.lemmas.List.FromFn.{map-range_with_len_more}
 use Rattle.std.proofs.lemmas.Grind.{flat_map-append}
 use Rattle.go_board.specs.declared.colour.Colour.{Colour}
 use Rattle.go_board.specs.declared.colour.Colour.TheVariants.{Black, White}

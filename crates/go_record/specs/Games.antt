@@ -1,9 +1,8 @@
 -- The game of a record: that of the main line of its first tree.
-use Rattle.std.specs.Prelude.{◌≡◌, ◌*◌, ℕ, ℤ, pos, Bool, true, false, ◌==◌, ◌&&◌, ◌||◌, nat_le, if◌then◌else◌, List, [], ◌∷◌, Option, Some, None, Err, codes, drop, position, replicate, take}
+use Rattle.std.specs.Prelude.{◌≡◌, ◌*◌, ℕ, ℤ, pos, Bool, true, false, ◌==◌, ◌||◌, if◌then◌else◌, List, [], ◌∷◌, Option, Some, None, Err, codes, drop, position, replicate, take}
 use Rattle.go_board.specs.Sizes.{size_with}
 use Rattle.std.specs.List.{list_all}
 use Rattle.std.specs.Option.{option_and_then}
-use Rattle.go_board.specs.declared.size.TheConstants.{MAX_LINES}
 use Rattle.go_sgf.specs.Numbers.{hundredths_of, number_of}
 use Rattle.go_sgf.specs.Record.{Property, Trees, none, tree}
 use Rattle.go_sgf.specs.Spelling.{is_space}

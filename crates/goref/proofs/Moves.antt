@@ -1,5 +1,5 @@
 -- What is decided on a move, by what the game says of it.
-use Rattle.std.proofs.Common.{◌≡◌, ◌∙◌, ℕ, Bool, true, false, [], None, Some, refl, sym, ap, inl, inr, if◌then◌else◌, ◌↔◌}
+use Rattle.std.proofs.Common.{◌≡◌, ◌∙◌, ℕ, Bool, true, false, [], None, Some, refl, sym, ap, inl, inr, if◌then◌else◌}
 use Rattle.go_game.specs.Laws.{LegalByTheRules}
 use Rattle.std.specs.Prelude.{IsTrue}
 use Rattle.std.proofs.lemmas.List.{get_or_default}

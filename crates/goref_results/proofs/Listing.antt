@@ -1,11 +1,10 @@
 -- How a text over the numbers from 0 grows by the next number.
-use Rattle.std.proofs.Common.{◌≡◌, ◌∙◌, ◌<◌, ℕ, Bool, true, false, cond, get_or, if◌then◌else◌, length, take, ◌+◌, List, [], ◌∷◌, ◌++◌, refl, sym, ap, append_assoc, arith, map}
+use Rattle.std.proofs.Common.{◌≡◌, ◌∙◌, ◌<◌, ℕ, Bool, true, false, cond, get_or, if◌then◌else◌, length, take, ◌+◌, List, [], ◌∷◌, ◌++◌, refl, sym, ap, append_assoc, map}
 use Rattle.go_board.specs.lemmas.Numbers.{numbers_more}
 use Rattle.std.specs.Prelude.{◌==◌, ℤ, pos, negsuc, codes, filter}
 use Rattle.std.specs.List.{flat_map, join_with_byte, range_with_len}
 use Rattle.std.proofs.lemmas.List.{append-nil, take_more}
 use Rattle.std.proofs.lemmas.List.Elements.{filter-append}
-use Rattle.std.proofs.lemmas.List.FromFn.{map-range_with_len_more}
 use Rattle.std.proofs.lemmas.Grind.{flat_map-append}
 use Rattle.go_game.specs.Scores.{score_word, size_text}
 use Rattle.go_board.specs.Colours.{Colouring, colour_at}

@@ -1,9 +1,9 @@
 -- What the cells of a kept board answer.
-use Rattle.std.specs.Prelude.{Option, None, Some, replicate, IsTrue}
+use Rattle.std.specs.Prelude.{Option, None, Some, replicate}
 use Rattle.go_board.specs.Laws.{JoinedByPath, LibertyByPath}
 use Rattle.go_board.specs.lemmas.Squares.{square-le}
 use Rattle.std.specs.Int.{bit_at}
-use Rattle.std.proofs.Common.{zero, suc, ℕ, ◌+◌, ◌*◌, ◌/◌, ◌%◌, ◌^◌, ◌<◌, ◌≤◌, ◌≡◌, ◌↔◌, ◌++◌, ◌∷◌, [], refl, sym, ap, ◌∙◌, arith, inl, inr, Bool, true, false, List, length, nat_eq, bit_and, get_or}
+use Rattle.std.proofs.Common.{zero, suc, ℕ, ◌+◌, ◌*◌, ◌/◌, ◌%◌, ◌^◌, ◌<◌, ◌≤◌, ◌≡◌, ◌++◌, ◌∷◌, [], refl, sym, ap, ◌∙◌, arith, inl, inr, Bool, true, false, List, length, nat_eq, bit_and, get_or}
 use Rattle.std.proofs.lemmas.Bool.{cases_lt, eq-eqb, eqb-true, false_from_ne_true}
 use Rattle.std.proofs.lemmas.List.{ext_get_or, get_or-replicate, get_or_past, length-replicate}
 use Rattle.std.proofs.lemmas.List.FromFn.{length-range_with_len}
@@ -15,7 +15,6 @@ use Rattle.go_board.specs.Chains.{members}
 use Rattle.go_board.specs.Colours.{Colouring, colour_at}
 use Rattle.go_board.specs.Packs.{byte_of, code_of}
 use Rattle.go_board.specs.Paths.{Joined}
-use Rattle.go_board.specs.Points.{is_adjacent}
 use Rattle.go_board.specs.Reaching.{is_liberty_of, joined, points}
 use Rattle.go_chains.specs.Cells.{colour_of, label_of, lib_of, next_of, size_of, tables_of, word_of}
 use Rattle.go_chains.specs.inner.Parts.{is_labelled}

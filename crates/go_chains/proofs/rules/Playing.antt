@@ -2,7 +2,7 @@
 use Rattle.std.specs.Prelude.{slice_set}
 use Rattle.go_board.specs.Laws.{ReachesByPath}
 use Rattle.std.specs.List.{range_with_len}
-use Rattle.std.proofs.Common.{ℕ, zero, suc, ◌+◌, ◌*◌, ◌<◌, ◌≤◌, ◌≡◌, ◌≢◌, ◌↔◌, ◌&&◌, inl, inr, refl, sym, ap, ◌∙◌, arith, Bool, true, false, not, cond, IsTrue, Option, Some, None, List, ◌∷◌, length, get_or, map}
+use Rattle.std.proofs.Common.{ℕ, zero, suc, ◌+◌, ◌*◌, ◌<◌, ◌≤◌, ◌≡◌, ◌≢◌, inl, inr, refl, sym, ap, ◌∙◌, arith, Bool, true, false, not, cond, Option, Some, None, List, ◌∷◌, length, get_or, map}
 use Rattle.std.proofs.lemmas.Bool.{cases_Bool, cases_eq, false≢true, and_parts, and_from}
 use Rattle.std.proofs.lemmas.List.{ext_get_or, get_or-set_other, get_or-set_same, length-set}
 use Rattle.go_board.specs.declared.colour.Colour.{Colour}

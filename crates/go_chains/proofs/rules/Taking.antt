@@ -1,13 +1,13 @@
 -- How many stones a play takes, and how many stand in its own chains: by lists of them.
 use Rattle.std.specs.Prelude.{Contains, filter}
 use Rattle.go_board.specs.Laws.{JoinedByPath}
-use Rattle.std.proofs.Common.{ℕ, suc, ◌+◌, ◌*◌, ◌<◌, ◌≤◌, ◌≡◌, ◌≢◌, ◌↔◌, ◌&&◌, inl, inr, refl, sym, ap, ◌∙◌, subst, arith, true, not, IsTrue, Some, List, [], ◌∷◌, length}
+use Rattle.std.proofs.Common.{ℕ, suc, ◌+◌, ◌*◌, ◌<◌, ◌≤◌, ◌≡◌, ◌≢◌, ◌&&◌, inl, inr, refl, sym, ap, ◌∙◌, subst, arith, true, not, Some, List, [], ◌∷◌, length}
 use Rattle.std.proofs.lemmas.Bool.{cases_eq, and_parts, and_from}
 use Rattle.std.proofs.lemmas.List.Folds.{list_any-from_Any}
 use Rattle.std.proofs.lemmas.List.Sums.{length-filter}
 use Rattle.go_board.specs.declared.colour.Colour.{Colour}
 use Rattle.go_board.specs.Colours.{Colouring}
-use Rattle.go_board.specs.Paths.{IsAdjacent, Joined}
+use Rattle.go_board.specs.Paths.{IsAdjacent}
 use Rattle.go_board.specs.Points.{is_adjacent}
 use Rattle.go_board.specs.Reaching.{has_colour, joined, points, some_neighbour, vanished}
 use Rattle.go_chains.specs.Cells.{colour_of, label_of, next_of, size_of, tables_of}

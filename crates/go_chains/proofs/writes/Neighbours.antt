@@ -7,7 +7,6 @@ use Rattle.std.proofs.Common.{◌==◌, ◌&&◌, ◌||◌, inl, inr}
 use Rattle.std.proofs.Math.Bool.{or_comm}
 use Rattle.std.proofs.lemmas.Bool.{or_cases, eqb-true, false_from_ne_true, false≢true}
 use Rattle.std.proofs.lemmas.Cmp.{nat_eq_equiv}
-use Rattle.go_board.specs.declared.size.TheConstants.{MAX_LINES, MAX_POINTS}
 use Rattle.go_board.specs.Points.{IsOn, are_beside, is_next, number_of, point_at}
 use Rattle.go_board.specs.Paths.{IsAdjacent}
 use Rattle.go_chains.specs.inner.Beside.{AreBeside}

@@ -1,7 +1,6 @@
 -- A board built stone by stone from a grid.
-use Rattle.std.specs.Prelude.{◌≡◌, ◌<◌, ◌≤◌, ◌*◌, ◌⊎◌, ℕ, None, false, length}
+use Rattle.std.specs.Prelude.{◌≡◌, ◌<◌, ◌≤◌, ◌*◌, ◌⊎◌, ℕ, None, length}
 use Rattle.go_board.specs.Colours.{Colouring, colour_at}
-use Rattle.go_board.specs.Reaching.{is_dead}
 
 -- a part of a grid: each point as there, or empty
 abbrev pub IsPart : Colouring → Colouring → Type 0

@@ -1,7 +1,7 @@
 -- What the parts of the reader have read, up to the rest. It serves the contracts of private functions alone.
 use Rattle.std.specs.Prelude.{◌≢◌, ◌≤◌, ◌+◌, ◌==◌, ◌||◌, not, Bool, false, ℕ, List, [], ◌∷◌, ◌++◌, map}
 use Rattle.std.specs.List.{flat_map, AllByRecursion}
-use Rattle.go_sgf.specs.Record.{Property, Trees, is_letter, IsValue, IsProperty, AreTrees, depth}
+use Rattle.go_sgf.specs.Record.{Property, Trees, IsValue, IsProperty, AreTrees, depth}
 use Rattle.go_sgf.specs.Spelling.{is_space, closing, value, SpellsParts, property_parts, node_parts, parts}
 use Rattle.go_sgf.specs.declared.limits.TheConstants.{MAX_DEPTH}
 
