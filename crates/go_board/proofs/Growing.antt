@@ -6,7 +6,7 @@ use Rattle.std.proofs.lemmas.Bool.{cases_Bool, cases_eq, eq-eqb, eqb-true}
 use Rattle.std.proofs.lemmas.List.{get_or_default, get_or-set_same, get_or-set_other, set-get_or}
 use Rattle.std.proofs.lemmas.List.Sums.{sum_by-le, sum_by-set}
 use Rattle.std.proofs.lemmas.Nat.{and_le_r, le_or_l, or_lt}
-use Rattle.go_board.specs.Rows.{HasNext, IsClosedAt, IsIn, PassesAll, PassesOn, Spread, total}
+use Rattle.go_board.specs.Rows.{HasNext, IsClosedAt, IsIn, PassesAll, PassesOn, Spread, sum_of_words}
 use Rattle.go_board.proofs.RowBits.{and_set, both_set, from_or, or_left, or_right, set_below}
 
 -- a word of the set gets the places of a row that are free and beside the set
@@ -53,7 +53,7 @@ module _ (marks free : List ℕ) (row word after : ℕ) (within : row < length m
     | inr off ↦ passes r col (sym (ap (λ w. bit_at w col) (there r off)) ∙ set)
   ]
 
-  sums : total (slice_set marks row after) + slice_index marks row ≡ total marks + after
+  sums : sum_of_words (slice_set marks row after) + slice_index marks row ≡ sum_of_words marks + after
   sums = sum_by-set (λ (w : ℕ). w) marks row after 0 within
 
   not_less : slice_index marks row ≤ after
@@ -72,7 +72,7 @@ module _ (marks free : List ℕ) (row word after : ℕ) (within : row < length m
   pub grown : Spread marks free (slice_set marks row after)
   grown = record { kept = kept; only = only; most = omega (arith, sums, not_less); fits = still_fits }
 
-  pub grown_more : after ≢ slice_index marks row → total marks < total (slice_set marks row after)
+  pub grown_more : after ≢ slice_index marks row → sum_of_words marks < sum_of_words (slice_set marks row after)
   grown_more differs = omega (arith, sums, not_less, differs)
 
   pub grown_same : after ≡ slice_index marks row → slice_set marks row after ≡ marks
@@ -104,19 +104,19 @@ pub alike : (a b : ℕ) → not (a == b) ≡ false → a ≡ b
 alike a b test = elim (cases_Bool (a == b)) [ inl same ↦ eqb-true a b same | inr differs ↦ absurd (true≢false (sym (ap not differs) ∙ test)) ]
 
 -- words that fit add up to no more than this
-pub total_most : (rows : List ℕ) → ((i : ℕ) → slice_index rows i < 2 ^ 32) → total rows ≤ length rows * 2 ^ 32
+pub total_most : (rows : List ℕ) → ((i : ℕ) → slice_index rows i < 2 ^ 32) → sum_of_words rows ≤ length rows * 2 ^ 32
 total_most rows fits = sum_by-le (λ (w : ℕ). w) (2 ^ 32) rows (λ i d low. let same = get_or_default rows i d 0 low in let fit = fits i in omega arith)
 
 -- what holds as rows are swept: where nothing was put in, these are closed
 pub record IsSwept (start free marks : List ℕ) (more : Bool) (rows : ℕ) : Type 0 where
   pub spread : Spread start free marks
-  pub longer : more ≡ true → total start < total marks
+  pub longer : more ≡ true → sum_of_words start < sum_of_words marks
   pub same : more ≡ false → marks ≡ start
   pub closed : more ≡ false → (row : ℕ) → row < rows → IsClosedAt start free row
 
 -- one row more was swept
 pub swept_more : (start free marks marks' : List ℕ) (more more' grew : Bool) (rows rows' row : ℕ) → IsSwept start free marks more rows
-    → Spread marks free marks' → (grew ≡ true → total marks < total marks') → (grew ≡ false → marks' ≡ marks) → (grew ≡ false → IsClosedAt marks free row)
+    → Spread marks free marks' → (grew ≡ true → sum_of_words marks < sum_of_words marks') → (grew ≡ false → marks' ≡ marks) → (grew ≡ false → IsClosedAt marks free row)
     → ((grew ≡ true) × (more' ≡ true)) ⊎ ((grew ≡ false) × (more' ≡ more)) → ((r : ℕ) → r < rows' → (r < rows) ⊎ (r ≡ row))
     → IsSwept start free marks' more' rows'
 swept_more start free marks marks' more more' grew rows rows' row before spread longer same closed (inl yes_grew) places = record {

@@ -15,10 +15,10 @@ use Rattle.go_board.specs.declared.vertex.Vertex.{Vertex}
 use Rattle.go_board.specs.declared.vertex.Vertex.TheVariants.{Pass, At}
 use Rattle.go_board.specs.declared.vertex.VertexError.TheVariants.{Malformed, OffBoard}
 use Rattle.go_board.specs.Points.{IsOn}
-use Rattle.go_board.specs.Vertices.{IsOnBoard, SpellsOffBoard, column_letters, column_of, letter_of, point_of, row_of, vertex_of, vertex_on, vertex_word}
+use Rattle.go_board.specs.Vertices.{IsOnBoard, SpellsOffBoard, column_letters, column_of, letter_of_column, point_of, row_of, vertex_of, vertex_on, vertex_word}
 
 -- past the last column there is no letter
-pub letter_past : (col : ℕ) → 25 ≤ col → letter_of col ≡ 63
+pub letter_past : (col : ℕ) → 25 ≤ col → letter_of_column col ≡ 63
 letter_past col past = get_or_past column_letters col 63 past
 
 -- a test holds of each number below n
@@ -43,16 +43,16 @@ just None k e = absurd (true≢false (sym e))
 just (Some m) k e = ap (λ (n : ℕ). Some n) (eqb-true m k e)
 
 letter_holds : ℕ → Bool
-letter_holds col = is_just (column_of (letter_of col)) col
+letter_holds col = is_just (column_of (letter_of_column col)) col
 
 letters_table : each_below letter_holds 25 ≡ true
 unfolding letter_holds is_just
 letters_table = refl
 
 -- the letter of a column names it
-letter_back : (col : ℕ) → col < 25 → column_of (letter_of col) ≡ Some col
+letter_back : (col : ℕ) → col < 25 → column_of (letter_of_column col) ≡ Some col
 unfolding letter_holds
-letter_back col low = just (column_of (letter_of col)) col (at_each letter_holds 25 col letters_table low)
+letter_back col low = just (column_of (letter_of_column col)) col (at_each letter_holds 25 col letters_table low)
 
 row_holds : ℕ → Bool
 row_holds row = is_just (row_of (decimal (row + 1))) row
@@ -77,8 +77,8 @@ no_pass word short = elim (cases_Bool (str_eq_ignore_ascii_case word (codes "pas
 pub word_back : (v : Vertex) → IsOnBoard 25 v → vertex_of (vertex_word v) ≡ Some v
 word_back Pass h = refl
 word_back (At p) h =
-    let short : length (letter_of p.col ∷ decimal (p.row + 1)) ≤ 3 = let two : length (decimal (p.row + 1)) ≤ 2 = length-decimal-le 2 (p.row + 1) (omega arith) (omega (arith, h.1)) (omega (arith, h.1)) in omega arith in
-    rw (no_pass (letter_of p.col ∷ decimal (p.row + 1)) short) (rw (letter_back p.col h.0) (rw (row_back p.row h.1) refl))
+    let short : length (letter_of_column p.col ∷ decimal (p.row + 1)) ≤ 3 = let two : length (decimal (p.row + 1)) ≤ 2 = length-decimal-le 2 (p.row + 1) (omega arith) (omega (arith, h.1)) (omega (arith, h.1)) in omega arith in
+    rw (no_pass (letter_of_column p.col ∷ decimal (p.row + 1)) short) (rw (letter_back p.col h.0) (rw (row_back p.row h.1) refl))
 
 abbrev on_test : ℕ → Point → Bool
 on_test n p = nat_lt p.col n && nat_lt p.row n
@@ -124,17 +124,17 @@ read_ok n (Some (At p)) = elim (cases_Bool (on_test n p)) [
 ]
 
 letter_is_ascii : ℕ → Bool
-letter_is_ascii col = nat_lt (letter_of col) 128
+letter_is_ascii col = nat_lt (letter_of_column col) 128
 
 ascii_table : each_below letter_is_ascii 25 ≡ true
 unfolding letter_is_ascii
 ascii_table = refl
 
 -- each letter is ASCII, and so is the question mark
-pub letter_ascii : (col : ℕ) → letter_of col < 128
+pub letter_ascii : (col : ℕ) → letter_of_column col < 128
 unfolding letter_is_ascii
 letter_ascii col = elim (cases_lt col 25) [
-  | inl low ↦ ltb-true (letter_of col) 128 (at_each letter_is_ascii 25 col ascii_table low)
+  | inl low ↦ ltb-true (letter_of_column col) 128 (at_each letter_is_ascii 25 col ascii_table low)
   | inr past ↦ rw (letter_past col past) (lit< tt)
 ]
 

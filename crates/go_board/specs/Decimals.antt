@@ -9,13 +9,13 @@ is_empty [] = true
 is_empty (c ∷ cs) = false
 
 -- the value of decimal digits
-abbrev pub value_of_digits : List ℕ → ℕ
-value_of_digits digits = fold (λ value c. 10 * value + (c - 48)) 0 digits
+abbrev pub digits_value : List ℕ → ℕ
+digits_value digits = fold (λ value c. 10 * value + (c - 48)) 0 digits
 
 -- one or more digits, with a value that is at most MAX_INT
 abbrev pub is_int : List ℕ → Bool
-is_int word = (not (is_empty word) && list_all is_ascii_digit word) && nat_le (value_of_digits word) MAX_INT
+is_int word = (not (is_empty word) && list_all is_ascii_digit word) && nat_le (digits_value word) MAX_INT
 
 -- the number that a word spells
 abbrev pub int_of : List ℕ → Option ℕ
-int_of word = if is_int word then Some (value_of_digits word) else None
+int_of word = if is_int word then Some (digits_value word) else None

@@ -1,16 +1,23 @@
 -- A colouring in bytes, two bits a point.
-use Rattle.std.specs.Prelude.{ℕ, ◌+◌, ◌*◌, List, Option, None, Some, map}
+use Rattle.std.specs.Prelude.{ℕ, zero, suc, ◌+◌, ◌*◌, List, Option, None, Some, map}
 use Rattle.std.specs.List.{range_with_len}
 use Rattle.go_board.specs.declared.colour.Colour.{Colour}
 use Rattle.go_board.specs.declared.colour.Colour.TheVariants.{Black, White}
 use Rattle.go_board.specs.declared.pack.TheConstants.{PACK_BYTES}
 use Rattle.go_board.specs.Colours.{Colouring, colour_at}
 
--- two bits
+-- the number that stands for the colour of a point: two bits
 abbrev pub code_of : Option Colour → ℕ
 code_of None = 0
 code_of (Some Black) = 1
 code_of (Some White) = 2
+
+-- what such a number stands for; another stands for an empty point
+abbrev pub colour_coded : ℕ → Option Colour
+colour_coded zero = None
+colour_coded (suc zero) = Some Black
+colour_coded (suc (suc zero)) = Some White
+colour_coded (suc (suc (suc k))) = None
 
 -- the byte of four points, the first lowest; a point past the board counts as empty
 abbrev pub byte_of : Colouring → ℕ → ℕ

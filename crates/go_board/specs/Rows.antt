@@ -18,8 +18,8 @@ abbrev pub HasNext : List ℕ → ℕ → ℕ → Type 0
 HasNext rows row col = (row' col' : ℕ) × IsNext row col row' col' × IsIn rows row' col'
 
 -- the sum of the words: with each place more it is more
-abbrev pub total : List ℕ → ℕ
-total rows = sum_by (λ (word : ℕ). word) rows
+abbrev pub sum_of_words : List ℕ → ℕ
+sum_of_words rows = sum_by (λ (word : ℕ). word) rows
 
 -- each place of the set passes the test
 abbrev pub PassesAll : (ℕ → ℕ → Bool) → List ℕ → Type 0
@@ -33,7 +33,7 @@ PassesOn test free = (row col row' col' : ℕ) → IsNext row col row' col' → 
 pub record Spread (marks free marks' : List ℕ) : Type 0 where
   pub kept : (row col : ℕ) → IsIn marks row col → IsIn marks' row col
   pub only : (test : ℕ → ℕ → Bool) → PassesOn test free → PassesAll test marks → PassesAll test marks'
-  pub most : total marks ≤ total marks'
+  pub most : sum_of_words marks ≤ sum_of_words marks'
   pub fits : ((i : ℕ) → slice_index marks i < 2 ^ 32) → (i : ℕ) → slice_index marks' i < 2 ^ 32
 
 -- each free place of the row that is next to a marked one is marked

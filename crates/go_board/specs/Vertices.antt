@@ -58,10 +58,10 @@ vertex_on n (Some Pass) = Ok Pass
 vertex_on n (Some (At p)) = if nat_lt p.col n && nat_lt p.row n then Ok (At p) else Err OffBoard
 
 -- the letter of a column, or a question mark past the last letter
-abbrev pub letter_of : ℕ → ℕ
-letter_of col = slice_index_or column_letters col 63
+abbrev pub letter_of_column : ℕ → ℕ
+letter_of_column col = slice_index_or column_letters col 63
 
 -- the letter of the column and the number of the row from 1, or `pass`
 abbrev pub vertex_word : Vertex → List ℕ
 vertex_word Pass = codes "pass"
-vertex_word (At p) = letter_of p.col ∷ decimal (p.row + 1)
+vertex_word (At p) = letter_of_column p.col ∷ decimal (p.row + 1)

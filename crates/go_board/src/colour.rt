@@ -1,4 +1,4 @@
-ghost use Rattle.std.specs.Prelude.{◌≡◌, ◌↔◌, IsTrue};
+ghost use Rattle.std.specs.Prelude.{◌≡◌, ◌<◌, ◌↔◌, IsTrue, Some};
 
 /// The colour of a stone, and of the player who has the stones of that colour.
 #[derive(Clone, Copy, Debug, PartialEq, Eq, Hash)]
@@ -9,6 +9,7 @@ pub enum Colour {
 
 impl Colour {
     ghost use Rattle.go_board.specs.Colours.{letter_of, other};
+    ghost use Rattle.go_board.specs.Packs.{code_of, colour_coded};
 
     /// The opponent's colour.
     pub fn other(self) -> Colour
@@ -27,6 +28,28 @@ impl Colour {
         match self {
             Colour::Black => b'B',
             Colour::White => b'W',
+        }
+    }
+
+    /// The number that stands for the colour in packs and tables, where 0 is an empty point.
+    pub fn code(self) -> u64
+        ensures value { result ≡ code_of (Some self) }
+        ensures range { (0 < result) × (result < 3) }
+    {
+        match self {
+            Colour::Black => 1,
+            Colour::White => 2,
+        }
+    }
+
+    /// The colour that such a number stands for. None for 0, and for a number of no colour.
+    pub fn coded(code: u64) -> Option<Colour>
+        ensures { result ≡ colour_coded code }
+    {
+        match code {
+            1 => Some(Colour::Black),
+            2 => Some(Colour::White),
+            _ => None,
         }
     }
 }

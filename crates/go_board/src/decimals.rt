@@ -1,10 +1,13 @@
 ghost use Rattle.std.specs.Prelude.{◌≡◌, ◌+◌, ◌*◌, ◌<◌, ◌≤◌, ◌^◌, IfSome, min, true};
 ghost use Rattle.std.specs.Char.{is_ascii_digit};
 ghost use Rattle.std.specs.List.{list_all};
-ghost use Rattle.go_board.specs.Decimals.{int_of, value_of_digits as value_by};
+ghost use Rattle.go_board.specs.Decimals.{int_of, digits_value};
 
 /// The greatest number that a word spells.
 pub const MAX_INT: u32 = 2_147_483_647;
+
+/// The most hundredths of a point that a komi has, on either side: 999,999,999.99 points.
+pub const MAX_KOMI: u64 = 99_999_999_999;
 
 /// The number that one or more decimal digits spell, at most [`MAX_INT`]. None for any other word.
 pub fn read_int(word: &[u8]) -> Option<u32>
@@ -33,7 +36,7 @@ pub fn are_digits(bytes: &[u8]) -> bool
 pub fn value_of_digits(digits: &[u8], most: u64) -> u64
     requires digits { list_all is_ascii_digit digits.now ≡ true }
     requires most { most < 2 ^ 60 }
-    ensures { result ≡ min (value_by digits.now) most }
+    ensures { result ≡ min (digits_value digits.now) most }
 {
     let mut value = 0;
     for byte in digits {

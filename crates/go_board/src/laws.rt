@@ -1,18 +1,19 @@
 //! What the words of this crate's contracts mean: laws about definitions, each the contract of a
 //! function that does nothing.
 ghost use Rattle.std.specs.Prelude.{◌≡◌};
-ghost use Rattle.go_board.specs.declared.decimals.TheConstants.{MAX_INT};
+ghost use Rattle.go_board.specs.declared.decimals.TheConstants.{MAX_INT, MAX_KOMI};
 ghost use Rattle.go_board.specs.declared.rows.TheConstants.{ROWS};
 ghost use Rattle.go_board.specs.declared.size.TheConstants.{MAX_LINES, MAX_POINTS};
 ghost use Rattle.go_board.specs.Laws.{BytesMakeAPack, JoinedByPath, LibertyByPath, OneColourLives, PacksTellApart, PointsByNumber, ReachesByPath, TakenAndLeft, VanishedAtMostAll};
 
-/// The numbers of lines, points and rows of the largest board, and the greatest number that a word
-/// spells.
+/// The numbers of lines, points and rows of the largest board, the greatest number that a word
+/// spells, and the most hundredths of a komi.
 pub fn limits()
     ensures lines { MAX_LINES ≡ 25 }
     ensures points { MAX_POINTS ≡ 625 }
     ensures rows { ROWS ≡ 25 }
     ensures int { MAX_INT ≡ 2147483647 }
+    ensures komi { MAX_KOMI ≡ 99999999999 }
 {}
 
 /// The test whether a point reaches a colour holds exactly where a path leads there.

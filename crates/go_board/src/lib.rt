@@ -47,7 +47,7 @@ mod vertex;
 
 pub use area::Area;
 pub use colour::Colour;
-pub use decimals::{MAX_INT, are_digits, read_int, value_of_digits, with_digit};
+pub use decimals::{MAX_INT, MAX_KOMI, are_digits, read_int, value_of_digits, with_digit};
 pub use device::{Failed, Sink, Source, WriteFault};
 pub use grid::Grid;
 pub use meter::Meter;

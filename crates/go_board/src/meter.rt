@@ -12,11 +12,11 @@ struct Number {
 
 impl Model for Number {
     ghost use Rattle.std.specs.Prelude.{ℕ};
-    ghost use Rattle.go_board.specs.Number.{value_of};
+    ghost use Rattle.go_board.specs.Number.{value_after};
 
     ghost Value = { ℕ };
 
-    ghost view = { λ n. value_of n.before };
+    ghost view = { λ n. value_after n.before };
 
     ghost size = { λ n. n };
 }

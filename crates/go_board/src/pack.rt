@@ -3,7 +3,7 @@ ghost use Rattle.go_board.specs.declared.pack.TheConstants.{PACK_BYTES};
 ghost use Rattle.go_board.specs.PackBytes.{bytes_of};
 ghost use Rattle.go_board.specs.Packs.{byte_of, code_of, packed_of};
 
-use crate::{Colour, Grid, MAX_POINTS};
+use crate::{Grid, MAX_POINTS};
 use std::hash::{Hash, Hasher};
 
 /// How many bytes hold two bits for each point of the largest board.
@@ -107,8 +107,7 @@ impl Grid {
     {
         match self.colour_of(number) {
             None => 0,
-            Some(Colour::Black) => 1,
-            Some(Colour::White) => 2,
+            Some(colour) => colour.code() as u8,
         }
     }
 }

@@ -7,7 +7,7 @@ ghost use Rattle.go_board.specs.declared.colour.Colour.{Colour};
 ghost use Rattle.go_board.specs.declared.rows.TheConstants.{ROWS};
 ghost use Rattle.go_board.specs.Colours.{Colouring, other};
 ghost use Rattle.go_board.specs.Reaching.{area};
-ghost use Rattle.go_board.specs.Rows.{AreHeld, AreStones, HasNext, IsClosedAt, IsIn, Spread, is_alone, total};
+ghost use Rattle.go_board.specs.Rows.{AreHeld, AreStones, HasNext, IsClosedAt, IsIn, Spread, is_alone, sum_of_words};
 
 use crate::colour::is_same;
 use crate::{Area, Colour, MAX_LINES};
@@ -68,7 +68,7 @@ fn beside(rows: &Rows, row: usize) -> u32
 fn grow(marks: &mut Rows, free: &Rows, row: usize) -> bool
     requires { row < ROWS }
     ensures spread { Spread marks.old free.now marks.new }
-    ensures more { result ≡ true → total marks.old < total marks.new }
+    ensures more { result ≡ true → sum_of_words marks.old < sum_of_words marks.new }
     ensures same { result ≡ false → marks.new ≡ marks.old }
     ensures closed { result ≡ false → IsClosedAt marks.old free.now row }
 {
@@ -82,7 +82,7 @@ fn grow(marks: &mut Rows, free: &Rows, row: usize) -> bool
 fn grow_all(marks: &mut Rows, free: &Rows, row: usize) -> bool
     requires { row < ROWS }
     ensures spread { Spread marks.old free.now marks.new }
-    ensures more { result ≡ true → total marks.old < total marks.new }
+    ensures more { result ≡ true → sum_of_words marks.old < sum_of_words marks.new }
     ensures same { result ≡ false → marks.new ≡ marks.old }
     ensures closed { result ≡ false → IsClosedAt marks.old free.now row }
 {
@@ -98,7 +98,7 @@ fn grow_all(marks: &mut Rows, free: &Rows, row: usize) -> bool
 fn sweep(marks: &mut Rows, free: &Rows, lines: usize) -> bool
     requires { lines ≤ ROWS }
     ensures spread { Spread marks.old free.now marks.new }
-    ensures more { result ≡ true → total marks.old < total marks.new }
+    ensures more { result ≡ true → sum_of_words marks.old < sum_of_words marks.new }
     ensures closed { result ≡ false → (row : ℕ) → row < lines → IsClosedAt marks.new free.now row }
 {
     let mut more = false;

@@ -1,5 +1,5 @@
 ghost use Rattle.std.specs.Prelude.{◌≡◌, ◌<◌, ◌↔◌, ◌∷◌, ◌+◌, ◌==◌, [], Some, None, Err, IfOk, IsTrue, codes, IfSome, decimal, option_map, position};
-ghost use Rattle.go_board.specs.Vertices.{IsOnBoard, SpellsOffBoard, column_letters, column_of, letter_of, point_of, row_numbered, row_of, vertex_of, vertex_on, vertex_word};
+ghost use Rattle.go_board.specs.Vertices.{IsOnBoard, SpellsOffBoard, column_letters, column_of, letter_of_column, point_of, row_numbered, row_of, vertex_of, vertex_on, vertex_word};
 
 use crate::{Colour, Point, Size};
 use arrayvec::ArrayString;
@@ -137,7 +137,7 @@ pub fn vertex_text(vertex: Vertex) -> ArrayString<4>
 
 fn push_point(text: &mut ArrayString<4>, point: Point)
     requires { text.old.bytes ≡ [] }
-    ensures { text.new.bytes ≡ letter_of point.col ∷ decimal (point.row + 1) }
+    ensures { text.new.bytes ≡ letter_of_column point.col ∷ decimal (point.row + 1) }
 {
     text.push(column_letter(point.col));
     let mut digits = Buffer::new();
@@ -146,7 +146,7 @@ fn push_point(text: &mut ArrayString<4>, point: Point)
 
 /// The letter of a column, or a question mark past the last letter.
 fn column_letter(col: u8) -> char
-    ensures letter { result ≡ letter_of col }
+    ensures letter { result ≡ letter_of_column col }
     ensures ascii { result < 128 }
 {
     let col = usize::from(col);

@@ -11,8 +11,8 @@ pub record CellsValue : Type 0 where
   pub trace : List Change
 
 -- how the cells are arranged: four numbers of each point, then the words of liberties of each label
-abbrev pub colour_of : List ℕ → ℕ → ℕ
-colour_of cells p = slice_index cells p
+abbrev pub code_at : List ℕ → ℕ → ℕ
+code_at cells p = slice_index cells p
 
 abbrev pub label_of : List ℕ → ℕ → ℕ
 label_of cells p = slice_index cells (LABELS + p)
@@ -43,7 +43,7 @@ lib_of cells l q = bit_at (word_of cells l (q / 64)) (q % 64)
 
 abbrev pub tables_of : List ℕ → Tables
 tables_of cells = record {
-  colour = colour_of cells;
+  colour = code_at cells;
   label = label_of cells;
   next = next_of cells;
   size = size_of cells;

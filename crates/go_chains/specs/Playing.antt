@@ -16,12 +16,12 @@ unfoldable pub stones_beside : ℕ → Colouring → Colour → ℕ → ℕ
 stones_beside n g c p = count_by (is_beside_own n g c p) (points n)
 
 -- the opponent's stones that a stone of c at p takes
-abbrev pub stones_taken : ℕ → Colouring → Colour → ℕ → ℕ
-stones_taken n g c p = vanished n (slice_set g p (Some c)) (moved n g c p) (other c)
+abbrev pub stones_captured : ℕ → Colouring → Colour → ℕ → ℕ
+stones_captured n g c p = vanished n (slice_set g p (Some c)) (moved n g c p) (other c)
 
 -- the most changes that a play of c at p makes
 abbrev pub most_of : ℕ → Colouring → Colour → ℕ → ℕ
-most_of n g c p = 128 + 8 * (stones_beside n g c p + stones_taken n g c p)
+most_of n g c p = 128 + 8 * (stones_beside n g c p + stones_captured n g c p)
 
 -- the same of a board and a point
 abbrev pub most_at : BoardValue → Colour → Point → ℕ

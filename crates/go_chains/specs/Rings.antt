@@ -18,5 +18,5 @@ pub record IsRing (next : ℕ → ℕ) (n p : ℕ) : Type 0 where
   pub apart : (i j : ℕ) → i < n → j < n → steps next i p ≡ steps next j p → i ≡ j
 
 -- fewer than n steps lead from p to q
-abbrev pub IsOn : (ℕ → ℕ) → ℕ → ℕ → ℕ → Type 0
-IsOn next n p q = (i : ℕ) × (i < n) × (steps next i p ≡ q)
+abbrev pub IsOnRing : (ℕ → ℕ) → ℕ → ℕ → ℕ → Type 0
+IsOnRing next n p q = (i : ℕ) × (i < n) × (steps next i p ≡ q)

@@ -1,18 +1,18 @@
 -- When the cells of a board are sound for a colouring: what a reader must believe of the tables.
-use Rattle.std.specs.Prelude.{ℕ, zero, suc, List, [], ◌∷◌, ◌++◌, ◌≡◌, ◌≢◌, ◌≤◌, ◌<◌, ◌+◌, ◌*◌, ◌↔◌, Option, Some, None, AllPairs, Contains, map}
+use Rattle.std.specs.Prelude.{ℕ, List, [], ◌∷◌, ◌++◌, ◌≡◌, ◌≢◌, ◌≤◌, ◌<◌, ◌+◌, ◌*◌, ◌↔◌, Some, None, AllPairs, Contains, map}
 use Rattle.go_board.specs.declared.colour.Colour.{Colour}
-use Rattle.go_board.specs.declared.colour.Colour.TheVariants.{Black, White}
 use Rattle.go_board.specs.declared.size.TheConstants.{MAX_LINES}
 use Rattle.go_board.specs.Colours.{Colouring, colour_at}
 use Rattle.go_board.specs.declared.point.Point.{Point}
 use Rattle.go_board.specs.Grids.{GridValue}
 use Rattle.go_board.specs.Points.{number_of}
+use Rattle.go_board.specs.Packs.{colour_coded}
 use Rattle.go_board.specs.Paths.{IsAdjacent, Joined, Reaches}
 use Rattle.go_board.specs.Reaching.{points}
 use Rattle.go_board.specs.Rows.{AreStonesIn}
 use Rattle.go_chains.specs.Rings.{ring_from}
 use Rattle.go_chains.specs.declared.change.Change.{Change}
-use Rattle.go_chains.specs.Cells.{CellsValue, colour_of, label_of, next_of, size_of, lib_of}
+use Rattle.go_chains.specs.Cells.{CellsValue, code_at, label_of, next_of, size_of, lib_of}
 
 -- what contracts see of a board: its lines, its cells, and all writes to them
 pub record BoardValue : Type 0 where
@@ -20,16 +20,9 @@ pub record BoardValue : Type 0 where
   pub cells : List ℕ
   pub trace : List Change
 
--- what the number in a colour cell stands for
-abbrev pub value_of : ℕ → Option Colour
-value_of zero = None
-value_of (suc zero) = Some Black
-value_of (suc (suc zero)) = Some White
-value_of (suc (suc (suc k))) = None
-
--- the colouring that such numbers say on a board of n lines
+-- the colouring that the numbers of colour cells say on a board of n lines
 unfoldable pub colouring_of : ℕ → List ℕ → Colouring
-colouring_of n cells = map (λ p. value_of (colour_of cells p)) (points n)
+colouring_of n cells = map (λ p. colour_coded (code_at cells p)) (points n)
 
 -- the colouring that the cells of a board of n lines say
 abbrev pub colours_in : ℕ → CellsValue → Colouring
@@ -52,8 +45,8 @@ abbrev pub HoldsStone : BoardValue → Point → Type 0
 HoldsStone b p = IsStoneOf (grid_of b) (number_of b.lines p)
 
 -- the bits of the word are the stones of c in a row of a board
-abbrev pub AreStones : BoardValue → Colour → ℕ → ℕ → Type 0
-AreStones b c row word = AreStonesIn b.lines (grid_of b) c row word
+abbrev pub IsRowOfStones : BoardValue → Colour → ℕ → ℕ → Type 0
+IsRowOfStones b c row word = AreStonesIn b.lines (grid_of b) c row word
 
 -- the list has the stones of p's chain, each once, and no other point
 abbrev pub ListsChain : ℕ → Colouring → ℕ → List ℕ → Type 0
@@ -65,8 +58,8 @@ IsChainLiberty n g p q = (colour_at g q ≡ None) × ((s : ℕ) × Joined n g p 
 
 -- the cells are sound for a colouring of a board of n lines
 pub record IsSound (n : ℕ) (g : Colouring) (cells : List ℕ) : Type 0 where
-  pub colours : (p : ℕ) → p < n * n → colour_at g p ≡ value_of (colour_of cells p)
-  pub coded : (p : ℕ) → p < n * n → colour_of cells p < 3
+  pub colours : (p : ℕ) → p < n * n → colour_at g p ≡ colour_coded (code_at cells p)
+  pub coded : (p : ℕ) → p < n * n → code_at cells p < 3
   pub alive : (p : ℕ) → IsStoneOf g p → Reaches n g p None
   pub labels : (p q : ℕ) → IsStoneOf g p → IsStoneOf g q → (label_of cells p ≡ label_of cells q) ↔ Joined n g p q
   pub rings : (p : ℕ) → IsStoneOf g p → ListsChain n g p (ring_from (next_of cells) (size_of cells (label_of cells p)) p)

@@ -10,18 +10,17 @@ ghost use Rattle.go_board.specs.declared.pack.TheConstants.{PACK_BYTES};
 ghost use Rattle.go_board.specs.declared.size.TheConstants.{MAX_POINTS};
 ghost use Rattle.go_chains.specs.declared.cells.TheConstants.{COUNT, WORDS};
 ghost use Rattle.go_chains.specs.declared.change.Change.{Change};
-ghost use Rattle.go_chains.specs.Cells.{colour_of, label_of, lib_of};
+ghost use Rattle.go_chains.specs.Cells.{code_at, label_of, lib_of};
 ghost use Rattle.go_chains.specs.inner.Parts.{has_label, is_in_part, points_left};
 ghost use Rattle.go_chains.specs.Playing.{most_at, played, went};
 ghost use Rattle.go_chains.specs.Rewound.{ForLast, IsRewound, NamesCells, PlayLogged, rewound};
-ghost use Rattle.go_chains.specs.Sound.{AreStones, HoldsStone, IsKept, grid_of, shown};
+ghost use Rattle.go_chains.specs.Sound.{IsRowOfStones, HoldsStone, IsKept, grid_of, shown};
 ghost use Rattle.go_chains.specs.inner.Words.{free_in_word};
 ghost use Rattle.go_board.specs.Grids.{are_joined, chain_liberties, chain_stones, has_liberty, liberty_count, stone_at, stone_count};
 
 use crate::beside::beside;
 use crate::cells::{Cells, LABELS, SIZES, word_place};
 use crate::chain_points::{ChainPoints, Part};
-use crate::codes::colour_from;
 use crate::errors::PlaceError;
 use crate::log::{Log, reserve_play, seal};
 use crate::masks::mask_of;
@@ -105,7 +104,7 @@ impl Board {
         points_by_number();
         let mut meter = Meter::new();
         let place = usize::from(p.index(self.size));
-        colour_from(self.cells.get(place, &mut meter))
+        Colour::coded(self.cells.get(place, &mut meter))
     }
 
     /// The colours of the board.
@@ -125,14 +124,14 @@ impl Board {
     /// The stones of both colours in one row.
     fn stones_in(&self, row: usize) -> RowStones
         requires { row < self.now.lines }
-        ensures black { AreStones self.now Colour.Black row result.black }
-        ensures white { AreStones self.now Colour.White row result.white }
+        ensures black { IsRowOfStones self.now Colour.Black row result.black }
+        ensures white { IsRowOfStones self.now Colour.White row result.white }
     {
         let lines = usize::from(self.size().lines());
         let mut meter = Meter::new();
         let mut stones = RowStones { black: 0, white: 0 };
         for col in 0..lines {
-            let colour = colour_from(self.cells.get(row * lines + col, &mut meter));
+            let colour = Colour::coded(self.cells.get(row * lines + col, &mut meter));
             stones.black = with_stone(stones.black, col, colour, Colour::Black);
             stones.white = with_stone(stones.white, col, colour, Colour::White);
         }
@@ -291,7 +290,7 @@ impl Board {
         ensures { result ≡ has_label self.now.cells label number }
     {
         let mut meter = Meter::new();
-        match colour_from(self.cells.get(number, &mut meter)) {
+        match Colour::coded(self.cells.get(number, &mut meter)) {
             Some(_) => label == self.cells.get(LABELS + number, &mut meter) as usize,
             None => false,
         }
@@ -452,7 +451,7 @@ impl Board {
 /// Empties the first so many points.
 fn empty_points(cells: &mut Cells, points: usize)
     requires { points ≤ MAX_POINTS }
-    ensures empty { (p : ℕ) → p < points → colour_of cells.new.numbers p ≡ 0 }
+    ensures empty { (p : ℕ) → p < points → code_at cells.new.numbers p ≡ 0 }
     ensures writes { length cells.new.trace ≡ length cells.old.trace + points }
 {
     let mut meter = Meter::new();

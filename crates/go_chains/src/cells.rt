@@ -8,7 +8,6 @@ ghost use Rattle.go_chains.specs.Cells.{words_for};
 ghost use Rattle.go_chains.specs.Sound.{colouring_of};
 
 use crate::change::Change;
-use crate::codes::colour_from;
 use crate::trace::Trace;
 use go_board::{Colour, MAX_POINTS, Meter, Packed, Size, packed_byte};
 use std::marker::Model;
@@ -134,10 +133,9 @@ fn code_in(numbers: &[u64; COUNT], number: usize) -> u8
     if number >= MAX_POINTS {
         return 0;
     }
-    match colour_from(numbers[number]) {
+    match Colour::coded(numbers[number]) {
         None => 0,
-        Some(Colour::Black) => 1,
-        Some(Colour::White) => 2,
+        Some(colour) => colour.code() as u8,
     }
 }
 

@@ -2,7 +2,7 @@
 ghost use Rattle.std.specs.Prelude.{◌≡◌, ◌≢◌, ◌<◌, ◌≤◌, ◌+◌, ◌*◌, ℕ, vec_capacity, vec_len};
 ghost use Rattle.go_board.specs.declared.size.TheConstants.{MAX_POINTS};
 ghost use Rattle.go_chains.specs.declared.cells.TheConstants.{WORDS};
-ghost use Rattle.go_chains.specs.Cells.{chain_size, colour_of, label_of, next_of};
+ghost use Rattle.go_chains.specs.Cells.{chain_size, code_at, label_of, next_of};
 ghost use Rattle.go_chains.specs.inner.Edits.{Edited};
 ghost use Rattle.go_chains.specs.Rings.{steps};
 ghost use Rattle.go_chains.specs.inner.CellSteps.{AreTidy, HasStone, Joins, Merges, Relabels};
@@ -72,7 +72,7 @@ pub fn join<A: Allocator + Copy>(
     requires tidy { AreTidy size cells.old }
     requires first { HasStone size cells.old first }
     requires second { HasStone size cells.old second }
-    requires same { colour_of cells.old.numbers first ≡ colour_of cells.old.numbers second }
+    requires same { code_at cells.old.numbers first ≡ code_at cells.old.numbers second }
     requires apart { label_of cells.old.numbers first ≢ label_of cells.old.numbers second }
     requires room { vec_len changes.old
         + (chain_size cells.old.numbers second + WORDS + 3) ≤ vec_capacity changes.old }

@@ -32,7 +32,6 @@ mod capture;
 mod cells;
 mod chain_points;
 mod change;
-mod codes;
 mod connect;
 mod edits;
 mod errors;

@@ -1,7 +1,7 @@
 //! Stones taken off the board, and their points given back as liberties to the chains beside them.
 ghost use Rattle.std.specs.Prelude.{◌≡◌, ◌≢◌, ◌<◌, ◌≤◌, ◌+◌, ◌*◌, ℕ, All, length, vec_capacity, vec_len};
 ghost use Rattle.go_board.specs.declared.size.TheConstants.{MAX_POINTS};
-ghost use Rattle.go_chains.specs.Cells.{chain_size, colour_of};
+ghost use Rattle.go_chains.specs.Cells.{chain_size, code_at};
 ghost use Rattle.go_chains.specs.inner.Edits.{Edited};
 ghost use Rattle.go_chains.specs.inner.Writes.{IsGiven, IsLifted};
 ghost use Rattle.go_chains.specs.inner.CellSteps.{AreTidy, AreWhole, FitsWith, GivesAll, GivesAt, HasStone, HasTwoColours, Removes};
@@ -88,7 +88,7 @@ fn lift<A: Allocator + Copy>(
     other: u64,
 )
     requires point { point < size * size }
-    requires own { colour_of cells.old.numbers point ≡ own }
+    requires own { code_at cells.old.numbers point ≡ own }
     requires labels { (s : ℕ) → s < size * size → FitsWith cells.old other s }
     requires room { vec_len changes.old + 5 ≤ vec_capacity changes.old }
     ensures lifted { IsLifted size cells.old.numbers cells.new.numbers point other }
@@ -112,7 +112,7 @@ pub fn take_off<A: Allocator + Copy>(
     requires tidy { AreTidy size cells.old }
     requires whole { AreWhole size cells.old }
     requires stone { HasStone size cells.old stone }
-    requires own { colour_of cells.old.numbers stone ≡ own }
+    requires own { code_at cells.old.numbers stone ≡ own }
     requires other { 0 < other }
     requires apart { own ≢ other }
     requires two { HasTwoColours size cells.old own other }

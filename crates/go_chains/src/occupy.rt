@@ -3,7 +3,7 @@ ghost use Rattle.std.specs.Prelude.{◌≡◌, ◌<◌, ◌≤◌, ◌+◌, ◌*
 ghost use Rattle.go_board.specs.declared.size.TheConstants.{MAX_POINTS};
 ghost use Rattle.go_chains.specs.declared.cells.TheConstants.{WORDS};
 ghost use Rattle.go_chains.specs.inner.Beside.{AreBeside};
-ghost use Rattle.go_chains.specs.Cells.{colour_of};
+ghost use Rattle.go_chains.specs.Cells.{code_at};
 ghost use Rattle.go_chains.specs.inner.Edits.{Edited};
 ghost use Rattle.go_chains.specs.inner.Writes.{IsDeprived, IsMarked, MarksEmpty};
 ghost use Rattle.go_chains.specs.inner.CellSteps.{AreTidy, DeprivesAll, DeprivesAt, Fills, Fits, Occupies};
@@ -148,7 +148,7 @@ pub fn occupy<A: Allocator + Copy>(
 )
     requires tidy { AreTidy size cells.old }
     requires point { point < size * size }
-    requires empty { colour_of cells.old.numbers point ≡ 0 }
+    requires empty { code_at cells.old.numbers point ≡ 0 }
     requires colour { 0 < colour }
     requires beside { AreBeside size point beside.now }
     requires room { vec_len changes.old + (WORDS + 8) ≤ vec_capacity changes.old }

@@ -5,7 +5,7 @@ ghost use Rattle.go_board.specs.Colours.{other};
 ghost use Rattle.go_board.specs.Reaching.{moved};
 ghost use Rattle.go_chains.specs.declared.place.TheConstants.{ROOM};
 ghost use Rattle.go_chains.specs.inner.Beside.{AreBeside};
-ghost use Rattle.go_chains.specs.Cells.{colour_of};
+ghost use Rattle.go_chains.specs.Cells.{code_at};
 ghost use Rattle.go_chains.specs.Playing.{lost, most_of};
 ghost use Rattle.go_chains.specs.inner.Edits.{Edited};
 ghost use Rattle.go_chains.specs.Sound.{IsKept, colours_in};
@@ -13,7 +13,6 @@ ghost use Rattle.go_chains.specs.Sound.{IsKept, colours_in};
 use crate::capture::{capture, take_one};
 use crate::cells::{Cells, WORDS};
 use crate::change::Change;
-use crate::codes::code_of;
 use crate::connect::connect;
 use crate::occupy::occupy;
 use go_board::laws::{joined_by_a_path, reaches_by_a_path};
@@ -36,7 +35,7 @@ pub fn place<A: Allocator + Copy>(
 ) -> Taken
     requires kept { IsKept size cells.old.numbers }
     requires point { point < size * size }
-    requires empty { colour_of cells.old.numbers point ≡ 0 }
+    requires empty { code_at cells.old.numbers point ≡ 0 }
     requires near { AreBeside size point near.now }
     requires room { vec_len changes.old + ROOM ≤ vec_capacity changes.old }
     ensures kept { IsKept size cells.new.numbers }
@@ -51,8 +50,8 @@ pub fn place<A: Allocator + Copy>(
 {
     joined_by_a_path();
     reaches_by_a_path();
-    let own = code_of(colour);
-    let other = code_of(colour.other());
+    let own = colour.code();
+    let other = colour.other().code();
     occupy(cells, changes, meter, size, own, point, near);
     connect(cells, changes, meter, size, point, near);
     let theirs = capture(cells, changes, meter, size, near, other, own);

@@ -22,7 +22,8 @@ use Rattle.go_game.specs.inner.Held.{IsHeld, IsKeeping, made_of}
 use Rattle.go_history.specs.declared.key.Key.{Key}
 use Rattle.go_history.specs.Histories.{HistoryValue, IsBegun}
 use Rattle.go_game.specs.inner.Histories.{IsKeyOf, StandsFor}
-use Rattle.go_game.specs.Standings.{IsKomi, seen_by, stood}
+use Rattle.go_board.specs.Komi.{IsKomi}
+use Rattle.go_game.specs.Standings.{seen_by, stood}
 use Rattle.go_game.proofs.Remembered.{history_begun}
 
 -- an empty board has no dead stone

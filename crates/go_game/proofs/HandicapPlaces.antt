@@ -6,7 +6,7 @@ use Rattle.std.proofs.lemmas.Bool.Decides.{nat_tests}
 use Rattle.std.proofs.lemmas.List.Elements.{All-append, All-cons, All-nil, All-take}
 use Rattle.go_board.specs.declared.point.Point.{Point}
 use Rattle.go_board.specs.Points.{IsOn}
-use Rattle.go_game.specs.Handicaps.{centre, corners, ends, far, greatest, handicap_points, middle, near, point_in, sides, where_wanted}
+use Rattle.go_game.specs.Handicaps.{centre, corners, ends, far, greatest, handicap_points, middle, near, crossing, sides, where_wanted}
 
 near_low : (n : ℕ) → 6 < n → near n < n
 near_low n big = grind (arith, nat_tests)
@@ -32,8 +32,8 @@ module _ (n : ℕ) (big : 6 < n) where
   corners_on =
       let a = near_low n big in
       let b = far_low n big in
-      All-append (IsOn n) (point_in (near n) (near n) ∷ point_in (far n) (far n) ∷ []) (point_in (near n) (far n) ∷ point_in (far n) (near n) ∷ [])
-      (two_on (point_in (near n) (near n)) (point_in (far n) (far n)) (a, a) (b, b)) (two_on (point_in (near n) (far n)) (point_in (far n) (near n)) (a, b) (b, a))
+      All-append (IsOn n) (crossing (near n) (near n) ∷ crossing (far n) (far n) ∷ []) (crossing (near n) (far n) ∷ crossing (far n) (near n) ∷ [])
+      (two_on (crossing (near n) (near n)) (crossing (far n) (far n)) (a, a) (b, b)) (two_on (crossing (near n) (far n)) (crossing (far n) (near n)) (a, b) (b, a))
 
   pub handicap_on : (number : ℕ) → All (IsOn n) (handicap_points n number)
   unfolding handicap_points
@@ -47,9 +47,9 @@ module _ (n : ℕ) (big : 6 < n) where
       All-append (IsOn n) ((first ++ second) ++ third) (where_wanted (nat_lt 4 number && number % 2 == 1) (centre n))
       (All-append (IsOn n) (first ++ second) third
       (All-append (IsOn n) first second (All-take (IsOn n) number (corners n) corners_on)
-      (wanted_on (nat_le 6 number) (sides n) (two_on (point_in (near n) (middle n)) (point_in (far n) (middle n)) (a, m) (b, m))))
-      (wanted_on (nat_le 8 number) (ends n) (two_on (point_in (middle n) (near n)) (point_in (middle n) (far n)) (m, a) (m, b))))
-      (wanted_on (nat_lt 4 number && number % 2 == 1) (centre n) (one_more (point_in (middle n) (middle n)) [] (m, m) (All-nil (IsOn n))))
+      (wanted_on (nat_le 6 number) (sides n) (two_on (crossing (near n) (middle n)) (crossing (far n) (middle n)) (a, m) (b, m))))
+      (wanted_on (nat_le 8 number) (ends n) (two_on (crossing (middle n) (near n)) (crossing (middle n) (far n)) (m, a) (m, b))))
+      (wanted_on (nat_lt 4 number && number % 2 == 1) (centre n) (one_more (crossing (middle n) (middle n)) [] (m, m) (All-nil (IsOn n))))
 
 -- a board with places for two stones has more than six lines
 pub big_enough : (n number : ℕ) → 2 ≤ number → number ≤ greatest n → 6 < n

@@ -15,7 +15,7 @@ use Rattle.go_board.specs.declared.vertex.Vertex.TheVariants.{Pass, At}
 use Rattle.go_board.specs.Colours.{Colouring, colour_at}
 use Rattle.go_board.specs.Points.{IsOn, number_of}
 use Rattle.go_board.specs.Reaching.{has_colour, is_same}
-use Rattle.go_game.specs.Standings.{Seen, Standing, IsLegal, IsOccupied, IsOffBoard, Repeats, board_of, seen_after, stood_of}
+use Rattle.go_game.specs.Standings.{Seen, Standing, IsLegal, IsOccupied, IsOffBoard, IsRepeat, board_of, seen_after, stood_of}
 use Rattle.go_game.specs.Legal.{same_colours, same_seen, has_stood, is_open, is_repeat, is_legal}
 
 pub same_is : (a b : Option Colour) → is_same a b ≡ true → a ≡ b
@@ -111,7 +111,7 @@ occupied_fails s c (At p) h = held_at (none_or_some (colour_at (board_of s) (num
     held_at (inl empty) = absurd (h.1 empty)
     held_at (inr held) = closed s c (At p) (ap (λ b. (nat_lt p.col s.lines && nat_lt p.row s.lines) && b) held.1 ∙ and_false (nat_lt p.col s.lines && nat_lt p.row s.lines))
 
-pub repeat_fails : (s : Standing) (c : Colour) (v : Vertex) (k : ℕ) → Repeats s c v k → is_legal s c v ≡ false
+pub repeat_fails : (s : Standing) (c : Colour) (v : Vertex) (k : ℕ) → IsRepeat s c v k → is_legal s c v ≡ false
 repeat_fails s c Pass k h = absurd h
 repeat_fails s c (At p) k h =
     ap (λ b. is_open s (At p) && not b) (any_at (seen_after s c (number_of s.lines p)) (stood_of s) k h.0 h.1) ∙ and_false (is_open s (At p))

@@ -5,7 +5,7 @@ use Rattle.std.proofs.lemmas.Int.{ints}
 use lib.IntN.{◌*ℤ◌}
 use mir.Syntax.{w64}
 use mir.Val.{of_z, to_z}
-use Rattle.go_game.specs.Standings.{IsKomi}
+use Rattle.go_board.specs.Komi.{IsKomi}
 
 pub margin_is : (b w : ℕ) (k rb rw : ℤ) → b < 65536 → w < 65536 → IsKomi k → rb ≡ pos b → rw ≡ pos w
     → to_z w64 (of_z w64 (to_z w64 (of_z w64 (to_z w64 (of_z w64 (to_z w64 (of_z w64 rb) *ℤ pos 100)) -ℤ to_z w64 (of_z w64 (to_z w64 (of_z w64 rw) *ℤ pos 100)))) -ℤ to_z w64 (of_z w64 k)))

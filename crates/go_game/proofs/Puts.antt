@@ -28,7 +28,7 @@ use Rattle.go_game.specs.inner.Held.{IsKeeping, IsPlayed, made_of, standing_of}
 use Rattle.go_game.specs.inner.Histories.{IsKeyOf}
 use Rattle.go_game.specs.Playing.{taken_by}
 use Rattle.go_game.specs.Prisoners.{share_of}
-use Rattle.go_game.specs.Standings.{IsLegal, Repeats, board, mover_by, seen_after, stood_of}
+use Rattle.go_game.specs.Standings.{IsLegal, IsRepeat, board, mover_by, seen_after, stood_of}
 use Rattle.go_game.proofs.Played.{length-moved}
 use Rattle.go_game.proofs.Keeping.{seen_as}
 use Rattle.go_game.proofs.Remembered.{history_found, history_lacks}
@@ -81,7 +81,7 @@ module _ (rule : Superko) (start : GridValue) (komi : ℤ) (first : Colour) (ste
             k.told key_is (length-moved start.lines now c (number_of start.lines p)) lacked,
       )
 
-      pub repeats_put : (j : ℕ) → number_at history key ≡ Some j → Repeats (standing_of rule start komi first steps) c (At p) j
+      pub repeats_put : (j : ℕ) → number_at history key ≡ Some j → IsRepeat (standing_of rule start komi first steps) c (At p) j
       repeats_put j known =
           history_found (start.lines * start.lines) history (stood_of (standing_of rule start komi first steps)) key (seen_after (standing_of rule start komi first steps) c (number_of start.lines p)) j
           k.told key_is (length-moved start.lines now c (number_of start.lines p)) known

@@ -11,7 +11,7 @@ use Rattle.go_board.specs.declared.point.Point.{Point}
 use Rattle.go_board.specs.Colours.{Colouring, colour_at}
 use Rattle.go_board.specs.Points.{number_of}
 use Rattle.go_board.specs.Reaching.{is_dead, is_same, reaches}
-use Rattle.go_game.specs.Handicaps.{is_listed, stones_on}
+use Rattle.go_game.specs.Handicaps.{is_listed, stones_on_board}
 
 -- the colouring with a black stone on each of these points
 abbrev pub with_black : ℕ → Colouring → List Point → Colouring
@@ -133,8 +133,8 @@ none_at (suc m) zero = refl
 none_at (suc m) (suc k) = none_at m k
 
 -- the stones that were laid are those that are listed
-pub laid_is : (n : ℕ) (listed : List Point) → laid n listed ≡ stones_on n listed
-unfolding stones_on
+pub laid_is : (n : ℕ) (listed : List Point) → laid n listed ≡ stones_on_board n listed
+unfolding stones_on_board
 laid_is n listed =
     let empty = empty_length (n * n) in
     fill_by_all (λ k. if is_listed n listed k then Some Black else None) (laid n listed) (n * n) None (with_black-length n (replicate (n * n) None) listed ∙ empty)

@@ -11,8 +11,8 @@ use Rattle.go_board.specs.Reaching.{points}
 abbrev pub greatest : ℕ → ℕ
 greatest n = if nat_lt n 7 then 0 else (if n == 7 || n % 2 == 0 then 4 else 9)
 
-abbrev pub point_in : ℕ → ℕ → Point
-point_in col row = record { col = col; row = row }
+abbrev pub crossing : ℕ → ℕ → Point
+crossing col row = record { col = col; row = row }
 
 -- the third line below 13 lines, else the fourth, counted from 0; the line opposite; the middle
 abbrev pub near : ℕ → ℕ
@@ -26,18 +26,18 @@ middle n = n / 2
 
 -- lower left, upper right, upper left, lower right
 abbrev pub corners : ℕ → List Point
-corners n = point_in (near n) (near n) ∷ point_in (far n) (far n) ∷ point_in (near n) (far n) ∷ point_in (far n) (near n) ∷ []
+corners n = crossing (near n) (near n) ∷ crossing (far n) (far n) ∷ crossing (near n) (far n) ∷ crossing (far n) (near n) ∷ []
 
 -- left and right
 abbrev pub sides : ℕ → List Point
-sides n = point_in (near n) (middle n) ∷ point_in (far n) (middle n) ∷ []
+sides n = crossing (near n) (middle n) ∷ crossing (far n) (middle n) ∷ []
 
 -- bottom and top
 abbrev pub ends : ℕ → List Point
-ends n = point_in (middle n) (near n) ∷ point_in (middle n) (far n) ∷ []
+ends n = crossing (middle n) (near n) ∷ crossing (middle n) (far n) ∷ []
 
 abbrev pub centre : ℕ → List Point
-centre n = point_in (middle n) (middle n) ∷ []
+centre n = crossing (middle n) (middle n) ∷ []
 
 abbrev pub where_wanted : Bool → List Point → List Point
 where_wanted wanted points = if wanted then points else []
@@ -58,5 +58,5 @@ abbrev pub is_listed : ℕ → List Point → ℕ → Bool
 is_listed n listed k = list_any (λ p. number_of n p == k) listed
 
 -- a board of n lines with a black stone on each listed point, and no other stone
-unfoldable pub stones_on : ℕ → List Point → Colouring
-stones_on n listed = map (λ k. if is_listed n listed k then Some Black else None) (points n)
+unfoldable pub stones_on_board : ℕ → List Point → Colouring
+stones_on_board n listed = map (λ k. if is_listed n listed k then Some Black else None) (points n)

@@ -1,6 +1,5 @@
 -- What a game stands for: its start and its moves.
-use Rattle.std.specs.Prelude.{◌≡◌, ◌≢◌, ◌<◌, ◌≤◌, ◌-◌, ◌*◌, ◌++◌, ◌&&◌, ◌==◌, ℕ, ℤ, Bool, not, is_some, pos, negsuc, List, [], ◌∷◌, Option, Some, None, IsTrue, Contains, length, map, replicate, slice_index_or, take}
-use Rattle.std.specs.Prelude.{◌≤ℤ◌}
+use Rattle.std.specs.Prelude.{◌≡◌, ◌≢◌, ◌<◌, ◌≤◌, ◌-◌, ◌*◌, ◌++◌, ◌&&◌, ◌==◌, ℕ, ℤ, Bool, not, is_some, pos, List, [], ◌∷◌, Option, Some, None, IsTrue, Contains, length, map, replicate, slice_index_or, take}
 use Rattle.std.specs.List.{list_any}
 use Rattle.go_board.specs.declared.colour.Colour.{Colour}
 use Rattle.go_board.specs.declared.colour.Colour.TheVariants.{Black}
@@ -10,6 +9,7 @@ use Rattle.go_board.specs.declared.vertex.Vertex.{Vertex}
 use Rattle.go_board.specs.declared.vertex.Vertex.TheVariants.{Pass, At}
 use Rattle.go_board.specs.Colours.{Colouring, colour_at, other}
 use Rattle.go_board.specs.Grids.{GridValue}
+use Rattle.go_board.specs.Komi.{IsKomi}
 use Rattle.go_board.specs.Points.{IsOn, number_of}
 use Rattle.go_board.specs.Reaching.{moved, reaches}
 use Rattle.go_chains.specs.declared.change.Change.{Change}
@@ -79,13 +79,13 @@ without_last k s = record s { moves = take (length s.moves - k) s.moves }
 abbrev pub first_moves : Standing → ℕ → Standing
 first_moves s k = record s { moves = take k s.moves }
 
--- no move stands on an empty board, and Black is to move
-abbrev pub IsEmptyStart : Standing → ℕ → ℤ → Superko → Type 0
-IsEmptyStart s n komi rule = s ≡ record { lines = n; komi = komi; rule = rule; start = replicate (n * n) None; first = Black; moves = [] }
+-- an empty board of n lines without a move, Black to move
+abbrev pub empty_start : ℕ → ℤ → Superko → Standing
+empty_start n komi rule = record { lines = n; komi = komi; rule = rule; start = replicate (n * n) None; first = Black; moves = [] }
 
 -- neither a stone nor a move stands
-abbrev pub is_vacant : Standing → Bool
-is_vacant s = not (list_any is_some s.start) && length s.moves == 0
+abbrev pub is_vacant_standing : Standing → Bool
+is_vacant_standing s = not (list_any is_some s.start) && length s.moves == 0
 
 -- no move stands over the colours of this grid, and the rule is the positional one
 abbrev pub started : GridValue → Colour → Standing
@@ -148,19 +148,15 @@ abbrev pub IsFirstAt : List Seen → Seen → ℕ → Type 0
 IsFirstAt xs x k = (k < length xs) × (slice_index_or xs k ([], None) ≡ x) × ((j : ℕ) → j < k → slice_index_or xs j ([], None) ≢ x)
 
 -- the play would repeat what the rule saw first after k moves
-abbrev pub Repeats : Standing → Colour → Vertex → ℕ → Type 0
-Repeats s c Pass k = ⊥
-Repeats s c (At p) k = IsFirstAt (stood_of s) (seen_after s c (number_of s.lines p)) k
+abbrev pub IsRepeat : Standing → Colour → Vertex → ℕ → Type 0
+IsRepeat s c Pass k = ⊥
+IsRepeat s c (At p) k = IsFirstAt (stood_of s) (seen_after s c (number_of s.lines p)) k
 
 -- a pass, or a play on an empty point of the board that leaves what the rule didn't see yet
 abbrev pub IsLegal : Standing → Colour → Vertex → Type 0
 IsLegal s c Pass = Unit {0}
 IsLegal s c (At p) = IsOn s.lines p × (colour_at (board_of s) (number_of s.lines p) ≡ None)
     × (Contains (stood_of s) (seen_after s c (number_of s.lines p)) → ⊥)
-
--- a komi in hundredths of a point: at most 999,999,999.99 either way
-abbrev pub IsKomi : ℤ → Type 0
-IsKomi komi = (negsuc 99999999998 ≤ℤ komi) × (komi ≤ℤ pos 99999999999)
 
 -- a standing that play can come to
 pub record IsSound (s : Standing) : Type 0 where

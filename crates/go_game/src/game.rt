@@ -11,9 +11,6 @@ use go_history::History;
 use std::alloc::Allocator;
 use std::marker::Model;
 
-/// The greatest size of a komi, in hundredths of a point.
-pub const MAX_KOMI: i64 = 99_999_999_999;
-
 /// A game: its start, the komi, the superko rule, and the moves played since. It takes memory as
 /// moves are played, from the allocator that it was made with.
 #[derive(Drop)]
@@ -70,14 +67,14 @@ impl<A: Allocator + Copy> Game<A> {
     ghost use Rattle.go_game.specs.Choices.{liberties_at};
     ghost use Rattle.go_game.specs.inner.Held.{IsPlayed};
     ghost use Rattle.go_game.specs.Prisoners.{share_of};
-    ghost use Rattle.go_game.specs.Standings.{IsEmptyStart, IsFirstAt, IsKomi, IsLegal, IsOccupied, IsOffBoard, IsSound, Repeats, board_of, present, is_vacant as is_vacant_in, mover_of, positions_of, started, with_move, without_last};
+    ghost use Rattle.go_board.specs.Komi.{IsKomi};
+    ghost use Rattle.go_game.specs.Standings.{IsFirstAt, IsLegal, IsOccupied, IsOffBoard, IsSound, IsRepeat, board_of, empty_start, present, is_vacant_standing, mover_of, positions_of, started, with_move, without_last};
     ghost use Rattle.go_game.specs.Scores.{area_of, margin_of};
     ghost use Rattle.go_game.specs.Playing.{prisoners_of, stones_taken};
 
     /// An empty board, Black to move, komi 0, positional superko.
     pub fn new(alloc: A, size: Size) -> Game<A>
-        ensures start { IsEmptyStart result.standing size (pos 0)
-            Superko.Positional }
+        ensures start { result.standing ≡ empty_start size (pos 0) Superko.Positional }
         ensures trace { result.trace ≡ [] }
         ensures count { result.count ≡ 0 }
     {
@@ -181,14 +178,14 @@ impl<A: Allocator + Copy> Game<A> {
 
     /// Whether neither a stone nor a move stands.
     pub fn is_vacant(&self) -> bool
-        ensures { result ≡ is_vacant_in self.now.standing }
+        ensures { result ≡ is_vacant_standing self.now.standing }
     {
         self.move_count() == 0 && self.start.is_vacant()
     }
 
     /// Back to the empty board, Black to move. The komi and the superko rule stay.
     pub fn clear(&mut self)
-        ensures start { IsEmptyStart self.new.standing self.old.standing.lines
+        ensures start { self.new.standing ≡ empty_start self.old.standing.lines
             self.old.standing.komi self.old.standing.rule }
         ensures writes { length self.new.trace ≡ length self.old.trace
             + self.old.standing.lines * self.old.standing.lines }
@@ -199,7 +196,7 @@ impl<A: Allocator + Copy> Game<A> {
 
     /// An empty board of this size, Black to move. The komi and the superko rule stay.
     pub fn resize(&mut self, size: Size)
-        ensures start { IsEmptyStart self.new.standing size self.old.standing.komi
+        ensures start { self.new.standing ≡ empty_start size self.old.standing.komi
             self.old.standing.rule }
         ensures writes { length self.new.trace
             ≡ length self.old.trace + size * size }

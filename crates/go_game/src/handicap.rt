@@ -2,7 +2,7 @@ ghost use Rattle.std.specs.Prelude.{◌≡◌, ◌≤◌, ◌<◌, ◌+◌, ◌*
 ghost use Rattle.go_board.specs.declared.size.TheConstants.{MAX_LINES};
 ghost use Rattle.go_board.specs.Points.{IsOn};
 ghost use Rattle.go_board.specs.Reaching.{is_dead};
-ghost use Rattle.go_game.specs.Handicaps.{fixed, greatest, handicap_points, near, point_in, stones_on as stones_on_board, where_wanted};
+ghost use Rattle.go_game.specs.Handicaps.{fixed, greatest, handicap_points, near, crossing, stones_on_board, where_wanted};
 
 use arrayvec::ArrayVec;
 use go_board::laws::one_colour_lives;
@@ -80,7 +80,7 @@ fn near_line(lines: u8) -> u8
 }
 
 fn at(col: u8, row: u8) -> Point
-    ensures { result ≡ point_in col row }
+    ensures { result ≡ crossing col row }
 {
     Point { col, row }
 }

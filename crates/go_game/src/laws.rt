@@ -1,14 +1,7 @@
 //! Laws about what a game stands for, each the contract of a function that does nothing.
-ghost use Rattle.std.specs.Prelude.{◌≡◌, pos};
-ghost use Rattle.go_game.specs.declared.game.TheConstants.{MAX_KOMI};
 ghost use Rattle.go_game.specs.Laws.{CellsRestored, ChoiceByTheRule, ChoiceIsLegal, LegalByTheRules, MovesTakenBack, PositionalByPositions, SituationalBySituations, WholeStateRestored};
 
 use go_board::laws::points_by_number;
-
-/// The greatest size of a komi is 999,999,999.99 points.
-pub fn limits()
-    ensures komi { MAX_KOMI ≡ pos 99999999999 }
-{}
 
 /// Any moves, then as many taken back, leave the standing as it was.
 pub fn moves_taken_back()

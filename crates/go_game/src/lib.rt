@@ -37,7 +37,7 @@ mod step;
 mod superko;
 
 pub use errors::{PlayError, SetupError};
-pub use game::{Game, MAX_KOMI};
+pub use game::Game;
 pub use go_chains::ChainPoints;
 pub use handicap::{fixed_points, greatest_handicap, stones_on};
 pub use score::{hundredths_text, score_text};

@@ -4,7 +4,7 @@ ghost use Rattle.go_board.specs.Points.{IsOn};
 ghost use Rattle.go_game.specs.Counts.{IsAsBefore, IsLogged, IsTakenBack, most_for};
 ghost use Rattle.go_history.specs.Histories.{IsChangedAt, IsUnchanged, number_at};
 ghost use Rattle.go_game.specs.Prisoners.{share_of};
-ghost use Rattle.go_game.specs.Standings.{IsLegal, IsOccupied, IsOffBoard, Repeats, with_move, without_last};
+ghost use Rattle.go_game.specs.Standings.{IsLegal, IsOccupied, IsOffBoard, IsRepeat, with_move, without_last};
 ghost use Rattle.go_game.specs.Playing.{stones_taken};
 
 use crate::step::Step;
@@ -25,7 +25,7 @@ impl<A: Allocator + Copy> Game<A> {
         ensures occupied { (result ≡ Err PlayError.Occupied)
             ↔ IsOccupied self.old.standing made.vertex }
         ensures repeats { (k : ℕ) → result ≡ Err (PlayError.Repeats k)
-            → Repeats self.old.standing made.colour made.vertex k }
+            → IsRepeat self.old.standing made.colour made.vertex k }
         ensures legal { OnOk result (IsLegal self.old.standing made.colour made.vertex) }
         ensures played { OnOk result (self.new.standing ≡ with_move self.old.standing made) }
         ensures taken { IfOk result (λ taken. (of : Colour) → share_of made.colour taken of
@@ -89,7 +89,7 @@ impl<A: Allocator + Copy> Game<A> {
         ensures occupied { (result ≡ Err PlayError.Occupied)
             ↔ IsOccupied self.old.standing (Vertex.At p) }
         ensures repeats { (k : ℕ) → result ≡ Err (PlayError.Repeats k)
-            → Repeats self.old.standing colour (Vertex.At p) k }
+            → IsRepeat self.old.standing colour (Vertex.At p) k }
         ensures legal { OnOk result (IsLegal self.old.standing colour (Vertex.At p)) }
         ensures played { OnOk result (self.new.standing
             ≡ with_move self.old.standing (record { colour = colour; vertex = Vertex.At p })) }

@@ -8,7 +8,7 @@ ghost use Rattle.go_board.specs.declared.point.Point.{Point};
 ghost use Rattle.go_board.specs.declared.size.TheConstants.{MAX_LINES};
 ghost use Rattle.go_chains.specs.Sound.{IsKept, grid_of};
 ghost use Rattle.go_game.specs.inner.Building.{IsFront};
-ghost use Rattle.go_game.specs.Standings.{IsEmptyStart, started};
+ghost use Rattle.go_game.specs.Standings.{empty_start, started};
 
 use crate::{Game, SetupError, Superko};
 use go_board::laws::{packs_tell_colourings_apart, points_by_number, reaches_by_a_path};
@@ -42,7 +42,7 @@ impl<A: Allocator + Copy> Game<A> {
         ensures no_liberty { (p : Point) → result ≡ Err (SetupError.NoLiberty p)
             → IsFirstDead grid.now.lines grid.now.colours p × (self.new ≡ self.old) }
         ensures memory { IsErrOf result SetupError.Memory
-            → IsEmptyStart self.new.standing grid.now.lines self.old.standing.komi
+            → self.new.standing ≡ empty_start grid.now.lines self.old.standing.komi
             self.old.standing.rule }
         ensures alive { OnOk result (AreAlive grid.now.lines grid.now.colours) }
     {

@@ -14,14 +14,14 @@ use Rattle.go_board.specs.Reaching.{is_dead}
 use Rattle.go_game.specs.declared.errors.PlayError.{PlayError}
 use Rattle.go_game.specs.declared.errors.PlayError.TheVariants as play
 use Rattle.go_game.specs.Standings.{IsFirstAt, IsLegal, Seen, Standing, board_of, seen_after, stood_of, with_move}
-use Rattle.go_sgf.specs.BoardValues.{point_of, points_of}
+use Rattle.go_sgf.specs.BoardValues.{vertex_in, points_of}
 use Rattle.go_sgf.specs.Record.{Trees}
 use Rattle.go_record.specs.declared.error.RecordError.{RecordError}
 use Rattle.go_record.specs.declared.error.RecordError.TheVariants.{BadKomi, BadSize, BadValue, DeadSetup, Illegal, NotGo, SetupAfterMove}
-use Rattle.go_record.specs.Games.{IsGameOf, Needs, OrElse, is_go, komi_in, lines_in, root_value}
+use Rattle.go_record.specs.Games.{IsGameOf, Needs, OrElse, is_go_value, komi_in, lines_in, value_at_root}
 use Rattle.go_record.specs.Laws.{OneOutcome}
-use Rattle.go_record.specs.MainLine.{Event, stones, turn, move, events_from, looked_at, main_line}
-use Rattle.go_record.specs.Walks.{Begins, IsReason, IsRefused, OrBad, Outcome, Plays, SetsUp, colour_of, start_of, with_points}
+use Rattle.go_record.specs.MainLine.{Event, stones, turn, move_met, events_from, looked_at, main_line}
+use Rattle.go_record.specs.Walks.{Begins, IsReason, IsRefused, OrBad, Outcome, Plays, SetsUp, colour_stated, start_of, with_points}
 use Rattle.go_record.proofs.Painting.{back_at, on_at}
 use Rattle.go_record.proofs.Unique.{one_game}
 
@@ -134,8 +134,8 @@ unfolding Plays
 some_play [] s = (Ok s, refl)
 some_play (stones node c values ∷ events) s = (Err (SetupAfterMove node), refl)
 some_play (turn node value ∷ events) s = some_play events s
-some_play (move node c value ∷ events) s =
-    some_or_bad node (point_of s.lines value) (λ r v. (IsLegal s c v × Plays (with_move s (record { colour = c; vertex = v })) events r) ⊎ IsRefused s c v r)
+some_play (move_met node c value ∷ events) s =
+    some_or_bad node (vertex_in s.lines value) (λ r v. (IsLegal s c v × Plays (with_move s (record { colour = c; vertex = v })) events r) ⊎ IsRefused s c v r)
     (λ v. some_move s c v (Plays (with_move s (record { colour = c; vertex = v })) events) (decide s c v) (some_play events (with_move s (record { colour = c; vertex = v }))))
 
 dead_or_not : (b : Bool) → (b ≡ true) ⊎ (b ≡ true → ⊥)
@@ -171,17 +171,17 @@ some_setup [] n komi g given = some_begin n komi g given []
 some_setup (stones node c values ∷ events) n komi g given =
     some_or_bad node (points_of n values) (λ r ps. SetsUp n komi (with_points n c g ps) given events r) (λ ps. some_setup events n komi (with_points n c g ps) given)
 some_setup (turn node value ∷ events) n komi g given =
-    some_or_bad node (colour_of value) (λ r c. SetsUp n komi g (Some c) events r) (λ c. some_setup events n komi g (Some c))
-some_setup (move node c value ∷ events) n komi g given = some_begin n komi g given (move node c value ∷ events)
+    some_or_bad node (colour_stated value) (λ r c. SetsUp n komi g (Some c) events r) (λ c. some_setup events n komi g (Some c))
+some_setup (move_met node c value ∷ events) n komi g given = some_begin n komi g given (move_met node c value ∷ events)
 
 pub some_game : (c : Trees) (number : Option ℕ) → (outcome : Outcome) × IsGameOf c number outcome
 unfolding IsGameOf
 some_game c number =
     let Line : ℕ → ℤ → Outcome → Type 0 = λ n komi r. SetsUp n komi (replicate (n * n) None) None (looked_at number (events_from 0 (main_line c))) r in
-    let Sized : Outcome → ℕ → Type 0 = λ r n. OrElse BadKomi (komi_in (root_value (codes "KM") c)) r (λ komi. Line n komi r) in
-    some_needs NotGo (is_go (root_value (codes "GM") c)) (λ r. OrElse BadSize (lines_in (root_value (codes "SZ") c)) r (Sized r))
-    (some_or_else BadSize (lines_in (root_value (codes "SZ") c)) Sized (λ n.
-    some_or_else BadKomi (komi_in (root_value (codes "KM") c)) (λ r komi. Line n komi r) (λ komi.
+    let Sized : Outcome → ℕ → Type 0 = λ r n. OrElse BadKomi (komi_in (value_at_root (codes "KM") c)) r (λ komi. Line n komi r) in
+    some_needs NotGo (is_go_value (value_at_root (codes "GM") c)) (λ r. OrElse BadSize (lines_in (value_at_root (codes "SZ") c)) r (Sized r))
+    (some_or_else BadSize (lines_in (value_at_root (codes "SZ") c)) Sized (λ n.
+    some_or_else BadKomi (komi_in (value_at_root (codes "KM") c)) (λ r komi. Line n komi r) (λ komi.
     some_setup (looked_at number (events_from 0 (main_line c))) n komi (replicate (n * n) None) None)))
 
 -- and to one alone

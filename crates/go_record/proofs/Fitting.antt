@@ -12,10 +12,10 @@ use Rattle.go_board.specs.Points.{point_at}
 use Rattle.go_game.specs.Scores.{hundredths_word}
 use Rattle.go_game.specs.Standings.{IsSound, Standing}
 use Rattle.go_sgf.specs.Laws.{CanonicalSpellsPlain, OneRecord}
-use Rattle.go_sgf.specs.Record.{Property, Trees, none, tree, IsFit, IsName, IsProperty, IsValue, is_upper, plain, plain_property}
+use Rattle.go_sgf.specs.Record.{Property, Trees, none, tree, IsFit, IsName, IsProperty, IsValue, is_upper_byte, plain, plain_property}
 use Rattle.go_sgf.specs.Spelling.{Spells}
 use Rattle.go_record.specs.Laws.{Records}
-use Rattle.go_record.specs.Records.{alone, colour_letter, move_node, point_value, points_coloured, property, record_of, start_node, stones_property, tree_of, vertex_value}
+use Rattle.go_record.specs.Records.{alone, colour_letter, move_node, point_value, points_coloured, property, record_of, start_node, stones_property, game_tree, vertex_value}
 use Rattle.std.proofs.lemmas.List.{map-append}
 use Rattle.go_record.proofs.Recorded.{replays}
 use Rattle.go_record.proofs.Spelled.{IsDigit, IsLow, all_weaker, decimal_is, komi_low, low_inside}
@@ -63,7 +63,7 @@ moves_fit : (n : ℕ) (moves : List Move) → AllByRecursion (AllByRecursion IsP
 moves_fit n [] = tt
 moves_fit n (m ∷ moves) = ((alone_fit (colour_letter m.colour) (vertex_value n m.vertex) (letter_named m.colour) (vertex_inside n m.vertex), tt), moves_fit n moves)
 
-pub tree_fit : (s : Standing) → IsSound s → IsFit (tree_of s)
+pub tree_fit : (s : Standing) → IsSound s → IsFit (game_tree s)
 tree_fit s sound =
     let lines : IsValue (decimal s.lines) =
     low_inside (decimal s.lines) (all_weaker {P = IsDigit} {Q = IsFree} (λ c h. low_free c (omega (arith, h.0), h.1)) (decimal s.lines) (decimal_is s.lines (omega (arith, sound.size.1))).digits) in
@@ -88,7 +88,7 @@ tree_fit s sound =
 
 -- ---- plain names
 
-stones_plain : (name : List ℕ) (n : ℕ) → filter is_upper name ≡ name → (ks : List ℕ) → map plain_property (stones_property name n ks) ≡ stones_property name n ks
+stones_plain : (name : List ℕ) (n : ℕ) → filter is_upper_byte name ≡ name → (ks : List ℕ) → map plain_property (stones_property name n ks) ≡ stones_property name n ks
 stones_plain name n e [] = refl
 stones_plain name n e (k ∷ ks) = ap (λ (x : List ℕ). property x (map (λ j. point_value n (point_at n j)) (k ∷ ks)) ∷ []) e
 
@@ -103,7 +103,7 @@ moves_plain : (n : ℕ) (moves : List Move) → map (map plain_property) (map (m
 moves_plain n [] = refl
 moves_plain n (m ∷ moves) = ap₂ (λ x xs. x ∷ xs) (move_plain n m.colour m.vertex) (moves_plain n moves)
 
-tree_plain : (s : Standing) → plain (tree_of s) ≡ tree_of s
+tree_plain : (s : Standing) → plain (game_tree s) ≡ game_tree s
 tree_plain s =
     let ab = stones_property (codes "AB") s.lines (points_coloured s.lines s.start Black) in
     let aw = stones_property (codes "AW") s.lines (points_coloured s.lines s.start White) in
@@ -115,10 +115,10 @@ tree_plain s =
 pub records : CanonicalSpellsPlain → OneRecord → (s : Standing) → IsSound s → Records s
 records spells one s sound =
     let fit = tree_fit s sound in
-    let spelled : Spells (record_of s) (tree_of s) = subst (λ (c : Trees). Spells (record_of s) c) (tree_plain s) (spells (tree_of s) fit).0 in
+    let spelled : Spells (record_of s) (game_tree s) = subst (λ (c : Trees). Spells (record_of s) c) (tree_plain s) (spells (game_tree s) fit).0 in
     record {
       fit = fit;
       spelled = spelled;
-      alone = λ c h. one (record_of s) c (tree_of s) h spelled;
+      alone = λ c h. one (record_of s) c (game_tree s) h spelled;
       game = replays s sound;
     }

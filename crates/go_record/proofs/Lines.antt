@@ -9,7 +9,7 @@ use Rattle.go_board.specs.Colours.{Colouring}
 use Rattle.go_sgf.specs.Record.{Property, Trees}
 use Rattle.go_record.specs.declared.error.RecordError.TheVariants.{BadKomi, BadSize, NotGo}
 use Rattle.go_record.specs.declared.state.Left.{Left}
-use Rattle.go_record.specs.Games.{IsGameOf, is_go, komi_in, lines_in, root_value}
+use Rattle.go_record.specs.Games.{IsGameOf, is_go_value, komi_in, lines_in, value_at_root}
 use Rattle.go_record.specs.MainLine.{Event, events_from, events_of, looked_at, main_line}
 use Rattle.go_record.specs.inner.Progress.{Says, left_by, line_from, seen}
 use Rattle.go_record.specs.Walks.{Outcome, SetsUp}
@@ -34,21 +34,21 @@ seen_by None events = refl
 seen_by (Some n) events = refl
 
 module _ (c : Trees) (number : Option ℕ) where
-  pub not_go : is_go (root_value (codes "GM") c) ≡ false → IsGameOf c number (Err NotGo)
+  pub not_go : is_go_value (value_at_root (codes "GM") c) ≡ false → IsGameOf c number (Err NotGo)
   unfolding IsGameOf
   not_go e = rw e refl
 
-  pub bad_size : is_go (root_value (codes "GM") c) ≡ true → lines_in (root_value (codes "SZ") c) ≡ None → IsGameOf c number (Err BadSize)
+  pub bad_size : is_go_value (value_at_root (codes "GM") c) ≡ true → lines_in (value_at_root (codes "SZ") c) ≡ None → IsGameOf c number (Err BadSize)
   unfolding IsGameOf
   bad_size e f = rw (e, f) refl
 
-  pub bad_komi : (n : ℕ) → is_go (root_value (codes "GM") c) ≡ true → lines_in (root_value (codes "SZ") c) ≡ Some n → komi_in (root_value (codes "KM") c) ≡ None →
+  pub bad_komi : (n : ℕ) → is_go_value (value_at_root (codes "GM") c) ≡ true → lines_in (value_at_root (codes "SZ") c) ≡ Some n → komi_in (value_at_root (codes "KM") c) ≡ None →
       IsGameOf c number (Err BadKomi)
   unfolding IsGameOf
   bad_komi n e f h = rw (e, f, h) refl
 
-  pub game_walks : (n : ℕ) (komi : ℤ) (outcome : Outcome) → is_go (root_value (codes "GM") c) ≡ true → lines_in (root_value (codes "SZ") c) ≡ Some n →
-      komi_in (root_value (codes "KM") c) ≡ Some komi → SetsUp n komi (replicate (n * n) None) None (looked_at number (events_from 0 (main_line c))) outcome →
+  pub game_walks : (n : ℕ) (komi : ℤ) (outcome : Outcome) → is_go_value (value_at_root (codes "GM") c) ≡ true → lines_in (value_at_root (codes "SZ") c) ≡ Some n →
+      komi_in (value_at_root (codes "KM") c) ≡ Some komi → SetsUp n komi (replicate (n * n) None) None (looked_at number (events_from 0 (main_line c))) outcome →
       IsGameOf c number outcome
   unfolding IsGameOf
   game_walks n komi outcome e f h walk = rw (e, f, h) walk

@@ -16,7 +16,7 @@ use Rattle.go_board.specs.Colours.{Colouring, colour_at}
 use Rattle.go_board.specs.Points.{IsOn, number_of, point_at}
 use Rattle.go_board.specs.Reaching.{has_colour, is_same}
 use Rattle.go_board.specs.Vertices.{IsOnBoard}
-use Rattle.go_sgf.specs.BoardValues.{both, is_pass, names_line, point_in, point_of, points_alone, points_by, points_in, points_of, vertex_by}
+use Rattle.go_sgf.specs.BoardValues.{both, is_pass_word, names_line, point_in, vertex_in, points_alone, points_by, points_listed, points_of, vertex_by}
 use Rattle.go_record.specs.Records.{point_value, points_coloured, vertex_value}
 use Rattle.go_record.specs.Walks.{with_points}
 use Rattle.go_record.proofs.Spelled.{NoSpace, all_append, all_weaker, low_no_space, trimmed_same, unequal}
@@ -47,16 +47,16 @@ point_read n p small on =
     rw (line_named n p.col small on.0, line_named n (n - 1 - p.row) small (omega (arith, on.1)))
     (ap₂ (λ c r. let q : Option Point = Some (record { col = c; row = r }) in q) col row)
 
-pub vertex_read : (n : ℕ) (v : Vertex) → n ≤ MAX_LINES → IsOnBoard n v → point_of n (vertex_value n v) ≡ Some v
+pub vertex_read : (n : ℕ) (v : Vertex) → n ≤ MAX_LINES → IsOnBoard n v → vertex_in n (vertex_value n v) ≡ Some v
 vertex_read n Pass small on = refl
 vertex_read n (At p) small on =
-    ap (λ (w : List ℕ). vertex_by (point_in n w) (is_pass w)) (trimmed_same (point_value n p) (value_clean n p))
-    ∙ ap (λ (o : Option Point). vertex_by o (is_pass (point_value n p))) (point_read n p small on)
+    ap (λ (w : List ℕ). vertex_by (point_in n w) (is_pass_word w)) (trimmed_same (point_value n p) (value_clean n p))
+    ∙ ap (λ (o : Option Point). vertex_by o (is_pass_word (point_value n p))) (point_read n p small on)
 
 no_colon : (a b : ℕ) → position (λ c. c == 58) ((97 + a) ∷ (97 + b) ∷ []) ≡ None
 no_colon a b = rw (unequal (97 + a) 58 (λ e. omega (arith, e)), unequal (97 + b) 58 (λ e. omega (arith, e))) refl
 
-one_read : (n : ℕ) (p : Point) → n ≤ MAX_LINES → IsOn n p → points_in n (point_value n p) ≡ Some (p ∷ [])
+one_read : (n : ℕ) (p : Point) → n ≤ MAX_LINES → IsOn n p → points_listed n (point_value n p) ≡ Some (p ∷ [])
 one_read n p small on =
     ap (points_by n (point_value n p)) (no_colon p.col (n - 1 - p.row))
     ∙ ap (points_alone n) (trimmed_same (point_value n p) (value_clean n p))

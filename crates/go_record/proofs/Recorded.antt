@@ -18,13 +18,14 @@ use Rattle.go_board.specs.Points.{point_at}
 use Rattle.go_board.specs.Reaching.{has_colour, is_same, reaches}
 use Rattle.go_board.specs.Vertices.{IsOnBoard}
 use Rattle.go_game.specs.Scores.{hundredths_word}
-use Rattle.go_game.specs.Standings.{IsKomi, IsLegal, IsSound, Standing}
+use Rattle.go_board.specs.Komi.{IsKomi}
+use Rattle.go_game.specs.Standings.{IsLegal, IsSound, Standing}
 use Rattle.go_sgf.specs.Record.{Property}
 use Rattle.go_record.specs.Games.{IsGameOf, komi_in, lines_in}
-use Rattle.go_record.specs.MainLine.{Event, events_from, events_of, move, move_event, setup_event, stones}
-use Rattle.go_record.specs.Records.{colour_letter, move_node, point_value, points_coloured, stones_property, tree_of, vertex_value}
+use Rattle.go_record.specs.MainLine.{Event, events_from, events_of, move_met, move_event, setup_event, stones}
+use Rattle.go_record.specs.Records.{colour_letter, move_node, point_value, points_coloured, stones_property, game_tree, vertex_value}
 use Rattle.go_board.specs.Clearing.{AreAlive}
-use Rattle.go_record.specs.Walks.{Begins, Outcome, Plays, SetsUp, colour_of}
+use Rattle.go_record.specs.Walks.{Begins, Outcome, Plays, SetsUp, colour_stated}
 use Rattle.go_record.proofs.Lines.{game_walks}
 use Rattle.go_record.proofs.Painting.{all_below, points_read, set_by_numbers, set_numbers, start_back, vertex_read}
 use Rattle.go_record.proofs.Spelled.{IsDigit, IsLow, NoSpace, all_weaker, decimal_is, digits_no_space, komi_low, komi_read, low_clean, no_byte, not_blank, number_read, word_some}
@@ -44,7 +45,7 @@ legal_on s c Pass h = tt
 legal_on s c (At p) h = h.0
 
 -- the event of a move's node
-node_event : (j n : ℕ) (c : Colour) (v : Vertex) → events_of j (move_node n (record { colour = c; vertex = v })) ≡ move j c (vertex_value n v) ∷ []
+node_event : (j n : ℕ) (c : Colour) (v : Vertex) → events_of j (move_node n (record { colour = c; vertex = v })) ≡ move_met j c (vertex_value n v) ∷ []
 node_event j n Black v = refl
 node_event j n White v = refl
 
@@ -116,7 +117,7 @@ komi_back : (k : ℤ) → IsKomi k → komi_in (hundredths_word k) ≡ Some k
 komi_back k h =
     rw (not_blank (hundredths_word k) (word_some k h) (all_weaker {P = IsLow} {Q = NoSpace} low_clean (hundredths_word k) (komi_low k h))) (komi_read k h)
 
-letter_read : (c : Colour) → colour_of (colour_letter c) ≡ Some c
+letter_read : (c : Colour) → colour_stated (colour_letter c) ≡ Some c
 letter_read Black = refl
 letter_read White = refl
 
@@ -142,7 +143,7 @@ start_events s blacks whites =
 abbrev judged : Standing → Standing
 judged s = record s { rule = Positional }
 
-replays_judged : (t : Standing) → IsSound (judged t) → IsGameOf (tree_of (judged t)) None (Ok (judged t))
+replays_judged : (t : Standing) → IsSound (judged t) → IsGameOf (game_tree (judged t)) None (Ok (judged t))
 replays_judged t sound =
     let s = judged t in
     let n = s.lines in
@@ -161,11 +162,11 @@ replays_judged t sound =
     stones_set (codes "AB") n Black (λ values. refl) s.komi empty (Some s.first) blacks (flat_map (setup_event 0) (stones_property (codes "AW") n whites) ++ line) (Ok s) small
     (all_below (λ k. has_colour s.start k (Some Black)) (n * n))
     (stones_set (codes "AW") n White (λ values. refl) s.komi black (Some s.first) whites line (Ok s) small (all_below (λ k. has_colour s.start k (Some White)) (n * n)) set) in
-    game_walks (tree_of s) None n s.komi (Ok s) refl (lines_read n sound.size.0 small) (komi_back s.komi sound.komi)
+    game_walks (game_tree s) None n s.komi (Ok s) refl (lines_read n sound.size.0 small) (komi_back s.komi sound.komi)
     (sets_turn n s.komi empty None 0 (colour_letter s.first) s.first _ (Ok s) (letter_read s.first)
     (subst (λ (es : List Event). SetsUp n s.komi empty (Some s.first) es (Ok s)) (sym (start_events s blacks whites)) whole))
 
-pub replays : (s : Standing) → IsSound s → s.rule ≡ Positional → IsGameOf (tree_of s) None (Ok s)
+pub replays : (s : Standing) → IsSound s → s.rule ≡ Positional → IsGameOf (game_tree s) None (Ok s)
 replays s sound is =
     let same : judged s ≡ s = ap (λ (rule : Superko). let t : Standing = record s { rule = rule } in t) (sym is) in
-    subst (λ (t : Standing). IsGameOf (tree_of t) None (Ok t)) same (replays_judged s (subst IsSound (sym same) sound))
+    subst (λ (t : Standing). IsGameOf (game_tree t) None (Ok t)) same (replays_judged s (subst IsSound (sym same) sound))

@@ -12,7 +12,7 @@ use Rattle.go_board.specs.declared.colour.Colour.{Colour}
 use Rattle.go_board.specs.declared.point.Point.{Point}
 use Rattle.go_board.specs.Colours.{Colouring}
 use Rattle.go_board.specs.Points.{number_of}
-use Rattle.go_sgf.specs.BoardValues.{both, points_in, points_of}
+use Rattle.go_sgf.specs.BoardValues.{both, points_listed, points_of}
 use Rattle.go_record.specs.Walks.{with_points}
 
 pub with_points_append : (n : ℕ) (c : Option Colour) (g : Colouring) (ps qs : List Point) → with_points n c g (ps ++ qs) ≡ with_points n c (with_points n c g ps) qs
@@ -31,7 +31,7 @@ both_joined ps qs (Some rs) = ap Some (append_assoc ps qs rs)
 
 -- one value more
 pub set_more : (n : ℕ) (c : Option Colour) (g : Colouring) (values : List (List ℕ)) (value : List ℕ) (later : List (List ℕ)) (new newer : Colouring) (ps : List Point) →
-    SetSoFar n c g values (value ∷ later) new → Some ps ≡ points_in n value → newer ≡ with_points n c new ps → SetSoFar n c g values later newer
+    SetSoFar n c g values (value ∷ later) new → Some ps ≡ points_listed n value → newer ≡ with_points n c new ps → SetSoFar n c g values later newer
 set_more n c g values value later new newer ps h is more = record {
   set = h.set ++ ps;
   split =

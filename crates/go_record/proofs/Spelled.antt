@@ -2,8 +2,8 @@
 use Rattle.std.proofs.Common.{◌≡◌, ◌≢◌, ◌∙◌, ◌<◌, ◌≤◌, ◌*◌, ◌+◌, ◌-◌, ◌/◌, ◌%◌, ◌^◌, ◌++◌, ℕ, ℤ, Bool, true, false, true≢false, List, [], ◌∷◌, refl, sym, ap, ap₂, subst, inl, inr, arith, length, drop, reverse}
 use Rattle.std.specs.Prelude.{Option, Some, None, ◌==◌, nat_le, nat_lt, not, decimal, pos, negsuc, position, unwrap_or, option_map, ◌-ℤ◌}
 use Rattle.std.proofs.lemmas.Int.{ints}
-use Rattle.go_record.specs.Games.{is_blank}
-use Rattle.go_game.specs.Standings.{IsKomi}
+use Rattle.go_record.specs.Games.{is_blank_value}
+use Rattle.go_board.specs.Komi.{IsKomi}
 use Rattle.std.proofs.Math.Seq.{take-append_seam, drop-append_seam}
 use Rattle.std.specs.Char.{is_ascii_digit}
 use Rattle.std.specs.List.{list_all, prefix_len, AllByRecursion}
@@ -13,12 +13,11 @@ use Rattle.std.proofs.lemmas.Grind.{common_steps}
 use Rattle.std.proofs.lemmas.List.{append-nil, drop_all, length-append, take_all, reverse-append, reverse-reverse}
 use Rattle.std.proofs.lemmas.List.Sums.{fold-append}
 use Rattle.go_game.specs.Scores.{decimals_of, hundredths_word, size_text}
-use Rattle.go_board.specs.Decimals.{int_of, is_empty, value_of_digits}
-use Rattle.go_sgf.specs.Numbers.{behind_plus, decimals_in, hundredths_in, hundredths_of, komi_of, number_of, point_place, size_by, size_of_number, trimmed, whole_part, with_sign}
-use Rattle.go_sgf.specs.declared.hundredths.TheConstants.{MOST_HUNDREDTHS}
+use Rattle.go_board.specs.Decimals.{int_of, is_empty, digits_value}
+use Rattle.go_sgf.specs.Numbers.{behind_plus, decimals_in, hundredths_in, hundredths_by, komi_of, number_in, point_place, size_by, size_of_number, trimmed, whole_part, with_sign}
+use Rattle.go_board.specs.declared.decimals.TheConstants.{MAX_INT, MAX_KOMI}
 use Rattle.go_sgf.specs.Record.{is_inside}
-use Rattle.go_sgf.specs.Spelling.{after_space, is_space}
-use Rattle.go_board.specs.declared.decimals.TheConstants.{MAX_INT}
+use Rattle.go_sgf.specs.Spelling.{without_space, is_space}
 
 -- from `-` to `9`, and digits
 abbrev pub IsLow : ℕ → Type 0
@@ -52,23 +51,23 @@ low_no_space c h k =
     let e : nat_le c 13 ≡ false = grind (arith, common_steps, h) in
     rw (unequal c 32 k, le-leb 9 c (omega (arith, h)), e) refl
 
-no_space_after : (xs : List ℕ) → AllByRecursion NoSpace xs → after_space xs ≡ xs
+no_space_after : (xs : List ℕ) → AllByRecursion NoSpace xs → without_space xs ≡ xs
 no_space_after [] h = refl
 no_space_after (x ∷ xs) h = rw h.0 refl
 
 pub trimmed_same : (xs : List ℕ) → AllByRecursion NoSpace xs → trimmed xs ≡ xs
 trimmed_same xs h =
-    ap (λ ys. reverse (after_space (reverse ys))) (no_space_after xs h)
+    ap (λ ys. reverse (without_space (reverse ys))) (no_space_after xs h)
     ∙ ap reverse (no_space_after (reverse xs) (all_reverse NoSpace xs h)) ∙ reverse-reverse xs
 
 -- ---- decimal digits
 
 pub record IsDecimal (n : ℕ) (ds : List ℕ) : Type 0 where
   pub digits : AllByRecursion IsDigit ds
-  pub value : value_of_digits ds ≡ n
+  pub value : digits_value ds ≡ n
   pub some : is_empty ds ≡ false
 
-value_push : (ds : List ℕ) (d : ℕ) → value_of_digits (ds ++ d ∷ []) ≡ 10 * value_of_digits ds + (d - 48)
+value_push : (ds : List ℕ) (d : ℕ) → digits_value (ds ++ d ∷ []) ≡ 10 * digits_value ds + (d - 48)
 value_push ds d = fold-append (λ value c. 10 * value + (c - 48)) 0 ds (d ∷ [])
 
 some_push : (ds : List ℕ) (d : ℕ) → is_empty (ds ++ d ∷ []) ≡ false
@@ -107,7 +106,7 @@ behind_digits (d ∷ ds) h = rw (unequal d 43 (λ e. omega (arith, e, h.0.0))) r
 pub digits_no_space : (ds : List ℕ) → AllByRecursion IsDigit ds → AllByRecursion NoSpace ds
 digits_no_space ds h = all_weaker {P = IsDigit} {Q = NoSpace} (λ c k. low_no_space c (omega (arith, k.0)) (λ e. omega (arith, e, k.0))) ds h
 
-pub number_read : (n : ℕ) (ds : List ℕ) → IsDecimal n ds → n ≤ MAX_INT → number_of ds ≡ Some n
+pub number_read : (n : ℕ) (ds : List ℕ) → IsDecimal n ds → n ≤ MAX_INT → number_in ds ≡ Some n
 number_read n ds is few =
     ap (λ v. int_of (behind_plus v)) (trimmed_same ds (digits_no_space ds is.digits))
     ∙ ap int_of (behind_digits ds is.digits)
@@ -160,19 +159,19 @@ parts_point w d h =
     }
 
 size_read : (n q : ℕ) (w d t : List ℕ) → IsDecimal q w → HasParts t w d → list_all is_ascii_digit d ≡ true → list_all (λ c. c == 48) (drop 2 d) ≡ true →
-    hundredths_in w d ≡ n → n ≤ MOST_HUNDREDTHS → size_of_number t ≡ Some n
+    hundredths_in w d ≡ n → n ≤ MAX_KOMI → size_of_number t ≡ Some n
 size_read n q w d t is parts digits zeros value few =
     ap₂ size_by parts.whole parts.decimals
-    ∙ rw (digits_test w is.digits, digits, is.some, zeros, value, le-leb n MOST_HUNDREDTHS few) refl
+    ∙ rw (digits_test w is.digits, digits, is.some, zeros, value, le-leb n MAX_KOMI few) refl
 
-value_two : (w : List ℕ) (x y : ℕ) → value_of_digits (w ++ x ∷ y ∷ []) ≡ 10 * (10 * value_of_digits w + (x - 48)) + (y - 48)
+value_two : (w : List ℕ) (x y : ℕ) → digits_value (w ++ x ∷ y ∷ []) ≡ 10 * (10 * digits_value w + (x - 48)) + (y - 48)
 value_two w x y = fold-append (λ value c. 10 * value + (c - 48)) 0 w (x ∷ y ∷ [])
 
 equal_is : (a b : ℕ) → (a == b) ≡ true → a ≡ b
 equal_is a b e = grind (arith, common_steps, e)
 
 -- the decimals of so many hundredths, behind whole ones
-size_with : (n q r : ℕ) (w : List ℕ) → IsDecimal q w → 100 * q + r ≡ n → r < 100 → n ≤ MOST_HUNDREDTHS → size_of_number (w ++ decimals_of r) ≡ Some n
+size_with : (n q r : ℕ) (w : List ℕ) → IsDecimal q w → 100 * q + r ≡ n → r < 100 → n ≤ MAX_KOMI → size_of_number (w ++ decimals_of r) ≡ Some n
 size_with n q r w is sum low few = elim (cases_Bool (r == 0)) [
   | inl zero ↦
       let none : r ≡ 0 = equal_is r 0 zero in
@@ -196,7 +195,7 @@ size_with n q r w is sum low few = elim (cases_Bool (r == 0)) [
   ]
 ]
 
-size_back : (n : ℕ) → n ≤ MOST_HUNDREDTHS → size_of_number (size_text n) ≡ Some n
+size_back : (n : ℕ) → n ≤ MAX_KOMI → size_of_number (size_text n) ≡ Some n
 unfolding size_text
 size_back n few = size_with n (n / 100) (n % 100) (decimal (n / 100)) (decimal_is (n / 100) (omega (arith, few))) (omega arith) (omega arith) few
 
@@ -209,7 +208,7 @@ decimals_low r low = elim (cases_Bool (r == 0)) [
   ]
 ]
 
-size_low : (n : ℕ) → n ≤ MOST_HUNDREDTHS → AllByRecursion IsLow (size_text n)
+size_low : (n : ℕ) → n ≤ MAX_KOMI → AllByRecursion IsLow (size_text n)
 unfolding size_text
 size_low n few =
     all_append IsLow (decimal (n / 100)) (decimals_of (n % 100))
@@ -219,7 +218,7 @@ first_digit : (w back : List ℕ) → is_empty w ≡ false → AllByRecursion Is
 first_digit [] back e h = absurd (true≢false e)
 first_digit (d ∷ w) back e h = (d, w ++ back, refl, h.0)
 
-size_some : (n : ℕ) → n ≤ MOST_HUNDREDTHS → (d : ℕ) × (ds : List ℕ) × (size_text n ≡ d ∷ ds) × IsDigit d
+size_some : (n : ℕ) → n ≤ MAX_KOMI → (d : ℕ) × (ds : List ℕ) × (size_text n ≡ d ∷ ds) × IsDigit d
 unfolding size_text
 size_some n few =
     let is = decimal_is (n / 100) (omega (arith, few)) in
@@ -228,17 +227,17 @@ size_some n few =
 pub low_clean : (c : ℕ) → IsLow c → NoSpace c
 low_clean c h = low_no_space c (omega (arith, h.0)) (λ e. omega (arith, e, h.0))
 
-plain_read : (t : List ℕ) (d : ℕ) (ds : List ℕ) (n : ℕ) → t ≡ d ∷ ds → IsDigit d → AllByRecursion IsLow t → size_of_number t ≡ Some n → hundredths_of t ≡ Some (pos n)
+plain_read : (t : List ℕ) (d : ℕ) (ds : List ℕ) (n : ℕ) → t ≡ d ∷ ds → IsDigit d → AllByRecursion IsLow t → size_of_number t ≡ Some n → hundredths_by t ≡ Some (pos n)
 plain_read t d ds n e digit low size =
     let word : komi_of (d ∷ ds) ≡ option_map (with_sign false) (size_of_number (d ∷ ds)) =
     rw (unequal d 45 (λ x. omega (arith, x, digit.0)), unequal d 43 (λ x. omega (arith, x, digit.0))) refl in
     ap komi_of (trimmed_same t (all_weaker {P = IsLow} {Q = NoSpace} low_clean t low) ∙ e) ∙ word
     ∙ ap (option_map (with_sign false)) (ap size_of_number (sym e) ∙ size)
 
-pos_small : (n : ℕ) → IsKomi (pos n) → n ≤ MOST_HUNDREDTHS
+pos_small : (n : ℕ) → IsKomi (pos n) → n ≤ MAX_KOMI
 pos_small n h = omega (arith, ints, h.1)
 
-negsuc_small : (n : ℕ) → IsKomi (negsuc n) → n + 1 ≤ MOST_HUNDREDTHS
+negsuc_small : (n : ℕ) → IsKomi (negsuc n) → n + 1 ≤ MAX_KOMI
 negsuc_small n h = omega (arith, ints, h.0)
 
 below_zero : (n : ℕ) → pos 0 -ℤ pos (n + 1) ≡ negsuc n
@@ -248,7 +247,7 @@ pub komi_low : (k : ℤ) → IsKomi k → AllByRecursion IsLow (hundredths_word 
 komi_low (pos n) h = size_low n (pos_small n h)
 komi_low (negsuc n) h = ((omega arith, omega arith), size_low (n + 1) (negsuc_small n h))
 
-pub komi_read : (k : ℤ) → IsKomi k → hundredths_of (hundredths_word k) ≡ Some k
+pub komi_read : (k : ℤ) → IsKomi k → hundredths_by (hundredths_word k) ≡ Some k
 komi_read (pos n) h =
     let few = pos_small n h in
     let first = size_some n few in
@@ -266,7 +265,7 @@ word_some (negsuc n) h = refl
 
 -- ---- what is not blank, and has no such byte
 
-pub not_blank : (ds : List ℕ) → is_empty ds ≡ false → AllByRecursion NoSpace ds → is_blank ds ≡ false
+pub not_blank : (ds : List ℕ) → is_empty ds ≡ false → AllByRecursion NoSpace ds → is_blank_value ds ≡ false
 not_blank [] e h = absurd (true≢false e)
 not_blank (d ∷ ds) e h = rw h.0 refl
 

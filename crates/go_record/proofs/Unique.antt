@@ -15,13 +15,13 @@ use Rattle.go_board.specs.Points.{IsOn, number_of, point_at}
 use Rattle.go_game.specs.declared.errors.PlayError.{PlayError}
 use Rattle.go_game.specs.declared.errors.PlayError.TheVariants as play
 use Rattle.go_game.specs.Standings.{IsFirstAt, IsLegal, IsOccupied, IsOffBoard, Seen, Standing, with_move}
-use Rattle.go_sgf.specs.BoardValues.{point_of, points_of}
+use Rattle.go_sgf.specs.BoardValues.{vertex_in, points_of}
 use Rattle.go_sgf.specs.Record.{Trees}
 use Rattle.go_record.specs.declared.error.RecordError.{RecordError}
 use Rattle.go_record.specs.declared.error.RecordError.TheVariants.{BadKomi, BadSize, DeadSetup, Illegal, NotGo}
-use Rattle.go_record.specs.Games.{IsGameOf, Needs, OrElse, is_go, komi_in, lines_in, root_value}
-use Rattle.go_record.specs.MainLine.{Event, stones, turn, move, events_from, looked_at, main_line}
-use Rattle.go_record.specs.Walks.{Begins, IsReason, IsRefused, OrBad, Outcome, Plays, SetsUp, colour_of, start_of, with_points}
+use Rattle.go_record.specs.Games.{IsGameOf, Needs, OrElse, is_go_value, komi_in, lines_in, value_at_root}
+use Rattle.go_record.specs.MainLine.{Event, stones, turn, move_met, events_from, looked_at, main_line}
+use Rattle.go_record.specs.Walks.{Begins, IsReason, IsRefused, OrBad, Outcome, Plays, SetsUp, colour_stated, start_of, with_points}
 
 -- ---- points and their numbers
 
@@ -112,8 +112,8 @@ unfolding Plays
 one_play [] s a b h k = h ∙ sym k
 one_play (stones node c values ∷ events) s a b h k = h ∙ sym k
 one_play (turn node value ∷ events) s a b h k = one_play events s a b h k
-one_play (move node c value ∷ events) s a b h k =
-    one_or_bad node (point_of s.lines value) a b (λ outcome v. (IsLegal s c v × Plays (with_move s (record { colour = c; vertex = v })) events outcome) ⊎ IsRefused s c v outcome)
+one_play (move_met node c value ∷ events) s a b h k =
+    one_or_bad node (vertex_in s.lines value) a b (λ outcome v. (IsLegal s c v × Plays (with_move s (record { colour = c; vertex = v })) events outcome) ⊎ IsRefused s c v outcome)
     (λ v p q. by_move s c v a b (Plays (with_move s (record { colour = c; vertex = v })) events) (one_play events (with_move s (record { colour = c; vertex = v })) a b) p q) h k
 
 same_dead : (n : ℕ) (g : Colouring) (p q : Point) → IsFirstDead n g p → IsFirstDead n g q → p ≡ q
@@ -145,16 +145,16 @@ one_setup (stones node c values ∷ events) n komi g given a b h k =
     one_or_bad node (points_of n values) a b (λ outcome ps. SetsUp n komi (with_points n c g ps) given events outcome)
     (λ ps p q. one_setup events n komi (with_points n c g ps) given a b p q) h k
 one_setup (turn node value ∷ events) n komi g given a b h k =
-    one_or_bad node (colour_of value) a b (λ outcome c. SetsUp n komi g (Some c) events outcome)
+    one_or_bad node (colour_stated value) a b (λ outcome c. SetsUp n komi g (Some c) events outcome)
     (λ c p q. one_setup events n komi g (Some c) a b p q) h k
-one_setup (move node c value ∷ events) n komi g given a b h k = one_begin n komi g given (move node c value ∷ events) a b h k
+one_setup (move_met node c value ∷ events) n komi g given a b h k = one_begin n komi g given (move_met node c value ∷ events) a b h k
 
 pub one_game : (c : Trees) (number : Option ℕ) (a b : Outcome) → IsGameOf c number a → IsGameOf c number b → a ≡ b
 unfolding IsGameOf
 one_game c number a b h k =
     let Line : ℕ → ℤ → Outcome → Type 0 = λ n komi outcome. SetsUp n komi (replicate (n * n) None) None (looked_at number (events_from 0 (main_line c))) outcome in
-    let Sized : Outcome → ℕ → Type 0 = λ outcome n. OrElse BadKomi (komi_in (root_value (codes "KM") c)) outcome (λ komi. Line n komi outcome) in
-    one_needs NotGo (is_go (root_value (codes "GM") c)) a b (λ outcome. OrElse BadSize (lines_in (root_value (codes "SZ") c)) outcome (Sized outcome))
-    (one_or_else BadSize (lines_in (root_value (codes "SZ") c)) a b Sized (λ n p q.
-    one_or_else BadKomi (komi_in (root_value (codes "KM") c)) a b (λ outcome komi. Line n komi outcome) (λ komi x y.
+    let Sized : Outcome → ℕ → Type 0 = λ outcome n. OrElse BadKomi (komi_in (value_at_root (codes "KM") c)) outcome (λ komi. Line n komi outcome) in
+    one_needs NotGo (is_go_value (value_at_root (codes "GM") c)) a b (λ outcome. OrElse BadSize (lines_in (value_at_root (codes "SZ") c)) outcome (Sized outcome))
+    (one_or_else BadSize (lines_in (value_at_root (codes "SZ") c)) a b Sized (λ n p q.
+    one_or_else BadKomi (komi_in (value_at_root (codes "KM") c)) a b (λ outcome komi. Line n komi outcome) (λ komi x y.
     one_setup (looked_at number (events_from 0 (main_line c))) n komi (replicate (n * n) None) None a b x y) p q)) h k

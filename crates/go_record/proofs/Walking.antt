@@ -12,16 +12,16 @@ use Rattle.go_board.specs.Colours.{Colouring}
 use Rattle.go_game.specs.declared.errors.PlayError.{PlayError}
 use Rattle.go_game.specs.declared.errors.PlayError.TheVariants as play
 use Rattle.go_game.specs.Standings.{GameValue, IsLegal, IsOccupied, IsOffBoard, Standing, with_move}
-use Rattle.go_game.specs.Standings.{Repeats as IsRepeat}
-use Rattle.go_sgf.specs.BoardValues.{point_of, points_of}
+use Rattle.go_game.specs.Standings.{IsRepeat}
+use Rattle.go_sgf.specs.BoardValues.{vertex_in, points_of}
 use Rattle.go_record.specs.declared.error.RecordError.{RecordError}
 use Rattle.go_record.specs.declared.error.RecordError.TheVariants.{BadValue, Memory, SetupAfterMove}
 use Rattle.go_record.specs.declared.state.Left.{Left}
 use Rattle.go_record.specs.declared.state.Left.TheVariants.{All, Moves, Nothing}
-use Rattle.go_record.specs.MainLine.{Event, stones, turn, move}
-use Rattle.go_record.specs.inner.Progress.{Goes, GoesFrom, Passes, Place, Stops, Walked, is_nothing, playing, seen}
+use Rattle.go_record.specs.MainLine.{Event, stones, turn, move_met}
+use Rattle.go_record.specs.inner.Progress.{Goes, GoesFrom, Passes, WalkedGame, Stops, Walked, is_nothing, playing, seen}
 use Rattle.go_board.specs.Clearing.{AreAlive}
-use Rattle.go_record.specs.Walks.{Begins, IsDeadSetup, IsReason, IsRefused, Outcome, Plays, SetsUp, colour_of, start_of, with_points}
+use Rattle.go_record.specs.Walks.{Begins, IsDeadSetup, IsReason, IsRefused, Outcome, Plays, SetsUp, colour_stated, start_of, with_points}
 
 -- ---- what is looked at
 
@@ -49,11 +49,11 @@ seen_none (Moves zero) = refl
 seen_none (Moves (suc k)) = refl
 seen_none Nothing = refl
 
--- whether a move was met
-pub met : (w : Place) → w.0.is_playing ≡ true → playing w ≡ Some w.1
+-- whether a move_met was met
+pub met : (w : WalkedGame) → w.0.is_playing ≡ true → playing w ≡ Some w.1
 met w e = rw e refl
 
-pub none_met : (w : Place) → w.0.is_playing ≡ false → playing w ≡ None
+pub none_met : (w : WalkedGame) → w.0.is_playing ≡ false → playing w ≡ None
 none_met w e = rw e refl
 
 -- ---- single events
@@ -70,17 +70,17 @@ pub plays_stones : (s : Standing) (node : ℕ) (c : Option Colour) (values : Lis
 unfolding Plays
 plays_stones s node c values events = refl
 
-pub plays_bad : (s : Standing) (node : ℕ) (c : Colour) (value : List ℕ) (events : List Event) → point_of s.lines value ≡ None → Plays s (move node c value ∷ events) (Err (BadValue node))
+pub plays_bad : (s : Standing) (node : ℕ) (c : Colour) (value : List ℕ) (events : List Event) → vertex_in s.lines value ≡ None → Plays s (move_met node c value ∷ events) (Err (BadValue node))
 unfolding Plays
 plays_bad s node c value events e = rw e refl
 
-pub plays_legal : (s : Standing) (node : ℕ) (c : Colour) (value : List ℕ) (v : Vertex) (events : List Event) (outcome : Outcome) → point_of s.lines value ≡ Some v →
-    IsLegal s c v → Plays (with_move s (record { colour = c; vertex = v })) events outcome → Plays s (move node c value ∷ events) outcome
+pub plays_legal : (s : Standing) (node : ℕ) (c : Colour) (value : List ℕ) (v : Vertex) (events : List Event) (outcome : Outcome) → vertex_in s.lines value ≡ Some v →
+    IsLegal s c v → Plays (with_move s (record { colour = c; vertex = v })) events outcome → Plays s (move_met node c value ∷ events) outcome
 unfolding Plays
 plays_legal s node c value v events outcome e l h = rw e (inl (l, h))
 
-pub plays_refused : (s : Standing) (node : ℕ) (c : Colour) (value : List ℕ) (v : Vertex) (events : List Event) (outcome : Outcome) → point_of s.lines value ≡ Some v →
-    IsRefused s c v outcome → Plays s (move node c value ∷ events) outcome
+pub plays_refused : (s : Standing) (node : ℕ) (c : Colour) (value : List ℕ) (v : Vertex) (events : List Event) (outcome : Outcome) → vertex_in s.lines value ≡ Some v →
+    IsRefused s c v outcome → Plays s (move_met node c value ∷ events) outcome
 unfolding Plays
 plays_refused s node c value v events outcome e h = rw e (inr h)
 
@@ -90,16 +90,16 @@ module _ (n : ℕ) (komi : ℤ) (g : Colouring) (given : Option Colour) where
   sets_end outcome h = h
 
   pub sets_move : (node : ℕ) (c : Colour) (value : List ℕ) (events : List Event) (outcome : Outcome) →
-      Begins n komi g given (move node c value ∷ events) outcome → SetsUp n komi g given (move node c value ∷ events) outcome
+      Begins n komi g given (move_met node c value ∷ events) outcome → SetsUp n komi g given (move_met node c value ∷ events) outcome
   unfolding SetsUp
   sets_move node c value events outcome h = h
 
-  pub sets_turn : (node : ℕ) (value : List ℕ) (c : Colour) (events : List Event) (outcome : Outcome) → colour_of value ≡ Some c →
+  pub sets_turn : (node : ℕ) (value : List ℕ) (c : Colour) (events : List Event) (outcome : Outcome) → colour_stated value ≡ Some c →
       SetsUp n komi g (Some c) events outcome → SetsUp n komi g given (turn node value ∷ events) outcome
   unfolding SetsUp
   sets_turn node value c events outcome e h = rw e h
 
-  pub sets_turn_bad : (node : ℕ) (value : List ℕ) (events : List Event) → colour_of value ≡ None → SetsUp n komi g given (turn node value ∷ events) (Err (BadValue node))
+  pub sets_turn_bad : (node : ℕ) (value : List ℕ) (events : List Event) → colour_stated value ≡ None → SetsUp n komi g given (turn node value ∷ events) (Err (BadValue node))
   unfolding SetsUp
   sets_turn_bad node value events e = rw e refl
 
@@ -115,45 +115,45 @@ module _ (n : ℕ) (komi : ℤ) (g : Colouring) (given : Option Colour) where
 
 -- ---- events one after the other
 
-pub passes_nothing : (w : Place) → Passes w [] w
+pub passes_nothing : (w : WalkedGame) → Passes w [] w
 passes_nothing w = record { passed = λ later outcome h. h }
 
-pub passes_over : (w : Place) → is_nothing w.0.left ≡ true → (events : List Event) → Passes w events w
+pub passes_over : (w : WalkedGame) → is_nothing w.0.left ≡ true → (events : List Event) → Passes w events w
 passes_over w e events = record {
   passed = λ later outcome h. subst (λ (xs : List Event). GoesFrom w.0 (playing w) xs outcome) (seen_over w.0.left e later (events ++ later)) h;
 }
 
-pub passes_passes : {a b c : Place} {xs ys : List Event} → Passes a xs b → Passes b ys c → Passes a (xs ++ ys) c
+pub passes_passes : {a b c : WalkedGame} {xs ys : List Event} → Passes a xs b → Passes b ys c → Passes a (xs ++ ys) c
 passes_passes {a} {b} {c} {xs} {ys} p q = record {
   passed = λ later outcome h. subst (λ (es : List Event). Goes a es outcome) (sym (append_assoc xs ys later)) (p.passed (ys ++ later) outcome (q.passed later outcome h));
 }
 
-pub passes_then : {a b c : Place} {xs ys : List Event} (zs : List Event) → Passes a xs b → Passes b ys c → xs ++ ys ≡ zs → Passes a zs c
+pub passes_then : {a b c : WalkedGame} {xs ys : List Event} (zs : List Event) → Passes a xs b → Passes b ys c → xs ++ ys ≡ zs → Passes a zs c
 passes_then {a} {b} {c} zs p q e = subst (λ (es : List Event). Passes a es c) e (passes_passes p q)
 
-pub passes_stops : {a b : Place} {xs ys : List Event} {e : RecordError} → Passes a xs b → Stops b ys e → Stops a (xs ++ ys) e
+pub passes_stops : {a b : WalkedGame} {xs ys : List Event} {e : RecordError} → Passes a xs b → Stops b ys e → Stops a (xs ++ ys) e
 passes_stops {a} {b} {xs} {ys} {e} p q = record {
   stopped = λ some later. subst (λ (es : List Event). Goes a es (Err e)) (sym (append_assoc xs ys later)) (p.passed (ys ++ later) (Err e) (q.stopped some later));
 }
 
-pub stops_longer : {a : Place} {xs : List Event} {e : RecordError} → Stops a xs e → (ys : List Event) → Stops a (xs ++ ys) e
+pub stops_longer : {a : WalkedGame} {xs : List Event} {e : RecordError} → Stops a xs e → (ys : List Event) → Stops a (xs ++ ys) e
 stops_longer {a} {xs} {e} q ys = record {
   stopped = λ some later. subst (λ (es : List Event). Goes a es (Err e)) (sym (append_assoc xs ys later)) (q.stopped some (ys ++ later));
 }
 
-pub stops_memory : (a : Place) (xs : List Event) → Stops a xs Memory
+pub stops_memory : (a : WalkedGame) (xs : List Event) → Stops a xs Memory
 stops_memory a xs = record { stopped = λ some later. absurd (some refl) }
 
 -- a walk whose game and events are known
-pub goes_by : (w : Place) (o : Option GameValue) (xs ys : List Event) (outcome : Outcome) → playing w ≡ o → seen w.0.left xs ≡ ys → GoesFrom w.0 o ys outcome → Goes w xs outcome
+pub goes_by : (w : WalkedGame) (o : Option GameValue) (xs ys : List Event) (outcome : Outcome) → playing w ≡ o → seen w.0.left xs ≡ ys → GoesFrom w.0 o ys outcome → Goes w xs outcome
 goes_by w o xs ys outcome e f h =
     subst (λ (p : Option GameValue). GoesFrom w.0 p (seen w.0.left xs) outcome) (sym e) (subst (λ (zs : List Event). GoesFrom w.0 o zs outcome) (sym f) h)
 
-pub goes_from : (w : Place) (o : Option GameValue) (xs : List Event) (outcome : Outcome) → playing w ≡ o → Goes w xs outcome → GoesFrom w.0 o (seen w.0.left xs) outcome
+pub goes_from : (w : WalkedGame) (o : Option GameValue) (xs : List Event) (outcome : Outcome) → playing w ≡ o → Goes w xs outcome → GoesFrom w.0 o (seen w.0.left xs) outcome
 goes_from w o xs outcome e h = subst (λ (p : Option GameValue). GoesFrom w.0 p (seen w.0.left xs) outcome) e h
 
 -- one event
-pub passes_event : {w new : Place} (o p : Option GameValue) (event : Event) → playing w ≡ o → playing new ≡ p →
+pub passes_event : {w new : WalkedGame} (o p : Option GameValue) (event : Event) → playing w ≡ o → playing new ≡ p →
     ((later : List Event) → seen w.0.left (event ∷ later) ≡ event ∷ seen new.0.left later) →
     ((events : List Event) (outcome : Outcome) → GoesFrom new.0 p events outcome → GoesFrom w.0 o (event ∷ events) outcome) → Passes w (event ∷ []) new
 passes_event {w} {new} o p event e f split step = record {
@@ -161,14 +161,14 @@ passes_event {w} {new} o p event e f split step = record {
       goes_by w o (event ∷ later) (event ∷ seen new.0.left later) outcome e (split later) (step (seen new.0.left later) outcome (goes_from new p later outcome f h));
 }
 
-pub stops_event : {w : Place} {error : RecordError} (o : Option GameValue) (left : Left) (event : Event) → playing w ≡ o →
+pub stops_event : {w : WalkedGame} {error : RecordError} (o : Option GameValue) (left : Left) (event : Event) → playing w ≡ o →
     ((later : List Event) → seen w.0.left (event ∷ later) ≡ event ∷ seen left later) →
     (error ≢ Memory → (events : List Event) → GoesFrom w.0 o (event ∷ events) (Err error)) → Stops w (event ∷ []) error
 stops_event {w} {error} o left event e split step = record {
   stopped = λ some later. goes_by w o (event ∷ later) (event ∷ seen left later) (Err error) e (split later) (step some (seen left later));
 }
 
-pub passes_turn_playing : (w : Place) (game : GameValue) → playing w ≡ Some game → (node : ℕ) (value : List ℕ) → Passes w (turn node value ∷ []) w
+pub passes_turn_playing : (w : WalkedGame) (game : GameValue) → playing w ≡ Some game → (node : ℕ) (value : List ℕ) → Passes w (turn node value ∷ []) w
 passes_turn_playing w game e node value = elim (cases_Bool (is_nothing w.0.left)) [
   | inl over ↦ passes_over w over (turn node value ∷ [])
   | inr live ↦ passes_event (Some game) (Some game) (turn node value) e e (seen_turn w.0.left live node value) (plays_turn game.standing node value)
@@ -176,10 +176,10 @@ passes_turn_playing w game e node value = elim (cases_Bool (is_nothing w.0.left)
 
 -- ---- the end
 
-pub end_playing : (w : Place) (game : GameValue) → playing w ≡ Some game → Goes w [] (Ok game.standing)
+pub end_playing : (w : WalkedGame) (game : GameValue) → playing w ≡ Some game → Goes w [] (Ok game.standing)
 end_playing w game e = goes_by w (Some game) [] [] (Ok game.standing) e (seen_none w.0.left) (plays_end game.standing)
 
-pub end_started : {T : Type 0} (w : Place) (r : Result T RecordError) (s : Standing) → playing w ≡ None →
+pub end_started : {T : Type 0} (w : WalkedGame) (r : Result T RecordError) (s : Standing) → playing w ≡ None →
     OnOk r (AreAlive w.0.grid.lines w.0.grid.colours × (s ≡ start_of w.0.grid.lines w.0.komi w.0.grid.colours w.0.turn)) → OnOk r (Goes w [] (Ok s))
 end_started w (Ok x) s e h =
     let start : Standing = start_of w.0.grid.lines w.0.komi w.0.grid.colours w.0.turn in
@@ -187,7 +187,7 @@ end_started w (Ok x) s e h =
     (inl (h.0, subst (λ (t : Standing). Plays start [] (Ok t)) (sym h.1) (plays_end start))))
 end_started w (Err error) s e h = h
 
-pub end_dead : {T : Type 0} (w : Place) (r : Result T RecordError) → playing w ≡ None →
+pub end_dead : {T : Type 0} (w : WalkedGame) (r : Result T RecordError) → playing w ≡ None →
     IfErr r (λ error. error ≢ Memory → IsDeadSetup w.0.grid.lines w.0.grid.colours (Err error)) →
     IfErr r (λ error. error ≢ Memory → Goes w [] (Err error))
 end_dead w (Ok x) e h = h
@@ -202,11 +202,11 @@ reason_of s c v (play.Repeats k) r e some off occupied repeats = (λ h. cc (e, o
 reason_of s c v play.Memory r e some off occupied repeats = some refl
 
 -- a call that is refused
-pub walked_stops : {T : Type 0} (r : Result T RecordError) (e : RecordError) (old new : Place) (events : List Event) → r ≡ Err e → Stops old events e → Walked r old events new
+pub walked_stops : {T : Type 0} (r : Result T RecordError) (e : RecordError) (old new : WalkedGame) (events : List Event) → r ≡ Err e → Stops old events e → Walked r old events new
 walked_stops {T} r e old new events is h = subst (λ (q : Result T RecordError). Walked q old events new) (sym is) h
 
 -- a call after others
-pub walked_after : {T : Type 0} (r : Result T RecordError) (a b c : Place) (xs ys : List Event) → Passes a xs b → Walked r b ys c → Walked r a (xs ++ ys) c
+pub walked_after : {T : Type 0} (r : Result T RecordError) (a b c : WalkedGame) (xs ys : List Event) → Passes a xs b → Walked r b ys c → Walked r a (xs ++ ys) c
 walked_after (Ok x) a b c xs ys p q = passes_passes p q
 walked_after (Err e) a b c xs ys p q = passes_stops p q
 
@@ -219,19 +219,19 @@ pub if_err : {T E : Type 0} {P Q : E → Type 0} (r : Result T E) → ((e : E) �
 if_err (Ok x) f h = h
 if_err (Err e) f h = f e h
 
--- the game that the first move begins
-pub began_setting : (w : Place) (s : Standing) → playing w ≡ None → AreAlive w.0.grid.lines w.0.grid.colours → s ≡ start_of w.0.grid.lines w.0.komi w.0.grid.colours w.0.turn →
-    (node : ℕ) (c : Colour) (value : List ℕ) (events : List Event) (outcome : Outcome) → Plays s (move node c value ∷ events) outcome →
-    GoesFrom w.0 (playing w) (move node c value ∷ events) outcome
+-- the game that the first move_met begins
+pub began_setting : (w : WalkedGame) (s : Standing) → playing w ≡ None → AreAlive w.0.grid.lines w.0.grid.colours → s ≡ start_of w.0.grid.lines w.0.komi w.0.grid.colours w.0.turn →
+    (node : ℕ) (c : Colour) (value : List ℕ) (events : List Event) (outcome : Outcome) → Plays s (move_met node c value ∷ events) outcome →
+    GoesFrom w.0 (playing w) (move_met node c value ∷ events) outcome
 began_setting w s e alive is node c value events outcome h =
-    subst (λ (o : Option GameValue). GoesFrom w.0 o (move node c value ∷ events) outcome) (sym e)
+    subst (λ (o : Option GameValue). GoesFrom w.0 o (move_met node c value ∷ events) outcome) (sym e)
     (sets_move w.0.grid.lines w.0.komi w.0.grid.colours w.0.turn node c value events outcome
-    (inl (alive, subst (λ (t : Standing). Plays t (move node c value ∷ events) outcome) is h)))
+    (inl (alive, subst (λ (t : Standing). Plays t (move_met node c value ∷ events) outcome) is h)))
 
-pub began_dead : (w : Place) → playing w ≡ None → (error : RecordError) → IsDeadSetup w.0.grid.lines w.0.grid.colours (Err error) →
-    (node : ℕ) (c : Colour) (value : List ℕ) (events : List Event) → GoesFrom w.0 (playing w) (move node c value ∷ events) (Err error)
+pub began_dead : (w : WalkedGame) → playing w ≡ None → (error : RecordError) → IsDeadSetup w.0.grid.lines w.0.grid.colours (Err error) →
+    (node : ℕ) (c : Colour) (value : List ℕ) (events : List Event) → GoesFrom w.0 (playing w) (move_met node c value ∷ events) (Err error)
 began_dead w e error dead node c value events =
-    subst (λ (o : Option GameValue). GoesFrom w.0 o (move node c value ∷ events) (Err error)) (sym e)
+    subst (λ (o : Option GameValue). GoesFrom w.0 o (move_met node c value ∷ events) (Err error)) (sym e)
     (sets_move w.0.grid.lines w.0.komi w.0.grid.colours w.0.turn node c value events (Err error) (inr dead))
 
 -- one element on: the events of those before it, its own, and those of the later ones

@@ -3,13 +3,13 @@ use Rattle.std.specs.Prelude.{◌≡◌, ◌*◌, ℕ, ℤ, pos, Bool, true, fal
 use Rattle.go_board.specs.Sizes.{size_with}
 use Rattle.std.specs.List.{list_all}
 use Rattle.std.specs.Option.{option_and_then}
-use Rattle.go_sgf.specs.Numbers.{hundredths_of, number_of}
+use Rattle.go_sgf.specs.Numbers.{hundredths_by, number_in}
 use Rattle.go_sgf.specs.Record.{Property, Trees, none, tree}
 use Rattle.go_sgf.specs.Spelling.{is_space}
 use Rattle.go_record.specs.declared.error.RecordError.{RecordError}
 use Rattle.go_record.specs.declared.error.RecordError.TheVariants.{BadKomi, BadSize, NotGo}
 use Rattle.go_record.specs.declared.root.TheConstants.{USUAL_LINES}
-use Rattle.go_record.specs.MainLine.{events_from, first_value, is_named, looked_at, main_line}
+use Rattle.go_record.specs.MainLine.{events_from, leading_value, is_named, looked_at, main_line}
 use Rattle.go_record.specs.Walks.{Outcome, SetsUp}
 
 -- the properties of the first node of the first tree
@@ -22,41 +22,41 @@ first_node none = []
 first_node (tree nodes children later) = first_of nodes
 
 -- the first value of the first property with this name, or nothing
-abbrev pub value_in : List ℕ → List Property → List ℕ
-value_in name [] = []
-value_in name (p ∷ ps) = if is_named name p then first_value p.values else value_in name ps
+abbrev pub value_named : List ℕ → List Property → List ℕ
+value_named name [] = []
+value_named name (p ∷ ps) = if is_named name p then leading_value p.values else value_named name ps
 
-abbrev pub root_value : List ℕ → Trees → List ℕ
-root_value name c = value_in name (first_node c)
+abbrev pub value_at_root : List ℕ → Trees → List ℕ
+value_at_root name c = value_named name (first_node c)
 
 -- nothing but white space
-abbrev pub is_blank : List ℕ → Bool
-is_blank value = list_all is_space value
+abbrev pub is_blank_value : List ℕ → Bool
+is_blank_value value = list_all is_space value
 
-abbrev pub is_one : Option ℕ → Bool
-is_one None = false
-is_one (Some n) = n == 1
+abbrev pub is_number_one : Option ℕ → Bool
+is_number_one None = false
+is_number_one (Some n) = n == 1
 
 -- the game is Go where nothing else is said
-abbrev pub is_go : List ℕ → Bool
-is_go value = is_blank value || is_one (number_of value)
+abbrev pub is_go_value : List ℕ → Bool
+is_go_value value = is_blank_value value || is_number_one (number_in value)
 
 -- columns and rows, where they are as many
-abbrev pub same_number : Option ℕ → Option ℕ → Option ℕ
-same_number (Some m) (Some n) = if m == n then Some m else None
-same_number _ _ = None
+abbrev pub number_of_both : Option ℕ → Option ℕ → Option ℕ
+number_of_both (Some m) (Some n) = if m == n then Some m else None
+number_of_both _ _ = None
 
 -- one number, or two with a `:` between them
 abbrev pub number_by : List ℕ → Option ℕ → Option ℕ
-number_by value None = number_of value
-number_by value (Some k) = same_number (number_of (take k value)) (number_of (drop 1 (drop k value)))
+number_by value None = number_in value
+number_by value (Some k) = number_of_both (number_in (take k value)) (number_in (drop 1 (drop k value)))
 
 abbrev pub lines_in : List ℕ → Option ℕ
 lines_in value =
-    if is_blank value then Some USUAL_LINES else option_and_then size_with (number_by value (position (λ b. b == 58) value))
+    if is_blank_value value then Some USUAL_LINES else option_and_then size_with (number_by value (position (λ b. b == 58) value))
 
 abbrev pub komi_in : List ℕ → Option ℤ
-komi_in value = if is_blank value then Some (pos 0) else hundredths_of value
+komi_in value = if is_blank_value value then Some (pos 0) else hundredths_by value
 
 -- what a value gives, or this refusal
 abbrev pub OrElse : {X : Type 0} → RecordError → Option X → Outcome → (X → Type 0) → Type 0
@@ -72,7 +72,7 @@ Needs error true outcome Later = Later
 -- and its komi are judged, and then the main line over an empty board.
 unfoldable pub IsGameOf : Trees → Option ℕ → Outcome → Type 0
 IsGameOf c number outcome =
-    Needs NotGo (is_go (root_value (codes "GM") c)) outcome
-    (OrElse BadSize (lines_in (root_value (codes "SZ") c)) outcome (λ n.
-    OrElse BadKomi (komi_in (root_value (codes "KM") c)) outcome (λ komi.
+    Needs NotGo (is_go_value (value_at_root (codes "GM") c)) outcome
+    (OrElse BadSize (lines_in (value_at_root (codes "SZ") c)) outcome (λ n.
+    OrElse BadKomi (komi_in (value_at_root (codes "KM") c)) outcome (λ komi.
     SetsUp n komi (replicate (n * n) None) None (looked_at number (events_from 0 (main_line c))) outcome)))

@@ -5,7 +5,7 @@ use Rattle.go_game.specs.Standings.{IsSound, Standing}
 use Rattle.go_sgf.specs.Record.{IsFit, Trees}
 use Rattle.go_sgf.specs.Spelling.{Spells}
 use Rattle.go_record.specs.Games.{IsGameOf}
-use Rattle.go_record.specs.Records.{record_of, tree_of}
+use Rattle.go_record.specs.Records.{record_of, game_tree}
 use Rattle.go_record.specs.Walks.{Outcome}
 
 -- a record comes to one outcome, and to no other
@@ -24,10 +24,10 @@ JudgedByPositions = (c : Trees) (number : Option ℕ) (s : Standing) → IsGameO
 -- A standing's record can be spelled, its text spells it and nothing else, and where it stands under the positional rule its game
 -- is the standing.
 pub record Records (s : Standing) : Type 0 where
-  pub fit : IsFit (tree_of s)
-  pub spelled : Spells (record_of s) (tree_of s)
-  pub alone : (c : Trees) → Spells (record_of s) c → c ≡ tree_of s
-  pub game : s.rule ≡ Positional → IsGameOf (tree_of s) None (Ok s)
+  pub fit : IsFit (game_tree s)
+  pub spelled : Spells (record_of s) (game_tree s)
+  pub alone : (c : Trees) → Spells (record_of s) c → c ≡ game_tree s
+  pub game : s.rule ≡ Positional → IsGameOf (game_tree s) None (Ok s)
 
 -- so for every standing that play can come to
 abbrev pub RecordLaw : Type 0

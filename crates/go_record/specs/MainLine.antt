@@ -16,13 +16,13 @@ main_line (tree nodes children later) = nodes ++ main_line children
 abbrev pub is_named : List ℕ → Property → Bool
 is_named name p = bytes_eq (plain_property p).name name
 
-abbrev pub first_value : List (List ℕ) → List ℕ
-first_value [] = []
-first_value (v ∷ vs) = v
+abbrev pub leading_value : List (List ℕ) → List ℕ
+leading_value [] = []
+leading_value (v ∷ vs) = v
 
 -- what a property is for
-abbrev pub kind_of : Property → Kind
-kind_of p =
+abbrev pub kind_by : Property → Kind
+kind_by p =
     if is_named (codes "B") p then Move Black else
     (if is_named (codes "W") p then Move White else
     (if is_named (codes "AB") p then Stones (Some Black) else
@@ -31,29 +31,29 @@ kind_of p =
     (if is_named (codes "PL") p then Turn else Other)))))
 
 -- What is met, with the number of its node from 0: points that get a colour or are emptied, the
--- colour to move, and a move.
+-- colour to move_met, and a move_met.
 pub data Event : Type 0 where
   stones : ℕ → Option Colour → List (List ℕ) → Event
   turn : ℕ → List ℕ → Event
-  move : ℕ → Colour → List ℕ → Event
+  move_met : ℕ → Colour → List ℕ → Event
 
 abbrev pub setup_by : ℕ → Kind → List (List ℕ) → List Event
 setup_by node (Stones colour) values = stones node colour values ∷ []
-setup_by node Turn values = turn node (first_value values) ∷ []
+setup_by node Turn values = turn node (leading_value values) ∷ []
 setup_by node (Move colour) values = []
 setup_by node Other values = []
 
 abbrev pub move_by : ℕ → Kind → List (List ℕ) → List Event
-move_by node (Move colour) values = move node colour (first_value values) ∷ []
+move_by node (Move colour) values = move_met node colour (leading_value values) ∷ []
 move_by node (Stones colour) values = []
 move_by node Turn values = []
 move_by node Other values = []
 
 abbrev pub setup_event : ℕ → Property → List Event
-setup_event node p = setup_by node (kind_of p) p.values
+setup_event node p = setup_by node (kind_by p) p.values
 
 abbrev pub move_event : ℕ → Property → List Event
-move_event node p = move_by node (kind_of p) p.values
+move_event node p = move_by node (kind_by p) p.values
 
 -- in each node set-up comes before moves
 abbrev pub events_of : ℕ → List Property → List Event
@@ -69,10 +69,10 @@ abbrev pub before_move : ℕ → List Event → List Event
 before_move k [] = []
 before_move k (stones node colour values ∷ events) = stones node colour values ∷ before_move k events
 before_move k (turn node value ∷ events) = turn node value ∷ before_move k events
-before_move zero (move node colour value ∷ events) = []
-before_move (suc k) (move node colour value ∷ events) = move node colour value ∷ before_move k events
+before_move zero (move_met node colour value ∷ events) = []
+before_move (suc k) (move_met node colour value ∷ events) = move_met node colour value ∷ before_move k events
 
--- all that is looked at: with a number, what comes before the move of that number. 0 is read as 1.
+-- all that is looked at: with a number, what comes before the move_met of that number. 0 is read as 1.
 abbrev pub looked_at : Option ℕ → List Event → List Event
 looked_at None events = events
 looked_at (Some n) events = before_move (n - 1) events

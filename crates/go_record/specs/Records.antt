@@ -59,12 +59,12 @@ move_node n m = alone (colour_letter m.colour) (vertex_value n m.vertex) ∷ []
 abbrev pub nodes_of : Standing → List (List Property)
 nodes_of s = start_node s ∷ map (move_node s.lines) s.moves
 
-abbrev pub tree_of : Standing → Trees
-tree_of s = tree (nodes_of s) none none
+abbrev pub game_tree : Standing → Trees
+game_tree s = tree (nodes_of s) none none
 
 -- the record of a standing as a text
 abbrev pub record_of : Standing → List ℕ
-record_of s = canonical (tree_of s)
+record_of s = canonical (game_tree s)
 
 -- and without the line end after its tree
 abbrev pub record_body : Standing → List ℕ

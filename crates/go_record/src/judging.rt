@@ -1,8 +1,9 @@
 ghost use Rattle.std.specs.Prelude.{◌≡◌, ◌≢◌, ◌≤ℤ◌, ◌-ℤ◌, Err, IfErr, IfOk, IfSome, bytes_eq, negsuc, option_map, pos};
+ghost use Rattle.go_board.specs.Komi.{IsKomi};
 ghost use Rattle.go_sgf.specs.View.{collection_of};
 ghost use Rattle.go_record.specs.declared.error.RecordError.TheVariants.{Memory};
 ghost use Rattle.go_record.specs.Games.{IsGameOf};
-ghost use Rattle.go_record.specs.Verdicts.{IsStated, IsVerdict, begins_number as begins_number_by, margin_in as margin_by, margin_stated as margin_stated_by, size_stated as size_by};
+ghost use Rattle.go_record.specs.Verdicts.{IsStated, IsVerdict, is_number_first, margin_spelled, margin_by, size_spelled};
 
 use crate::error::RecordError;
 use crate::replaying::replay;
@@ -47,14 +48,14 @@ fn margin_stated<A: Allocator + Copy>(
     alloc: A,
     collection: &Collection<'_, A>,
 ) -> Result<Option<i64>, AllocError>
-    ensures { IfOk result (λ stated. stated ≡ margin_stated_by (collection_of collection.now)) }
+    ensures { IfOk result (λ stated. stated ≡ margin_by (collection_of collection.now)) }
 {
     let text = cook_simple(alloc, root_value(collection, b"RE"))?;
     Ok(margin_in(trim(&text)))
 }
 
 fn margin_in(word: &[u8]) -> Option<i64>
-    ensures { result ≡ margin_by word.now }
+    ensures { result ≡ margin_spelled word.now }
 {
     if is_text(word, b"0") || is_text(word, b"Draw") {
         return Some(0);
@@ -80,8 +81,8 @@ fn is_text(word: &[u8], text: &[u8]) -> bool
 
 /// The margin of a number that begins with a digit or a point.
 fn size_stated(text: &[u8]) -> Option<i64>
-    ensures value { result ≡ size_by text.now }
-    ensures low { IfSome result (λ size. negsuc 99999999998 ≤ℤ size) }
+    ensures value { result ≡ size_spelled text.now }
+    ensures range { IfSome result IsKomi }
 {
     if begins_number(text) {
         hundredths_of(text)
@@ -91,7 +92,7 @@ fn size_stated(text: &[u8]) -> Option<i64>
 }
 
 fn begins_number(text: &[u8]) -> bool
-    ensures { result ≡ begins_number_by text.now }
+    ensures { result ≡ is_number_first text.now }
 {
     match text.first() {
         Some(byte) => byte.is_ascii_digit() || *byte == b'.',
@@ -100,7 +101,7 @@ fn begins_number(text: &[u8]) -> bool
 }
 
 fn negated(size: Option<i64>) -> Option<i64>
-    requires { IfSome size (λ n. negsuc 99999999998 ≤ℤ n) }
+    requires { IfSome size IsKomi }
     ensures { result ≡ option_map (λ n. pos 0 -ℤ n) size }
 {
     match size {

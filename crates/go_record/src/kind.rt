@@ -1,5 +1,5 @@
 ghost use Rattle.std.specs.Prelude.{◌≡◌};
-ghost use Rattle.go_record.specs.MainLine.{first_value as value_first, kind_of as kind_by};
+ghost use Rattle.go_record.specs.MainLine.{leading_value, kind_by};
 
 use go_board::Colour;
 use go_sgf::Property;
@@ -39,7 +39,7 @@ pub(crate) fn kind_of(property: &Property<'_>) -> Kind
 
 /// The first value of a property, or an empty one where it has none.
 pub(crate) fn first_value<'a>(property: &Property<'a>) -> &'a [u8]
-    ensures { result.now ≡ value_first property.now.values }
+    ensures { result.now ≡ leading_value property.now.values }
 {
     match property.values().next() {
         Some(value) => value,

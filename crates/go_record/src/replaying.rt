@@ -1,7 +1,7 @@
 ghost use Rattle.std.specs.Prelude.{◌≡◌, ◌≢◌, ◌+◌, Err, IfErr, IfOk, Ok, OnErr, OnOk, length, true};
 ghost use Rattle.go_sgf.specs.View.{collection_of};
 ghost use Rattle.go_record.specs.declared.error.RecordError.TheVariants.{Memory};
-ghost use Rattle.go_game.specs.Standings.{is_vacant};
+ghost use Rattle.go_game.specs.Standings.{is_vacant_standing};
 ghost use Rattle.go_record.specs.Games.{IsGameOf};
 ghost use Rattle.go_record.specs.MainLine.{events_from, main_line};
 ghost use Rattle.go_record.specs.inner.Progress.{Says, Walked, left_by};
@@ -45,7 +45,7 @@ pub fn replay_on<A: Allocator + Copy>(
         (IsGameOf (collection_of collection.now) number (Ok game.new.standing)) }
     ensures err { IfErr result
         (λ e. e ≢ Memory → IsGameOf (collection_of collection.now) number (Err e)) }
-    ensures vacant { OnErr result (is_vacant game.new.standing ≡ true) }
+    ensures vacant { OnErr result (is_vacant_standing game.new.standing ≡ true) }
 {
     match bring(game, collection, number) {
         Ok(()) => Ok(()),

@@ -1,8 +1,8 @@
 ghost use Rattle.std.specs.Prelude.{◌≡◌, ◌==◌, ◌<◌, ◌≤ℤ◌, Err, IfErr, IfOk, IfSome, ℕ, Option, length, negsuc, option_map, pos, position};
-ghost use Rattle.go_game.specs.Standings.{IsKomi};
+ghost use Rattle.go_board.specs.Komi.{IsKomi};
 ghost use Rattle.go_sgf.specs.View.{collection_of};
 ghost use Rattle.go_record.specs.inner.Progress.{Says};
-ghost use Rattle.go_record.specs.Games.{IsGameOf, is_blank as is_white, is_go as is_go_by, is_one as is_one_of, komi_in, lines_in, number_by, root_value as value_by, same_number as number_same, value_in as value_by_name};
+ghost use Rattle.go_record.specs.Games.{IsGameOf, is_blank_value, is_go_value, is_number_one, komi_in, lines_in, number_by, value_at_root, number_of_both, value_named};
 
 use crate::error::RecordError;
 use crate::kind::first_value;
@@ -47,7 +47,7 @@ pub(crate) fn root_value<'a, A: Allocator + Copy>(
     collection: &Collection<'a, A>,
     name: &[u8],
 ) -> &'a [u8]
-    ensures { result.now ≡ value_by name.now (collection_of collection.now) }
+    ensures { result.now ≡ value_at_root name.now (collection_of collection.now) }
 {
     let Some(tree) = collection.trees().first() else {
         return b"";
@@ -59,7 +59,7 @@ pub(crate) fn root_value<'a, A: Allocator + Copy>(
 }
 
 fn value_in<'a>(name: &[u8], properties: Properties<'a>) -> &'a [u8]
-    ensures { result.now ≡ value_by_name name.now properties.entry }
+    ensures { result.now ≡ value_named name.now properties.entry }
 {
     for property in properties {
         if property.is(name) {
@@ -71,13 +71,13 @@ fn value_in<'a>(name: &[u8], properties: Properties<'a>) -> &'a [u8]
 
 /// Whether a GM value says that the game is Go, which goes without saying.
 pub(crate) fn is_go(value: &[u8]) -> bool
-    ensures { result ≡ is_go_by value.now }
+    ensures { result ≡ is_go_value value.now }
 {
     is_blank(value) || is_one(number_of(value))
 }
 
 fn is_one(number: Option<u32>) -> bool
-    ensures { result ≡ is_one_of number }
+    ensures { result ≡ is_number_one number }
 {
     match number {
         Some(number) => number == 1,
@@ -87,7 +87,7 @@ fn is_one(number: Option<u32>) -> bool
 
 /// Whether a value has nothing but white space.
 fn is_blank(value: &[u8]) -> bool
-    ensures { result ≡ is_white value.now }
+    ensures { result ≡ is_blank_value value.now }
 {
     value
         .iter()
@@ -127,7 +127,7 @@ fn colon_in(value: &[u8]) -> Option<usize>
 }
 
 fn same_number(columns: Option<u32>, rows: Option<u32>) -> Option<u32>
-    ensures { result ≡ number_same columns rows }
+    ensures { result ≡ number_of_both columns rows }
 {
     match (columns, rows) {
         (Some(columns), Some(rows)) if columns == rows => Some(columns),

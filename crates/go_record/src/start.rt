@@ -4,7 +4,7 @@ ghost use Rattle.go_board.specs.Points.{IsOn};
 ghost use Rattle.go_board.specs.Reaching.{is_same};
 ghost use Rattle.go_sgf.specs.BoardValues.{points_of};
 ghost use Rattle.go_sgf.specs.Rectangles.{listed};
-ghost use Rattle.go_record.specs.Walks.{colour_named, colour_of as colour_by, first_mover as mover_first, has_stones as has_stones_of, is_colour_word, with_points};
+ghost use Rattle.go_record.specs.Walks.{colour_named, colour_stated, opening_mover, holds_stones, is_colour_word, with_points};
 
 use go_board::{Colour, Grid, Point};
 use go_sgf::{Rectangle, Row, Values, points_in, trim};
@@ -48,7 +48,7 @@ fn set_row(grid: &mut Grid, colour: Option<Colour>, row: Row)
 
 /// The colour that a value names in any case, with white space at both ends skipped.
 pub(crate) fn colour_of(value: &[u8]) -> Option<Colour>
-    ensures { result ≡ colour_by value.now }
+    ensures { result ≡ colour_stated value.now }
 {
     colour_named(trim(value))
 }
@@ -73,7 +73,7 @@ fn is_word(word: &[u8], name: &[u8]) -> bool
 
 /// The colour that moves first: the one given, else White over black stones alone, else Black.
 pub(crate) fn first_mover(grid: &Grid, given: Option<Colour>) -> Colour
-    ensures { result ≡ mover_first grid.now.lines grid.now.colours given }
+    ensures { result ≡ opening_mover grid.now.lines grid.now.colours given }
 {
     match given {
         Some(colour) => colour,
@@ -85,7 +85,7 @@ pub(crate) fn first_mover(grid: &Grid, given: Option<Colour>) -> Colour
 }
 
 fn has_stones(grid: &Grid, colour: Colour) -> bool
-    ensures { result ≡ has_stones_of grid.now.lines grid.now.colours colour }
+    ensures { result ≡ holds_stones grid.now.lines grid.now.colours colour }
 {
     let size = grid.size();
     for number in 0..size.points() {

@@ -1,4 +1,4 @@
-ghost use Rattle.go_game.specs.Standings.{IsKomi};
+ghost use Rattle.go_board.specs.Komi.{IsKomi};
 
 use go_board::{Colour, Grid};
 

@@ -6,7 +6,7 @@ ghost use Rattle.go_board.specs.Points.{IsOn, number_of};
 ghost use Rattle.go_board.specs.Reaching.{has_colour};
 ghost use Rattle.go_board.specs.Vertices.{IsOnBoard};
 ghost use Rattle.go_record.specs.Records.{point_value, record_body, record_of};
-ghost use Rattle.go_record.specs.inner.Texts.{move_text, numbered_text, setting_text, stones_text, turn_text};
+ghost use Rattle.go_record.specs.inner.Texts.{move_text, numbered_text, opening_text, stones_text, first_turn_text};
 
 use crate::start::is_of;
 use go_board::{Colour, Move, Pen, Point, Sink, Size, Vertex, WriteFault};
@@ -43,7 +43,7 @@ pub fn put_record<A: Allocator + Copy, W: Sink>(game: &Game<A>, pen: &mut Pen<'_
 }
 
 fn put_setting<A: Allocator + Copy, W: Sink>(game: &Game<A>, pen: &mut Pen<'_, W>)
-    ensures { Writes W.Sink pen.old pen.new (setting_text game.now.standing) }
+    ensures { Writes W.Sink pen.old pen.new (opening_text game.now.standing) }
 {
     pen.put(b"(;GM[1]FF[4]SZ[");
     let mut digits = Buffer::new();
@@ -53,7 +53,7 @@ fn put_setting<A: Allocator + Copy, W: Sink>(game: &Game<A>, pen: &mut Pen<'_, W
 }
 
 fn put_turn<A: Allocator + Copy, W: Sink>(game: &Game<A>, pen: &mut Pen<'_, W>)
-    ensures { Writes W.Sink pen.old pen.new (turn_text game.now.standing) }
+    ensures { Writes W.Sink pen.old pen.new (first_turn_text game.now.standing) }
 {
     pen.put(b"]PL[");
     pen.put(&[game.start_mover().letter()]);

@@ -2,9 +2,9 @@
 use Rattle.std.proofs.Common.{◌≡◌, ◌≢◌, inl, inr, ℕ, suc, max, List, [], ◌∷◌, ◌++◌, true, refl, sym, ap, subst, ◌∙◌, map, append_assoc}
 use Rattle.std.proofs.lemmas.Bool.{cases_Bool, and_parts}
 use Rattle.std.specs.List.{list_all, list_any, flat_map, filter, AllByRecursion}
-use Rattle.go_sgf.specs.Record.{Property, Trees, none, tree, is_letter, is_upper, IsName, IsProperty, AreTrees, depth, IsFit, plain, plain_property}
-use Rattle.go_sgf.specs.Spelling.{Part, opening, closing, semicolon, name, value, text, joined, node_parts, property_parts, parts, after_space, from_tree, tree_text, canonical, SpellsParts}
-use Rattle.go_sgf.specs.PartsIn.{begins_letter}
+use Rattle.go_sgf.specs.Record.{Property, Trees, none, tree, is_letter_byte, is_upper_byte, IsName, IsProperty, AreTrees, depth, IsFit, plain, plain_property}
+use Rattle.go_sgf.specs.Spelling.{Part, opening, closing, semicolon, name, value_part, text, text_of_parts, node_parts, property_parts, parts, without_space, tree_in, tree_text, canonical, SpellsParts}
+use Rattle.go_sgf.specs.PartsIn.{is_letter_first}
 use Rattle.go_sgf.specs.Laws.{CanonicalSpellsPlain}
 use Rattle.go_sgf.proofs.Parts.{AllByRecursion-append, SpellsParts-append, SpellsParts-same, after_space-again, letter_same}
 
@@ -14,30 +14,30 @@ abbrev Begins : Part → Type 0
 Begins opening = Unit {0}
 Begins closing = Unit {0}
 Begins semicolon = Unit {0}
-Begins (name n) = begins_letter n ≡ true
-Begins (value v) = Unit {0}
+Begins (name n) = is_letter_first n ≡ true
+Begins (value_part v) = Unit {0}
 
-letter_then : (n b : List ℕ) → begins_letter n ≡ true → begins_letter (n ++ b) ≡ true
+letter_then : (n b : List ℕ) → is_letter_first n ≡ true → is_letter_first (n ++ b) ≡ true
 letter_then [] b e = cc
 letter_then (c ∷ cs) b e = e
 
-no_white : (p : Part) (b : List ℕ) → Begins p → after_space (text p ++ b) ≡ text p ++ b
+no_white : (p : Part) (b : List ℕ) → Begins p → without_space (text p ++ b) ≡ text p ++ b
 no_white opening b h = refl
 no_white closing b h = refl
 no_white semicolon b h = refl
 no_white (name n) b h = letter_same (n ++ b) (letter_then n b h)
-no_white (value v) b h = refl
+no_white (value_part v) b h = refl
 
-joined_spells : (ps : List Part) (rest : List ℕ) → AllByRecursion Begins ps → SpellsParts (joined ps ++ rest) ps (after_space rest)
+joined_spells : (ps : List Part) (rest : List ℕ) → AllByRecursion Begins ps → SpellsParts (text_of_parts ps ++ rest) ps (without_space rest)
 joined_spells [] rest h = refl
 joined_spells (p ∷ ps) rest h =
-    (joined ps ++ rest, ap after_space (append_assoc (text p) (joined ps) rest) ∙ no_white p (joined ps ++ rest) h.0, joined_spells ps rest h.1)
+    (text_of_parts ps ++ rest, ap without_space (append_assoc (text p) (text_of_parts ps) rest) ∙ no_white p (text_of_parts ps ++ rest) h.0, joined_spells ps rest h.1)
 
-name_begins : (n : List ℕ) → IsName n → begins_letter n ≡ true
+name_begins : (n : List ℕ) → IsName n → is_letter_first n ≡ true
 name_begins [] h = let e = h.1 in cc
-name_begins (c ∷ cs) h = (and_parts (is_letter c) (list_all is_letter cs) h.0).0
+name_begins (c ∷ cs) h = (and_parts (is_letter_byte c) (list_all is_letter_byte cs) h.0).0
 
-values_begin : (vs : List (List ℕ)) → AllByRecursion Begins (map value vs)
+values_begin : (vs : List (List ℕ)) → AllByRecursion Begins (map value_part vs)
 values_begin [] = tt
 values_begin (v ∷ vs) = (tt, values_begin vs)
 
@@ -62,23 +62,23 @@ trees_begin (tree nodes children later) h = (
 
 -- ---- plain names
 
-letters_kept : (n : List ℕ) → list_all is_letter (filter is_upper n) ≡ true
+letters_kept : (n : List ℕ) → list_all is_letter_byte (filter is_upper_byte n) ≡ true
 letters_kept [] = refl
-letters_kept (c ∷ cs) = elim (cases_Bool (is_upper c)) [
+letters_kept (c ∷ cs) = elim (cases_Bool (is_upper_byte c)) [
   | inl e ↦ rw (e, letters_kept cs) (rw e refl)
   | inr e ↦ rw e (letters_kept cs)
 ]
 
-upper_kept : (n : List ℕ) → list_any is_upper n ≡ true → list_any is_upper (filter is_upper n) ≡ true
+upper_kept : (n : List ℕ) → list_any is_upper_byte n ≡ true → list_any is_upper_byte (filter is_upper_byte n) ≡ true
 upper_kept [] h = h
-upper_kept (c ∷ cs) h = elim (cases_Bool (is_upper c)) [
+upper_kept (c ∷ cs) h = elim (cases_Bool (is_upper_byte c)) [
   | inl e ↦ rw e (rw e refl)
-  | inr e ↦ let any : list_any is_upper cs ≡ true = rw e at h in rw e (upper_kept cs any)
+  | inr e ↦ let any : list_any is_upper_byte cs ≡ true = rw e at h in rw e (upper_kept cs any)
 ]
 
-filter-filter : (n : List ℕ) → filter is_upper (filter is_upper n) ≡ filter is_upper n
+filter-filter : (n : List ℕ) → filter is_upper_byte (filter is_upper_byte n) ≡ filter is_upper_byte n
 filter-filter [] = refl
-filter-filter (c ∷ cs) = elim (cases_Bool (is_upper c)) [
+filter-filter (c ∷ cs) = elim (cases_Bool (is_upper_byte c)) [
   | inl e ↦ rw e (rw e (ap (λ xs. c ∷ xs) (filter-filter cs)))
   | inr e ↦ rw e (filter-filter cs)
 ]
@@ -142,9 +142,9 @@ plain-again (tree nodes children later) =
 canonical-again : (c : Trees) → canonical (plain c) ≡ canonical c
 canonical-again none = refl
 canonical-again (tree nodes children later) =
-    ap (λ ns. joined (opening ∷ (flat_map node_parts ns ++ (parts (plain (plain children)) ++ (closing ∷ [])))) ++ (10 ∷ canonical (plain later)))
+    ap (λ ns. text_of_parts (opening ∷ (flat_map node_parts ns ++ (parts (plain (plain children)) ++ (closing ∷ [])))) ++ (10 ∷ canonical (plain later)))
     (nodes-again nodes)
-    ∙ ap (λ t. joined (opening ∷ (flat_map node_parts (map (map plain_property) nodes) ++ (parts t ++ (closing ∷ [])))) ++ (10 ∷ canonical (plain later)))
+    ∙ ap (λ t. text_of_parts (opening ∷ (flat_map node_parts (map (map plain_property) nodes) ++ (parts t ++ (closing ∷ [])))) ++ (10 ∷ canonical (plain later)))
     (plain-again children)
     ∙ ap (λ xs. tree_text nodes children ++ (10 ∷ xs)) (canonical-again later)
 
@@ -161,17 +161,17 @@ canonical_parts (tree nodes children later) h =
       AllByRecursion-append Begins front (parts (plain children) ++ (closing ∷ [])) (nodes_begin (map (map plain_property) nodes) h.1)
           (AllByRecursion-append Begins (parts (plain children)) (closing ∷ []) (trees_begin (plain children) h.2) (tt, tt)),
     ) in
-    let later_spelled : SpellsParts (after_space rest) (parts (plain later)) [] =
-    SpellsParts-same (parts (plain later)) (canonical later) (after_space rest) [] (sym (after_space-again rest)) (canonical_parts later h.3) in
+    let later_spelled : SpellsParts (without_space rest) (parts (plain later)) [] =
+    SpellsParts-same (parts (plain later)) (canonical later) (without_space rest) [] (sym (after_space-again rest)) (canonical_parts later h.3) in
     let whole : first ++ parts (plain later) ≡ parts (plain (tree nodes children later)) =
     ap (λ ps. opening ∷ ps)
     (append_assoc front (parts (plain children) ++ (closing ∷ [])) (parts (plain later))
     ∙ ap (λ ps. front ++ ps) (append_assoc (parts (plain children)) (closing ∷ []) (parts (plain later)))) in
     let P : List Part → Type 0 = λ ps. SpellsParts (canonical (tree nodes children later)) ps [] in
     subst P whole
-    (SpellsParts-append first (parts (plain later)) (joined first ++ rest) (after_space rest) [] (joined_spells first rest begins) later_spelled)
+    (SpellsParts-append first (parts (plain later)) (text_of_parts first ++ rest) (without_space rest) [] (joined_spells first rest begins) later_spelled)
 
-canonical_begins : (c : Trees) → c ≢ none → AreTrees c → from_tree (canonical c) ≡ canonical c
+canonical_begins : (c : Trees) → c ≢ none → AreTrees c → tree_in (canonical c) ≡ canonical c
 canonical_begins none some h = refl
 canonical_begins (tree [] children later) some h = absurd (h.0 refl)
 canonical_begins (tree (n ∷ ns) children later) some h = refl

@@ -5,7 +5,7 @@ use Rattle.std.proofs.lemmas.Bool.Decides.{nat_tests}
 use Rattle.std.proofs.lemmas.List.{append-nil, at_drop_all, at_drop_more}
 use Rattle.std.specs.List.{list_all}
 use Rattle.std.specs.Option.{option_to_list}
-use Rattle.go_sgf.specs.Cooked.{is_break, unblank, step, cooked, escaped, goes_on, CookedByFront, is_kept, CookingUndoesEscaping}
+use Rattle.go_sgf.specs.Cooked.{is_line_break, unblanked, cooked_next, cooked, escaped, goes_on, CookedByFront, is_kept, CookingUndoesEscaping}
 use Rattle.go_sgf.specs.declared.cooking.Mode.{Mode}
 use Rattle.go_sgf.specs.declared.cooking.Mode.TheVariants.{Text, Escape, Broke}
 
@@ -13,17 +13,17 @@ pub cooked_end : (n : ℕ) (m : Mode) → cooked n m [] ≡ []
 unfolding cooked
 cooked_end n m = refl
 
-pub cooked_more : (n : ℕ) (m : Mode) (c : ℕ) (cs : List ℕ) → cooked n m (c ∷ cs) ≡ option_to_list (step n m c).1 ++ cooked n (step n m c).0 cs
+pub cooked_more : (n : ℕ) (m : Mode) (c : ℕ) (cs : List ℕ) → cooked n m (c ∷ cs) ≡ option_to_list (cooked_next n m c).1 ++ cooked n (cooked_next n m c).0 cs
 unfolding cooked
 cooked_more n m c cs = refl
 
 -- one byte more of what is cooked
 pub cooked_on : (n : ℕ) (m : Mode) (bytes out : List ℕ) (i : ℕ) → i < length bytes →
-    (out ++ option_to_list (step n m (get_or bytes i 0)).1) ++ cooked n (step n m (get_or bytes i 0)).0 (drop (i + 1) bytes)
+    (out ++ option_to_list (cooked_next n m (get_or bytes i 0)).1) ++ cooked n (cooked_next n m (get_or bytes i 0)).0 (drop (i + 1) bytes)
     ≡ out ++ cooked n m (drop i bytes)
 cooked_on n m bytes out i less =
     let c : ℕ = get_or bytes i 0 in
-    append_assoc out (option_to_list (step n m c).1) (cooked n (step n m c).0 (drop (i + 1) bytes))
+    append_assoc out (option_to_list (cooked_next n m c).1) (cooked n (cooked_next n m c).0 (drop (i + 1) bytes))
     ∙ ap (λ xs. out ++ xs) (sym (at_drop_more (cooked n m) bytes i 0 less ∙ cooked_more n m c (drop (i + 1) bytes)))
 
 -- no byte is left to cook
@@ -44,18 +44,18 @@ module _ (n : ℕ) where
   escape_first : (t : List ℕ) → cooked n Text (92 ∷ t) ≡ cooked n Escape t
   escape_first t = cooked_more n Text 92 t
 
-  escape_break : (b : ℕ) (t : List ℕ) → is_break b ≡ true → cooked n Escape (b ∷ t) ≡ cooked n (Broke b) t
+  escape_break : (b : ℕ) (t : List ℕ) → is_line_break b ≡ true → cooked n Escape (b ∷ t) ≡ cooked n (Broke b) t
   escape_break b t e = cooked_more n Escape b t ∙ rw e refl
 
-  escape_other : (b : ℕ) (t : List ℕ) → is_break b ≡ false → cooked n Escape (b ∷ t) ≡ unblank b ∷ cooked n Text t
+  escape_other : (b : ℕ) (t : List ℕ) → is_line_break b ≡ false → cooked n Escape (b ∷ t) ≡ unblanked b ∷ cooked n Text t
   escape_other b t e = cooked_more n Escape b t ∙ rw e refl
 
-  break_first : (b : ℕ) (t : List ℕ) → is_break b ≡ true → cooked n Text (b ∷ t) ≡ n ∷ cooked n (Broke b) t
+  break_first : (b : ℕ) (t : List ℕ) → is_line_break b ≡ true → cooked n Text (b ∷ t) ≡ n ∷ cooked n (Broke b) t
   break_first b t e =
       let other : (b == 92) ≡ false = grind (arith, nat_tests) in
       cooked_more n Text b t ∙ rw (other, e) refl
 
-  other_first : (b : ℕ) (t : List ℕ) → (b == 92) ≡ false → is_break b ≡ false → cooked n Text (b ∷ t) ≡ unblank b ∷ cooked n Text t
+  other_first : (b : ℕ) (t : List ℕ) → (b == 92) ≡ false → is_line_break b ≡ false → cooked n Text (b ∷ t) ≡ unblanked b ∷ cooked n Text t
   other_first b t e f = cooked_more n Text b t ∙ rw (e, f) refl
 
   pub cooked_by_front : CookedByFront n
@@ -77,8 +77,8 @@ no_return (c ∷ cs) h = elim (cases_Bool (c == 92 || c == 93)) [
   | inl e ↦ rw e refl
   | inr e ↦
       let kept = (and_parts (is_kept c) (list_all is_kept cs) h).0 in
-      let other : (c == 13) ≡ false = not-true _ (and_parts (not (c == 13)) (unblank c == c) kept).0 in
-      let no : (is_break c && not (c == 10)) ≡ false = grind (arith, nat_tests) in
+      let other : (c == 13) ≡ false = not-true _ (and_parts (not (c == 13)) (unblanked c == c) kept).0 in
+      let no : (is_line_break c && not (c == 10)) ≡ false = grind (arith, nat_tests) in
       rw e no
 ]
 
@@ -86,24 +86,24 @@ pub cooking_undoes_escaping : CookingUndoesEscaping
 cooking_undoes_escaping [] h = cooked_end 10 Text
 cooking_undoes_escaping (c ∷ cs) h =
     let parts = and_parts (is_kept c) (list_all is_kept cs) h in
-    let kept = and_parts (not (c == 13)) (unblank c == c) parts.0 in
-    let same : unblank c ≡ c = eqb-true (unblank c) c kept.1 in
+    let kept = and_parts (not (c == 13)) (unblanked c == c) parts.0 in
+    let same : unblanked c ≡ c = eqb-true (unblanked c) c kept.1 in
     let other : (c == 13) ≡ false = not-true _ kept.0 in
     let later : cooked 10 Text (escaped cs) ≡ cs = cooking_undoes_escaping cs parts.1 in
     let front : CookedByFront 10 = cooked_by_front 10 in
     elim (cases_Bool (c == 92 || c == 93)) [
       | inl e ↦
-          let no : is_break c ≡ false = grind (arith, nat_tests) in
+          let no : is_line_break c ≡ false = grind (arith, nat_tests) in
           rw e (front.escaped_other c (escaped cs) no ∙ ap (λ x. x ∷ cooked 10 Text (escaped cs)) same ∙ ap (λ xs. c ∷ xs) later)
       | inr e ↦ rw e (elim (cases_Bool (c == 10)) [
         | inl f ↦
             let is : c ≡ 10 = eqb-true c 10 f in
-            let breaks : is_break c ≡ true = rw is refl in
+            let breaks : is_line_break c ≡ true = rw is refl in
             let ends : goes_on c (escaped cs) ≡ false = rw is (no_return cs parts.1) in
             front.single c (escaped cs) breaks ends ∙ ap (λ x. x ∷ cooked 10 Text (escaped cs)) (sym is) ∙ ap (λ xs. c ∷ xs) later
         | inr f ↦
             let plain : (c == 92) ≡ false = (or_parts (c == 92) (c == 93) e).0 in
-            let no : is_break c ≡ false = rw (f, other) refl in
+            let no : is_line_break c ≡ false = rw (f, other) refl in
             front.other c (escaped cs) plain no ∙ ap (λ x. x ∷ cooked 10 Text (escaped cs)) same ∙ ap (λ xs. c ∷ xs) later
       ])
     ]

@@ -4,8 +4,8 @@ use Rattle.std.proofs.lemmas.Bool.{cases_Bool, cases_lt, eqb-false}
 use Rattle.std.proofs.lemmas.List.{drop-append-le, take_all}
 use Rattle.std.specs.List.{flat_map}
 use Rattle.go_sgf.specs.Record.{Property, Trees, none, tree, AreTrees, depth}
-use Rattle.go_sgf.specs.Spelling.{Part, closing, text, after_space, is_space, node_parts, parts, SpellsParts}
-use Rattle.go_sgf.specs.Stands.{State, Place, step, run, stands, opened, whole, IsUnfinished, IsWhole}
+use Rattle.go_sgf.specs.Spelling.{Part, closing, text, without_space, is_space, node_parts, parts, SpellsParts}
+use Rattle.go_sgf.specs.Stands.{State, StateAt, step, run, stands, opened, whole, IsUnfinished, IsWhole}
 use Rattle.go_sgf.specs.inner.Outcome.{outcome, outcome_on, IsWithin}
 use Rattle.go_sgf.specs.inner.Reads.{begins_space}
 use Rattle.go_sgf.specs.Laws.{FrontsStand}
@@ -25,13 +25,13 @@ pub record WholeIs (s : State) (d : ℕ) (b r : List ℕ) : Type 0 where
   pub within : at ≤ length b
   pub before : (k : ℕ) → k < at → IsUnfinished (run s d (take k b))
   pub done : IsWhole (run s d (take at b))
-  pub left : after_space (drop at b) ≡ r
+  pub left : without_space (drop at b) ≡ r
 
 module _ (limit : ℕ) where
-  whole_here : (s : State) (d c : ℕ) (cs r : List ℕ) (p : Place) → s ≢ whole → step s d c ≡ Some p → p.0 ≡ whole → after_space cs ≡ r →
+  whole_here : (s : State) (d c : ℕ) (cs r : List ℕ) (p : StateAt) → s ≢ whole → step s d c ≡ Some p → p.0 ≡ whole → without_space cs ≡ r →
       WholeIs s d (c ∷ cs) r
   whole_here s d c cs r p ne e done left =
-      let Q : Option Place → Type 0 = λ o. IsWhole o in
+      let Q : Option StateAt → Type 0 = λ o. IsWhole o in
       record {
         at = 1;
         within = omega arith;
@@ -44,9 +44,9 @@ module _ (limit : ℕ) where
       before zero less = ne
       before (suc k) less = absurd (omega arith)
 
-  whole_later : (s : State) (d c : ℕ) (cs r : List ℕ) (p : Place) → s ≢ whole → step s d c ≡ Some p → WholeIs p.0 p.1 cs r → WholeIs s d (c ∷ cs) r
+  whole_later : (s : State) (d c : ℕ) (cs r : List ℕ) (p : StateAt) → s ≢ whole → step s d c ≡ Some p → WholeIs p.0 p.1 cs r → WholeIs s d (c ∷ cs) r
   whole_later s d c cs r p ne e i =
-      let Q : Option Place → Type 0 = λ o. IsWhole o in
+      let Q : Option StateAt → Type 0 = λ o. IsWhole o in
       record {
         at = suc i.at;
         within = let h = i.within in omega arith;
@@ -58,10 +58,10 @@ module _ (limit : ℕ) where
       before : (k : ℕ) → k < suc i.at → IsUnfinished (run s d (take k (c ∷ cs)))
       before zero less = ne
       before (suc k) less =
-          let P : Option Place → Type 0 = λ o. IsUnfinished o in
+          let P : Option StateAt → Type 0 = λ o. IsUnfinished o in
           subst P (sym (run_more limit s d c (take k cs) p e)) (i.before k (omega arith))
 
-  by_step : (s : State) (d c : ℕ) (cs r : List ℕ) → s ≢ whole → (o : Option Place) → step s d c ≡ o → MayLead d o →
+  by_step : (s : State) (d c : ℕ) (cs r : List ℕ) → s ≢ whole → (o : Option StateAt) → step s d c ≡ o → MayLead d o →
       outcome_on limit o (suc (length cs)) cs (λ p. outcome limit p.0 p.1 cs) ≡ Ok r →
       ((s' : State) (d' : ℕ) → s' ≢ whole → IsWithin limit d' → outcome limit s' d' cs ≡ Ok r → WholeIs s' d' cs r) →
       d ≤ limit → WholeIs s d (c ∷ cs) r
@@ -70,7 +70,7 @@ module _ (limit : ℕ) where
     | inl too_deep ↦ let e' : Err (TooDeep (suc (length cs))) ≡ Ok r = rw too_deep at e in cc
     | inr shallow ↦ elim (cases_Bool (p.1 == 0)) [
       | inl end ↦
-          let e' : Ok (after_space cs) ≡ Ok r = rw (shallow, end) at e in
+          let e' : Ok (without_space cs) ≡ Ok r = rw (shallow, end) at e in
           whole_here s d c cs r p ne step_is (leads.all (eqb-true p.1 0 end)) (cc)
       | inr some ↦
           let e' : outcome limit p.0 p.1 cs ≡ Ok r = rw (shallow, some) at e in
@@ -90,7 +90,7 @@ module _ (limit : ℕ) where
 
 -- ---- a tree's text
 
-after_space-append : (b xs : List ℕ) → begins_space xs ≡ false → after_space (b ++ xs) ≡ after_space b ++ xs
+after_space-append : (b xs : List ℕ) → begins_space xs ≡ false → without_space (b ++ xs) ≡ without_space b ++ xs
 after_space-append [] xs e = after_space-same xs e
 after_space-append (c ∷ cs) xs e = elim (cases_Bool (is_space c)) [
   | inl w ↦ rw (after_space_more c cs w, after_space_more c (cs ++ xs) w) (after_space-append cs xs e)
@@ -104,10 +104,10 @@ SpellsParts-longer (p ∷ ps) b r xs e h =
     (h.0 ++ xs, after_space-append b xs e ∙ ap (λ ys. ys ++ xs) h.1 ∙ append_assoc (text p) h.0 xs, SpellsParts-longer ps h.0 r xs e h.2)
 
 -- a text that ends with `)` isn't white space
-ends_some : (b : List ℕ) → after_space (b ++ (41 ∷ [])) ≢ []
+ends_some : (b : List ℕ) → without_space (b ++ (41 ∷ [])) ≢ []
 ends_some b e =
-    let is : after_space b ++ (41 ∷ []) ≡ [] = sym (after_space-append b (41 ∷ []) refl) ∙ e in
-    push_some (after_space b) 41 is
+    let is : without_space b ++ (41 ∷ []) ≡ [] = sym (after_space-append b (41 ∷ []) refl) ∙ e in
+    push_some (without_space b) 41 is
 
 inner_outcome : (nodes : List (List Property)) (children : Trees) (inner : List ℕ) → AreTrees (tree nodes children none) →
     SpellsParts inner (flat_map node_parts nodes ++ parts children) [] →
@@ -128,7 +128,7 @@ ends_there inner i = elim (cases_lt (length inner) i.at) [
   | inl past ↦ let h = i.within in omega (arith, length-append inner (41 ∷ []))
   | inr before ↦
       let rest : drop i.at (inner ++ (41 ∷ [])) ≡ drop i.at inner ++ (41 ∷ []) = drop-append-le i.at inner (41 ∷ []) before in
-      absurd (ends_some (drop i.at inner) (sym (ap after_space rest) ∙ i.left))
+      absurd (ends_some (drop i.at inner) (sym (ap without_space rest) ∙ i.left))
 ]
 
 fronts : (b : List ℕ) (i : WholeIs opened 1 b []) → i.at ≡ length b → (k : ℕ) → 0 < k →

@@ -4,8 +4,8 @@ use Rattle.std.proofs.lemmas.Bool.Decides.{nat_tests}
 use Rattle.std.proofs.lemmas.List.{append-nil}
 use Rattle.std.specs.List.{flat_map, AllByRecursion}
 use Rattle.go_sgf.specs.Record.{Property, Trees, IsProperty, AreTrees, depth}
-use Rattle.go_sgf.specs.Spelling.{Part, opening, closing, node_parts, parts, after_space, begins_with, SpellsParts}
-use Rattle.go_sgf.specs.Stands.{Place, opened, closed}
+use Rattle.go_sgf.specs.Spelling.{Part, opening, closing, node_parts, parts, without_space, is_first, SpellsParts}
+use Rattle.go_sgf.specs.Stands.{StateAt, opened, closed}
 use Rattle.go_sgf.specs.inner.Outcome.{outcome, outcome_after, IsWithin, here}
 use Rattle.go_sgf.specs.inner.Reads.{ReadsNodes, ReadsTree}
 use Rattle.go_sgf.specs.PartsIn.{nodes_at, parts_in}
@@ -47,7 +47,7 @@ depth-push (x ∷ ts) t n h k =
 
 -- ---- steps
 
-abbrev opened_at : ℕ → Option Place
+abbrev opened_at : ℕ → Option StateAt
 opened_at d = Some (opened, d)
 
 module _ (limit : ℕ) where
@@ -70,13 +70,13 @@ module _ (limit : ℕ) where
       let same : (suc limit == suc limit) ≡ true = eq-eqb (suc limit) (suc limit) refl in
       rw e (machine.outcome_more limit closed limit 40 inside ∙ rw same refl)
 
-  pub close_stops : (d : ℕ) (ps : List Part) (b rest : List ℕ) → SpellsParts b ps rest → begins_with 40 rest ≡ false → begins_with 41 rest ≡ false →
+  pub close_stops : (d : ℕ) (ps : List Part) (b rest : List ℕ) → SpellsParts b ps rest → is_first 40 rest ≡ false → is_first 41 rest ≡ false →
       outcome limit closed d rest ≡ Err (here rest)
   close_stops d ps b rest h e f = machine.closed_stops limit d rest (no_space_after ps b rest h) e f
 
   -- past the `)` of the tree itself
   pub closes : (d : ℕ) → IsWithin limit d → (b behind : List ℕ) → b ≡ 41 ∷ behind →
-      outcome limit closed d b ≡ outcome_after limit d (after_space behind)
+      outcome limit closed d b ≡ outcome_after limit d (without_space behind)
   closes zero h b behind e = absurd (omega arith)
   closes (suc zero) h b behind e =
       let shallow : (0 == suc limit) ≡ false = grind (arith, nat_tests) in
@@ -132,20 +132,20 @@ tree_more d h less b ns ts ts' rest inside t more far e f r place =
           ap (λ ps. flat_map node_parts ns ++ ps) (parts-push ts t) ∙ sym (append_assoc (flat_map node_parts ns) (parts (chain ts)) tail) in
           let P : List Part → Type 0 = λ ps. SpellsParts b ps more in
           subst P (sym whole)
-          (SpellsParts-append (flat_map node_parts ns ++ parts (chain ts)) tail b rest more far.spelling (inside, ap after_space f, r.spelling));
+          (SpellsParts-append (flat_map node_parts ns ++ parts (chain ts)) tail b rest more far.spelling (inside, ap without_space f, r.spelling));
       place = far.place ∙ into_child MAX_DEPTH d h less rest inside f ∙ place ∙ out_of_child MAX_DEPTH d h.0 more;
     })
 
 -- behind the last child
 pub tree_whole : (d : ℕ) (b : List ℕ) (ns : List (List Property)) (ts : List Grown) (at rest behind : List ℕ) → ReadsNodes b ns at → TreeSoFar d b ns ts rest →
-    rest ≡ 41 ∷ behind → ReadsTree d b (ns, chain ts) (after_space behind)
+    rest ≡ 41 ∷ behind → ReadsTree d b (ns, chain ts) (without_space behind)
 tree_whole d b ns ts at rest behind r far e = record {
   some = r.some;
   nodes = r.fit;
   children = far.fit;
   nesting = far.nesting;
   spelling =
-      let P : List Part → Type 0 = λ ps. SpellsParts b ps (after_space behind) in
+      let P : List Part → Type 0 = λ ps. SpellsParts b ps (without_space behind) in
       subst P (append_assoc (flat_map node_parts ns) (parts (chain ts)) (closing ∷ []))
-      (SpellsParts-append (flat_map node_parts ns ++ parts (chain ts)) (closing ∷ []) b rest (after_space behind) far.spelling (behind, ap after_space e, refl));
+      (SpellsParts-append (flat_map node_parts ns ++ parts (chain ts)) (closing ∷ []) b rest (without_space behind) far.spelling (behind, ap without_space e, refl));
 }

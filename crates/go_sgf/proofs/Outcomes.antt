@@ -2,11 +2,11 @@
 use Rattle.std.proofs.Common.{◌≡◌, ◌≢◌, ◌≤◌, ◌<◌, ◌+◌, inl, inr, ℕ, suc, List, [], ◌∷◌, ◌++◌, Bool, true, false, Option, Some, None, refl, sym, ap, ◌∙◌, map, append_assoc, arith}
 use Rattle.std.proofs.lemmas.Bool.{or_cases}
 use Rattle.std.specs.List.{flat_map, AllByRecursion}
-use Rattle.go_sgf.specs.Record.{Property, Trees, none, tree, is_upper, is_lower, IsValue, IsProperty, AreTrees, depth}
-use Rattle.go_sgf.specs.Spelling.{closing, value, property_parts, node_parts, parts, after_space, SpellsParts}
+use Rattle.go_sgf.specs.Record.{Property, Trees, none, tree, is_upper_byte, is_lower, IsValue, IsProperty, AreTrees, depth}
+use Rattle.go_sgf.specs.Spelling.{closing, value_part, property_parts, node_parts, parts, without_space, SpellsParts}
 use Rattle.go_sgf.specs.Stands.{State, opened, in_node, named, after, closed}
 use Rattle.go_sgf.specs.inner.Outcome.{outcome, outcome_after, IsWithin}
-use Rattle.go_sgf.specs.PartsIn.{begins_letter}
+use Rattle.go_sgf.specs.PartsIn.{is_letter_first}
 use Rattle.go_sgf.proofs.Growing.{closes, out_of_child}
 use Rattle.go_sgf.proofs.Machine as machine
 use Rattle.go_sgf.proofs.Parts.{SpellsParts-split, bracket_no_letter, name_letter}
@@ -25,31 +25,31 @@ tree_state (Some o) = node_state o
 module _ (limit : ℕ) where
   -- ---- a node
 
-  state_white : (o : Option Bool) (d : ℕ) → IsWithin limit d → (b : List ℕ) → outcome limit (tree_state o) d b ≡ outcome limit (tree_state o) d (after_space b)
+  state_white : (o : Option Bool) (d : ℕ) → IsWithin limit d → (b : List ℕ) → outcome limit (tree_state o) d b ≡ outcome limit (tree_state o) d (without_space b)
   state_white None = machine.closed_white limit
   state_white (Some true) = machine.after_value_white limit
   state_white (Some false) = machine.in_node_white limit
 
-  values_outcome : (d : ℕ) → IsWithin limit d → (vs : List (List ℕ)) (b r : List ℕ) → AllByRecursion IsValue vs → SpellsParts b (map value vs) r →
+  values_outcome : (d : ℕ) → IsWithin limit d → (vs : List (List ℕ)) (b r : List ℕ) → AllByRecursion IsValue vs → SpellsParts b (map value_part vs) r →
       outcome limit after d b ≡ outcome limit after d r
   values_outcome d h [] b r i s = machine.after_value_white limit d h b ∙ ap (outcome limit after d) s
   values_outcome d h (v ∷ vs) b r i s =
       machine.after_value_white limit d h b
-      ∙ value_passed limit d h (after_space b) v (v ++ (93 ∷ s.0)) s.0 (s.1 ∙ ap (λ xs. 91 ∷ xs) (append_assoc v (93 ∷ []) s.0)) refl i.0
+      ∙ value_passed limit d h (without_space b) v (v ++ (93 ∷ s.0)) s.0 (s.1 ∙ ap (λ xs. 91 ∷ xs) (append_assoc v (93 ∷ []) s.0)) refl i.0
       ∙ sym (machine.after_value_white limit d h s.0)
       ∙ values_outcome d h vs s.0 r i.1 s.2
 
-  first_value : (d : ℕ) → IsWithin limit d → (vs : List (List ℕ)) (b r : List ℕ) → vs ≢ [] → SpellsParts b (map value vs) r →
+  first_value : (d : ℕ) → IsWithin limit d → (vs : List (List ℕ)) (b r : List ℕ) → vs ≢ [] → SpellsParts b (map value_part vs) r →
       outcome limit named d b ≡ outcome limit after d b
   first_value d h [] b r some s = absurd (some refl)
   first_value d h (v ∷ vs) b r some s =
-      values_begin limit d h b (after_space b) (bracket_no_letter b ((v ++ (93 ∷ [])) ++ s.0) s.1) refl (rw s.1 refl)
+      values_begin limit d h b (without_space b) (bracket_no_letter b ((v ++ (93 ∷ [])) ++ s.0) s.1) refl (rw s.1 refl)
       ∙ sym (machine.after_value_white limit d h b)
 
-  letter_in_node : (d : ℕ) (o : Bool) (b : List ℕ) → begins_letter b ≡ true → outcome limit (node_state o) d b ≡ outcome limit in_node d b
+  letter_in_node : (d : ℕ) (o : Bool) (b : List ℕ) → is_letter_first b ≡ true → outcome limit (node_state o) d b ≡ outcome limit in_node d b
   letter_in_node d false b e = refl
   letter_in_node d true [] e = cc
-  letter_in_node d true (c ∷ cs) e = machine.one_step limit after in_node d c cs (elim (or_cases (is_upper c) (is_lower c) e) [
+  letter_in_node d true (c ∷ cs) e = machine.one_step limit after in_node d c cs (elim (or_cases (is_upper_byte c) (is_lower c) e) [
     | inl u ↦ machine.outside_upper after d c u ∙ sym (machine.outside_upper in_node d c u)
     | inr l ↦ machine.outside_lower after d c l ∙ sym (machine.outside_lower in_node d c l)
   ])
@@ -72,7 +72,7 @@ module _ (limit : ℕ) where
       (later.0, property_outcome d h o p b split.0 i.0 split.1 ∙ later.1)
 
   -- past a `;`
-  semicolon_outcome : (d : ℕ) → IsWithin limit d → (o : Bool) (b more : List ℕ) → after_space b ≡ 59 ∷ more →
+  semicolon_outcome : (d : ℕ) → IsWithin limit d → (o : Bool) (b more : List ℕ) → without_space b ≡ 59 ∷ more →
       outcome limit (node_state o) d b ≡ outcome limit in_node d more
   semicolon_outcome d h true b more e =
       state_white (Some true) d h b ∙ ap (outcome limit after d) e ∙ machine.goes_on limit after d 59 more in_node d refl h
@@ -104,7 +104,7 @@ module _ (limit : ℕ) where
   -- ---- a tree
 
   -- past a `(`
-  opening_outcome : (d : ℕ) → IsWithin limit d → d < limit → (o : Option Bool) (b more : List ℕ) → after_space b ≡ 40 ∷ more →
+  opening_outcome : (d : ℕ) → IsWithin limit d → d < limit → (o : Option Bool) (b more : List ℕ) → without_space b ≡ 40 ∷ more →
       outcome limit (tree_state o) d b ≡ outcome limit opened (suc d) more
   opening_outcome d h less o b more e =
       state_white o d h b ∙ ap (outcome limit (tree_state o) d) e ∙ opens o
@@ -123,7 +123,7 @@ module _ (limit : ℕ) where
   closing_outcome : (d : ℕ) → IsWithin limit d → (o : Option Bool) (b r : List ℕ) → SpellsParts b (closing ∷ []) r →
       outcome limit (tree_state o) d b ≡ outcome_after limit d r
   closing_outcome d h o b r s =
-      state_white o d h b ∙ closing_same d o (after_space b) s.0 s.1 ∙ closes limit d h (after_space b) s.0 s.1
+      state_white o d h b ∙ closing_same d o (without_space b) s.0 s.1 ∙ closes limit d h (without_space b) s.0 s.1
       ∙ ap (outcome_after limit d) s.2
 
   -- children, one after another
@@ -137,10 +137,10 @@ module _ (limit : ℕ) where
       let heads = nodes_outcome (suc d) within nodes s.0 split.0 i.0 i.1 split.1 in
       let inner = children_outcome children (suc d) within (Some heads.0) split.0 rest.0 i.2 (omega arith) rest.1 in
       let behind = rest.2 in
-      let closed_is = closing_outcome (suc d) within inner.0 rest.0 (after_space behind.0) (behind.0, behind.1, refl) in
-      let after_is : outcome_after limit (suc d) (after_space behind.0) ≡ outcome limit closed d (after_space behind.0) =
+      let closed_is = closing_outcome (suc d) within inner.0 rest.0 (without_space behind.0) (behind.0, behind.1, refl) in
+      let after_is : outcome_after limit (suc d) (without_space behind.0) ≡ outcome limit closed d (without_space behind.0) =
       let more : suc d ≡ d + 1 = omega arith in
-      ap (λ k. outcome_after limit k (after_space behind.0)) more ∙ out_of_child limit d h.0 (after_space behind.0) in
+      ap (λ k. outcome_after limit k (without_space behind.0)) more ∙ out_of_child limit d h.0 (without_space behind.0) in
       let others = children_outcome later d h None behind.0 r i.3 (omega arith) behind.2 in (
         others.0,
         opening_outcome d h (omega arith) o b s.0 s.1 ∙ heads.1 ∙ inner.1 ∙ closed_is ∙ after_is

@@ -4,12 +4,12 @@ use Rattle.std.proofs.lemmas.Grind.{flat_map-append}
 use Rattle.std.proofs.lemmas.List.{append-nil, map-append, length-append}
 use Rattle.std.specs.Prelude.{IfOk}
 use Rattle.std.specs.List.{list_all, list_any, flat_map, AllByRecursion}
-use Rattle.go_sgf.specs.Record.{Property, is_letter, is_upper, IsValue, IsName, IsProperty}
-use Rattle.go_sgf.specs.Spelling.{Part, value, property_parts, node_parts, after_space, begins_with, SpellsParts}
+use Rattle.go_sgf.specs.Record.{Property, is_letter_byte, is_upper_byte, IsValue, IsName, IsProperty}
+use Rattle.go_sgf.specs.Spelling.{Part, value_part, property_parts, node_parts, without_space, is_first, SpellsParts}
 use Rattle.go_sgf.specs.Stands.{opened, in_node, named, gap, in_value, after, closed}
 use Rattle.go_sgf.specs.inner.Outcome.{outcome, Meets, IsWithin, here}
 use Rattle.go_sgf.specs.inner.Reads.{ReadsValues, ReadsProperty, ReadsNode, ReadsNodes}
-use Rattle.go_sgf.specs.PartsIn.{begins_letter}
+use Rattle.go_sgf.specs.PartsIn.{is_letter_first}
 use Rattle.go_sgf.specs.declared.fault.Fault.{Fault}
 use Rattle.go_sgf.specs.declared.fault.Fault.TheVariants.{Memory, End, Unexpected, TooDeep}
 use Rattle.go_sgf.specs.declared.limits.TheConstants.{MAX_DEPTH}
@@ -58,35 +58,35 @@ shorter c b inside rest e h = omega (arith, ap length e)
 
 -- ---- values
 
--- the bytes of a value behind `[` up to `]`
-pub value_spelled : (b v inside more : List ℕ) → b ≡ 91 ∷ inside → inside ≡ v ++ (93 ∷ more) → SpellsParts b (value v ∷ []) (after_space more)
+-- the bytes of a value_part behind `[` up to `]`
+pub value_spelled : (b v inside more : List ℕ) → b ≡ 91 ∷ inside → inside ≡ v ++ (93 ∷ more) → SpellsParts b (value_part v ∷ []) (without_space more)
 value_spelled b v inside more e f =
-    (more, ap after_space e ∙ ap (λ xs. 91 ∷ xs) (f ∙ sym (append_assoc v (93 ∷ []) more)), refl)
+    (more, ap without_space e ∙ ap (λ xs. 91 ∷ xs) (f ∙ sym (append_assoc v (93 ∷ []) more)), refl)
 
-pub values_shorter : (b v inside more : List ℕ) → b ≡ 91 ∷ inside → inside ≡ v ++ (93 ∷ more) → length (after_space more) < length b
+pub values_shorter : (b v inside more : List ℕ) → b ≡ 91 ∷ inside → inside ≡ v ++ (93 ∷ more) → length (without_space more) < length b
 values_shorter b v inside more e f =
     omega (arith, length-after_space more, ap length e, ap length f, length-append v (93 ∷ more))
 
 module _ (limit : ℕ) where
-  bracket_is_after : (d : ℕ) (b : List ℕ) → begins_with 91 b ≡ true → outcome limit gap d b ≡ outcome limit after d b
+  bracket_is_after : (d : ℕ) (b : List ℕ) → is_first 91 b ≡ true → outcome limit gap d b ≡ outcome limit after d b
   bracket_is_after d [] e = cc
   bracket_is_after d (c ∷ cs) e =
       let is : c ≡ 91 = eqb-true c 91 e in
       machine.one_step limit gap after d c cs (rw is refl)
 
-  pub values_begin : (d : ℕ) → IsWithin limit d → (b rest : List ℕ) → begins_letter b ≡ false → rest ≡ after_space b →
-      begins_with 91 rest ≡ true → outcome limit named d b ≡ outcome limit after d rest
+  pub values_begin : (d : ℕ) → IsWithin limit d → (b rest : List ℕ) → is_letter_first b ≡ false → rest ≡ without_space b →
+      is_first 91 rest ≡ true → outcome limit named d b ≡ outcome limit after d rest
   values_begin d h b rest e f g =
       machine.named_white limit d h b e ∙ ap (outcome limit gap d) (sym f) ∙ bracket_is_after d rest g
 
-  pub values_stop : (d : ℕ) → IsWithin limit d → (b rest : List ℕ) → begins_letter b ≡ false → rest ≡ after_space b →
-      begins_with 91 rest ≡ false → outcome limit named d b ≡ Err (here rest)
+  pub values_stop : (d : ℕ) → IsWithin limit d → (b rest : List ℕ) → is_letter_first b ≡ false → rest ≡ without_space b →
+      is_first 91 rest ≡ false → outcome limit named d b ≡ Err (here rest)
   values_stop d h b rest e f g =
       machine.named_white limit d h b e ∙ ap (outcome limit gap d) (sym f)
       ∙ machine.gap_stops limit d rest (rw f (no_space_first b)) g
 
   pub value_passed : (d : ℕ) → IsWithin limit d → (b v inside more : List ℕ) → b ≡ 91 ∷ inside → inside ≡ v ++ (93 ∷ more) → IsValue v →
-      outcome limit after d b ≡ outcome limit after d (after_space more)
+      outcome limit after d b ≡ outcome limit after d (without_space more)
   value_passed d h b v inside more e f i =
       ap (outcome limit after d) e ∙ machine.goes_on limit after d 91 inside in_value d refl h
       ∙ (ap (outcome limit in_value d) f ∙ machine.value_outcome limit d h false v (93 ∷ more) i)
@@ -99,12 +99,12 @@ module _ (limit : ℕ) where
 
 -- values read so far
 pub record ValuesSoFar (b : List ℕ) (vs : List (List ℕ)) (rest : List ℕ) : Type 0 where
-  pub some : vs ≡ [] → begins_with 91 rest ≡ true
+  pub some : vs ≡ [] → is_first 91 rest ≡ true
   pub inside : AllByRecursion IsValue vs
-  pub spelling : SpellsParts b (map value vs) rest
+  pub spelling : SpellsParts b (map value_part vs) rest
   pub place : (d : ℕ) → IsWithin MAX_DEPTH d → outcome MAX_DEPTH named d b ≡ outcome MAX_DEPTH after d rest
 
-pub values_first : (b rest : List ℕ) → begins_letter b ≡ false → rest ≡ after_space b → begins_with 91 rest ≡ true → ValuesSoFar b [] rest
+pub values_first : (b rest : List ℕ) → is_letter_first b ≡ false → rest ≡ without_space b → is_first 91 rest ≡ true → ValuesSoFar b [] rest
 values_first b rest e f g = record {
   some = λ _. g;
   inside = tt;
@@ -113,38 +113,38 @@ values_first b rest e f g = record {
 }
 
 pub values_more : (b : List ℕ) (vs vs' : List (List ℕ)) (rest v inside more : List ℕ) → ValuesSoFar b vs rest → vs' ≡ vs ++ v ∷ [] →
-    rest ≡ 91 ∷ inside → inside ≡ v ++ (93 ∷ more) → IsValue v → ValuesSoFar b vs' (after_space more)
+    rest ≡ 91 ∷ inside → inside ≡ v ++ (93 ∷ more) → IsValue v → ValuesSoFar b vs' (without_space more)
 values_more b vs vs' rest v inside more far e f g i = record {
   some = λ empty. absurd (push_some vs v (sym e ∙ empty));
   inside = rw e (AllByRecursion-push IsValue vs v far.inside i);
   spelling =
-      let P : List Part → Type 0 = λ ps. SpellsParts b ps (after_space more) in
-      subst P (sym (map-push value vs vs' v e))
-      (SpellsParts-append (map value vs) (value v ∷ []) b rest (after_space more) far.spelling (value_spelled rest v inside more f g));
+      let P : List Part → Type 0 = λ ps. SpellsParts b ps (without_space more) in
+      subst P (sym (map-push value_part vs vs' v e))
+      (SpellsParts-append (map value_part vs) (value_part v ∷ []) b rest (without_space more) far.spelling (value_spelled rest v inside more f g));
   place = λ d h. far.place d h ∙ value_passed MAX_DEPTH d h rest v inside more f g i;
 }
 
-pub values_whole : (b : List ℕ) (vs : List (List ℕ)) (rest : List ℕ) → ValuesSoFar b vs rest → begins_with 91 rest ≡ false → ReadsValues b vs rest
+pub values_whole : (b : List ℕ) (vs : List (List ℕ)) (rest : List ℕ) → ValuesSoFar b vs rest → is_first 91 rest ≡ false → ReadsValues b vs rest
 values_whole b vs rest far e = record {
   some = λ empty. let h = far.some empty in cc;
   inside = far.inside;
   spelling = far.spelling;
 }
 
-pub values_passed : (b : List ℕ) (vs : List (List ℕ)) (rest : List ℕ) → ValuesSoFar b vs rest → begins_with 91 rest ≡ false →
+pub values_passed : (b : List ℕ) (vs : List (List ℕ)) (rest : List ℕ) → ValuesSoFar b vs rest → is_first 91 rest ≡ false →
     (d : ℕ) → IsWithin MAX_DEPTH d → outcome MAX_DEPTH named d b ≡ outcome MAX_DEPTH in_node d rest
 values_passed b vs rest far e d h =
-    far.place d h ∙ machine.after_is_in_node MAX_DEPTH d rest (no_space_after (map value vs) b rest far.spelling) e
+    far.place d h ∙ machine.after_is_in_node MAX_DEPTH d rest (no_space_after (map value_part vs) b rest far.spelling) e
 
 -- ---- properties
 
 module _ (limit : ℕ) where
-  pub property_begins : (d : ℕ) → IsWithin limit d → (b ds rest : List ℕ) → b ≡ ds ++ rest → list_all is_letter ds ≡ true →
-      list_any is_upper ds ≡ true → outcome limit in_node d b ≡ outcome limit named d rest
+  pub property_begins : (d : ℕ) → IsWithin limit d → (b ds rest : List ℕ) → b ≡ ds ++ rest → list_all is_letter_byte ds ≡ true →
+      list_any is_upper_byte ds ≡ true → outcome limit in_node d b ≡ outcome limit named d rest
   property_begins d h b ds rest e f g = ap (outcome limit in_node d) e ∙ machine.name_outcome limit d h ds rest f g
 
-  pub property_stops : (d : ℕ) → IsWithin limit d → (b ds rest : List ℕ) → b ≡ ds ++ rest → list_all is_letter ds ≡ true →
-      list_any is_upper ds ≡ false → begins_letter b ≡ true → begins_letter rest ≡ false → outcome limit in_node d b ≡ Err (here rest)
+  pub property_stops : (d : ℕ) → IsWithin limit d → (b ds rest : List ℕ) → b ≡ ds ++ rest → list_all is_letter_byte ds ≡ true →
+      list_any is_upper_byte ds ≡ false → is_letter_first b ≡ true → is_letter_first rest ≡ false → outcome limit in_node d b ≡ Err (here rest)
   property_stops d h b ds rest e f g k l =
       ap (outcome limit in_node d) e ∙ machine.letters_stop limit d h ds rest f g (rw (← e) k) l
 
@@ -155,13 +155,13 @@ name_long (c ∷ cs) h = omega arith
 pub property_shorter : (b : List ℕ) (p : Property) (rest : List ℕ) → ReadsProperty b p rest → length rest < length b
 property_shorter b p rest r =
     let long : 1 ≤ length p.name = name_long p.name r.fit.named in
-    let less : length rest ≤ length r.spelling.0 = rest_le (map value p.values) r.spelling.0 rest r.spelling.2 in
-    let whole : length (after_space b) ≡ length p.name + length r.spelling.0 = ap length r.spelling.1 ∙ length-append p.name r.spelling.0 in
+    let less : length rest ≤ length r.spelling.0 = rest_le (map value_part p.values) r.spelling.0 rest r.spelling.2 in
+    let whole : length (without_space b) ≡ length p.name + length r.spelling.0 = ap length r.spelling.1 ∙ length-append p.name r.spelling.0 in
     omega (arith, length-after_space b)
 
 -- a name, and the values behind it
-pub property_whole : (b n behind : List ℕ) (vs : List (List ℕ)) (rest : List ℕ) → b ≡ n ++ behind → list_all is_letter n ≡ true → list_any is_upper n ≡ true →
-    begins_letter b ≡ true → ReadsValues behind vs rest → (p : Property) × ReadsProperty b p rest
+pub property_whole : (b n behind : List ℕ) (vs : List (List ℕ)) (rest : List ℕ) → b ≡ n ++ behind → list_all is_letter_byte n ≡ true → list_any is_upper_byte n ≡ true →
+    is_letter_first b ≡ true → ReadsValues behind vs rest → (p : Property) × ReadsProperty b p rest
 property_whole b n behind vs rest e f g letter r = (
   record { name = n; values = vs },
   record {
@@ -176,7 +176,7 @@ pub record NodeSoFar (b : List ℕ) (ps : List Property) (rest : List ℕ) : Typ
   pub spelling : SpellsParts b (flat_map property_parts ps) rest
   pub place : (d : ℕ) → IsWithin MAX_DEPTH d → outcome MAX_DEPTH in_node d b ≡ outcome MAX_DEPTH in_node d rest
 
-pub node_first : (b rest : List ℕ) → rest ≡ after_space b → NodeSoFar b [] rest
+pub node_first : (b rest : List ℕ) → rest ≡ without_space b → NodeSoFar b [] rest
 node_first b rest e = record {
   fit = tt;
   spelling = sym e;
@@ -197,18 +197,18 @@ node_more b ps ps' rest p more far e r place = record {
 
 -- ---- nodes
 
-semicolon_no_letter : (b : List ℕ) → begins_with 59 b ≡ true → begins_letter b ≡ false
+semicolon_no_letter : (b : List ℕ) → is_first 59 b ≡ true → is_letter_first b ≡ false
 semicolon_no_letter [] e = refl
 semicolon_no_letter (c ∷ cs) e = let is : c ≡ 59 = eqb-true c 59 e in rw is refl
 
 module _ (limit : ℕ) where
-  semicolon_is_in_node : (d : ℕ) (b : List ℕ) → begins_with 59 b ≡ true → outcome limit opened d b ≡ outcome limit in_node d b
+  semicolon_is_in_node : (d : ℕ) (b : List ℕ) → is_first 59 b ≡ true → outcome limit opened d b ≡ outcome limit in_node d b
   semicolon_is_in_node d [] e = cc
   semicolon_is_in_node d (c ∷ cs) e =
       let is : c ≡ 59 = eqb-true c 59 e in
       machine.one_step limit opened in_node d c cs (rw is refl)
 
-  pub nodes_stop : (d : ℕ) → IsWithin limit d → (b rest : List ℕ) → rest ≡ after_space b → begins_with 59 rest ≡ false →
+  pub nodes_stop : (d : ℕ) → IsWithin limit d → (b rest : List ℕ) → rest ≡ without_space b → is_first 59 rest ≡ false →
       outcome limit opened d b ≡ Err (here rest)
   nodes_stop d h b rest e f =
       machine.opened_white limit d h b ∙ ap (outcome limit opened d) (sym e) ∙ machine.opened_stops limit d rest (rw e (no_space_first b)) f
@@ -219,13 +219,13 @@ module _ (limit : ℕ) where
 
 -- nodes read so far
 pub record NodesSoFar (b : List ℕ) (ns : List (List Property)) (rest : List ℕ) : Type 0 where
-  pub some : ns ≡ [] → begins_with 59 rest ≡ true
+  pub some : ns ≡ [] → is_first 59 rest ≡ true
   pub fit : AllByRecursion (AllByRecursion IsProperty) ns
   pub spelling : SpellsParts b (flat_map node_parts ns) rest
-  pub letters : begins_letter rest ≡ false
+  pub letters : is_letter_first rest ≡ false
   pub place : (d : ℕ) → IsWithin MAX_DEPTH d → outcome MAX_DEPTH opened d b ≡ outcome MAX_DEPTH in_node d rest
 
-pub nodes_first : (b rest : List ℕ) → rest ≡ after_space b → begins_with 59 rest ≡ true → NodesSoFar b [] rest
+pub nodes_first : (b rest : List ℕ) → rest ≡ without_space b → is_first 59 rest ≡ true → NodesSoFar b [] rest
 nodes_first b rest e f = record {
   some = λ _. f;
   fit = tt;
@@ -235,7 +235,7 @@ nodes_first b rest e f = record {
 }
 
 pub nodes_more : (b : List ℕ) (ns ns' : List (List Property)) (rest inside : List ℕ) (n : List Property) (more : List ℕ) → NodesSoFar b ns rest →
-    ns' ≡ ns ++ n ∷ [] → rest ≡ 59 ∷ inside → ReadsNode inside n more → begins_letter more ≡ false →
+    ns' ≡ ns ++ n ∷ [] → rest ≡ 59 ∷ inside → ReadsNode inside n more → is_letter_first more ≡ false →
     ((d : ℕ) → IsWithin MAX_DEPTH d → outcome MAX_DEPTH in_node d inside ≡ outcome MAX_DEPTH in_node d more) → NodesSoFar b ns' more
 nodes_more b ns ns' rest inside n more far e f r letters place = record {
   some = λ empty. absurd (push_some ns n (sym e ∙ empty));
@@ -243,30 +243,30 @@ nodes_more b ns ns' rest inside n more far e f r letters place = record {
   spelling =
       let P : List Part → Type 0 = λ qs. SpellsParts b qs more in
       subst P (sym (ap (flat_map node_parts) e ∙ flat_map-push node_parts ns n))
-      (SpellsParts-append (flat_map node_parts ns) (node_parts n) b rest more far.spelling (inside, ap after_space f, r.spelling));
+      (SpellsParts-append (flat_map node_parts ns) (node_parts n) b rest more far.spelling (inside, ap without_space f, r.spelling));
   letters = letters;
   place = λ d h. far.place d h ∙ into_node MAX_DEPTH d h rest inside f ∙ place d h;
 }
 
-pub nodes_whole : (b : List ℕ) (ns : List (List Property)) (rest : List ℕ) → NodesSoFar b ns rest → begins_with 59 rest ≡ false → ReadsNodes b ns rest
+pub nodes_whole : (b : List ℕ) (ns : List (List Property)) (rest : List ℕ) → NodesSoFar b ns rest → is_first 59 rest ≡ false → ReadsNodes b ns rest
 nodes_whole b ns rest far e = record {
   some = λ empty. let h = far.some empty in cc;
   fit = far.fit;
   spelling = far.spelling;
 }
 
-pub nodes_passed : (b : List ℕ) (ns : List (List Property)) (rest : List ℕ) → NodesSoFar b ns rest → begins_with 59 rest ≡ false →
+pub nodes_passed : (b : List ℕ) (ns : List (List Property)) (rest : List ℕ) → NodesSoFar b ns rest → is_first 59 rest ≡ false →
     (d : ℕ) → IsWithin MAX_DEPTH d → outcome MAX_DEPTH opened d b ≡ outcome MAX_DEPTH closed d rest
 nodes_passed b ns rest far e d h =
     far.place d h
     ∙ machine.in_node_is_closed MAX_DEPTH d rest (no_space_after (flat_map node_parts ns) b rest far.spelling) e far.letters
 
-no_parenthesis : (b : List ℕ) → begins_with 91 b ≡ true → (begins_with 40 b ≡ false) × (begins_with 41 b ≡ false)
+no_parenthesis : (b : List ℕ) → is_first 91 b ≡ true → (is_first 40 b ≡ false) × (is_first 41 b ≡ false)
 no_parenthesis [] e = cc
 no_parenthesis (c ∷ cs) e = let is : c ≡ 91 = eqb-true c 91 e in (rw is refl, rw is refl)
 
 -- behind the nodes stands a `[`
-pub bracket_stops : (b : List ℕ) (ns : List (List Property)) (rest : List ℕ) → NodesSoFar b ns rest → begins_with 59 rest ≡ false → begins_with 91 rest ≡ true →
+pub bracket_stops : (b : List ℕ) (ns : List (List Property)) (rest : List ℕ) → NodesSoFar b ns rest → is_first 59 rest ≡ false → is_first 91 rest ≡ true →
     (d : ℕ) → IsWithin MAX_DEPTH d → outcome MAX_DEPTH opened d b ≡ Err (here rest)
 bracket_stops b ns rest far e f d h =
     let others = no_parenthesis rest f in

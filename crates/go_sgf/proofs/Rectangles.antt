@@ -13,7 +13,7 @@ use Rattle.go_board.specs.declared.point.Point.{Point}
 use Rattle.go_board.specs.Points.{IsOn, point_at}
 use Rattle.go_board.specs.Reaching.{points}
 use Rattle.go_sgf.specs.BoardValues.{is_between, is_in, rectangle}
-use Rattle.go_sgf.specs.Rectangles.{RectangleValue, listed, row_from, row_of}
+use Rattle.go_sgf.specs.Rectangles.{RectangleValue, listed, row_from, points_of_row}
 
 -- ---- runs of numbers
 
@@ -178,7 +178,7 @@ module _ (n : ℕ) (p q : Point) (p-on : IsOn n p) (q-on : IsOn n q) where
       r.row ≡ min p.row q.row → r.rows ≡ max p.row q.row - min p.row q.row + 1 → listed r ≡ rectangle n p q
   rows_listed r column columns row rows =
       sym (by_rows (is_in p q) (point_at n) n n
-      ∙ joined_within (λ k. filter (is_in p q) (map (point_at n) (range_with_len (k * n) n))) (row_of r) r.row r.rows n (omega (arith, p-on.1, q-on.1))
+      ∙ joined_within (λ k. filter (is_in p q) (map (point_at n) (range_with_len (k * n) n))) (points_of_row r) r.row r.rows n (omega (arith, p-on.1, q-on.1))
       (λ k h. row_lost k (between_before p.row q.row k (omega (arith, h))))
       (λ k h.
       row_kept (r.row + k) (between_within p.row q.row (r.row + k) (omega arith) (omega (arith, h)))

@@ -4,18 +4,18 @@ use Rattle.std.proofs.lemmas.Bool.{not_from_false, false_from_ne_true}
 use Rattle.std.specs.List.{list_all}
 use Rattle.memchr.specs.Find.{is_byte2}
 use Rattle.go_sgf.specs.inner.Reads.{is_ordinary}
-use Rattle.go_sgf.specs.Spelling.{after_space, begins_tree, from_tree, is_space}
+use Rattle.go_sgf.specs.Spelling.{without_space, is_tree_first, tree_in, is_space}
 
-pub after_space_more : (c : ℕ) (cs : List ℕ) → is_space c ≡ true → after_space (c ∷ cs) ≡ after_space cs
+pub after_space_more : (c : ℕ) (cs : List ℕ) → is_space c ≡ true → without_space (c ∷ cs) ≡ without_space cs
 after_space_more c cs e = rw e refl
 
-pub after_space_stop : (c : ℕ) (cs : List ℕ) → is_space c ≡ false → after_space (c ∷ cs) ≡ c ∷ cs
+pub after_space_stop : (c : ℕ) (cs : List ℕ) → is_space c ≡ false → without_space (c ∷ cs) ≡ c ∷ cs
 after_space_stop c cs e = rw e refl
 
-pub from_tree_more : (c : ℕ) (cs : List ℕ) → begins_tree (c ∷ cs) ≡ false → from_tree (c ∷ cs) ≡ from_tree cs
+pub from_tree_more : (c : ℕ) (cs : List ℕ) → is_tree_first (c ∷ cs) ≡ false → tree_in (c ∷ cs) ≡ tree_in cs
 from_tree_more c cs e = rw e refl
 
-pub from_tree_here : (c : ℕ) (cs : List ℕ) → begins_tree (c ∷ cs) ≡ true → from_tree (c ∷ cs) ≡ c ∷ cs
+pub from_tree_here : (c : ℕ) (cs : List ℕ) → is_tree_first (c ∷ cs) ≡ true → tree_in (c ∷ cs) ≡ c ∷ cs
 from_tree_here c cs e = rw e refl
 
 pub ruleset space_steps = (after_space_more, after_space_stop)

@@ -1,9 +1,9 @@
 -- A fault, and the end of a tree, by what stands.
 use Rattle.std.proofs.Common.{◌≡◌, ◌≢◌, ◌≤◌, ◌<◌, ◌+◌, ◌==◌, inl, inr, ℕ, zero, suc, List, [], ◌∷◌, Bool, true, false, Option, Some, None, option_and_then, Ok, Err, if◌then◌else◌, refl, sym, ap, subst, ◌∙◌, length, take, eqb-true, arith}
 use Rattle.std.proofs.lemmas.Bool.{cases_Bool, eqb-false}
-use Rattle.go_sgf.specs.Record.{is_upper, is_lower}
-use Rattle.go_sgf.specs.Spelling.{after_space, is_space}
-use Rattle.go_sgf.specs.Stands.{State, Place, step, outside, on_space, on_open, on_close, on_semicolon, on_bracket, on_upper, on_lower, up, run, opened, in_node, low, named, gap, in_value, escape, after, closed, whole, IsUnfinished, IsAtDepth}
+use Rattle.go_sgf.specs.Record.{is_upper_byte, is_lower}
+use Rattle.go_sgf.specs.Spelling.{without_space, is_space}
+use Rattle.go_sgf.specs.Stands.{State, StateAt, step, outside, on_space, on_open, on_close, on_semicolon, on_bracket, on_upper, on_lower, up, run, opened, in_node, low, named, gap, in_value, escape, after, closed, whole, IsUnfinished, IsAtDepth}
 use Rattle.go_sgf.specs.inner.Outcome.{outcome, outcome_on, IsWithin, left_of}
 use Rattle.go_sgf.specs.declared.fault.Fault.{Fault}
 use Rattle.go_sgf.specs.declared.fault.Fault.TheVariants.{Memory, End, Unexpected, TooDeep}
@@ -12,12 +12,12 @@ use Rattle.go_sgf.proofs.Machine as machine
 -- ---- where a step leads
 
 -- a place that a step may lead to: at most one deeper, and the tree is whole exactly at depth 0
-pub record Leads (d : ℕ) (p : Place) : Type 0 where
+pub record Leads (d : ℕ) (p : StateAt) : Type 0 where
   pub deep : p.1 ≤ suc d
   pub some : 1 ≤ p.1 → p.0 ≢ whole
   pub all : p.1 ≡ 0 → p.0 ≡ whole
 
-abbrev pub MayLead : ℕ → Option Place → Type 0
+abbrev pub MayLead : ℕ → Option StateAt → Type 0
 MayLead d None = Unit {0}
 MayLead d (Some p) = Leads d p
 
@@ -78,14 +78,14 @@ module _ (d : ℕ) (h : 1 ≤ d) where
   on_lower_leads named = inner named d d (λ e. cc) h (omega arith)
   on_lower_leads _ = tt
 
-  either : (b : Bool) (x y : Option Place) → MayLead d x → MayLead d y → MayLead d (if b then x else y)
+  either : (b : Bool) (x y : Option StateAt) → MayLead d x → MayLead d y → MayLead d (if b then x else y)
   either true x y p q = p
   either false x y p q = q
 
   outside_leads : (s : State) (c : ℕ) → MayLead d (outside s d c)
   outside_leads s c =
       either (is_space c) _ _ (on_space_leads s) (either (c == 40) _ _ (on_open_leads s) (either (c == 41) _ _ (on_close_leads s)
-      (either (c == 59) _ _ (on_semicolon_leads s) (either (c == 91) _ _ (on_bracket_leads s) (either (is_upper c) _ _ (on_upper_leads s)
+      (either (c == 59) _ _ (on_semicolon_leads s) (either (c == 91) _ _ (on_bracket_leads s) (either (is_upper_byte c) _ _ (on_upper_leads s)
       (either (is_lower c) _ _ (on_lower_leads s) tt))))))
 
   inside_other : (b e : Bool) → (if b then after else (if e then escape else in_value)) ≢ whole
@@ -159,11 +159,11 @@ module _ (limit : ℕ) where
         stops = (omega arith, stuck_past s d c cs step_is);
       })
 
-  fault_deep : (s : State) (d c : ℕ) (cs : List ℕ) (f : Fault) (p : Place) → s ≢ whole → d ≤ limit → step s d c ≡ Some p → p.1 ≡ suc limit →
+  fault_deep : (s : State) (d c : ℕ) (cs : List ℕ) (f : Fault) (p : StateAt) → s ≢ whole → d ≤ limit → step s d c ≡ Some p → p.1 ≡ suc limit →
       TooDeep (suc (length cs)) ≡ f → FaultIs limit s d (c ∷ cs) f
   fault_deep s d c cs f p ne deep step_is at_limit e =
       let P : Fault → Type 0 = λ x. FaultIs limit s d (c ∷ cs) x in
-      let Q : Option Place → Type 0 = λ o. IsAtDepth (suc limit) (option_and_then (λ q. run q.0 q.1 []) o) in
+      let Q : Option StateAt → Type 0 = λ o. IsAtDepth (suc limit) (option_and_then (λ q. run q.0 q.1 []) o) in
       subst P e (record {
         at = 0;
         left = omega arith;
@@ -173,10 +173,10 @@ module _ (limit : ℕ) where
       })
 
   -- a fault further on
-  pub run_more : (s : State) (d c : ℕ) (b : List ℕ) (p : Place) → step s d c ≡ Some p → run s d (c ∷ b) ≡ run p.0 p.1 b
+  pub run_more : (s : State) (d c : ℕ) (b : List ℕ) (p : StateAt) → step s d c ≡ Some p → run s d (c ∷ b) ≡ run p.0 p.1 b
   run_more s d c b p e = rw e refl
 
-  why_later : (s : State) (d c : ℕ) (cs : List ℕ) (p : Place) (f : Fault) (at : ℕ) → step s d c ≡ Some p →
+  why_later : (s : State) (d c : ℕ) (cs : List ℕ) (p : StateAt) (f : Fault) (at : ℕ) → step s d c ≡ Some p →
       Why limit f p.0 p.1 cs at → Why limit f s d (c ∷ cs) (suc at)
   why_later s d c cs p Memory at e w = w
   why_later s d c cs p End at e w = ap suc w
@@ -186,14 +186,14 @@ module _ (limit : ℕ) where
       later zero less = absurd (omega arith)
       later (suc k) less = run_more s d c (take k cs) p e ∙ w.1 k (omega arith)
   why_later s d c cs p (TooDeep n) at e w =
-      let Q : Option Place → Type 0 = λ o. IsAtDepth (suc limit) o in
+      let Q : Option StateAt → Type 0 = λ o. IsAtDepth (suc limit) o in
       let R : ℕ → Type 0 = λ k. IsAtDepth (suc limit) (run s d (take k (c ∷ cs))) in
       let deep : IsAtDepth (suc limit) (run s d (take (suc (at + 1)) (c ∷ cs))) =
       subst Q (sym (run_more s d c (take (at + 1) cs) p e)) w.1 in
       let same : suc (at + 1) ≡ suc at + 1 = omega arith in
       (omega arith, subst R same deep)
 
-  fault_later : (s : State) (d c : ℕ) (cs : List ℕ) (f : Fault) (p : Place) → d ≤ limit → step s d c ≡ Some p →
+  fault_later : (s : State) (d c : ℕ) (cs : List ℕ) (f : Fault) (p : StateAt) → d ≤ limit → step s d c ≡ Some p →
       FaultIs limit p.0 p.1 cs f → FaultIs limit s d (c ∷ cs) f
   fault_later s d c cs f p deep e i = record {
     at = suc i.at;
@@ -207,7 +207,7 @@ module _ (limit : ℕ) where
       shallow zero less h = omega arith
       shallow (suc k) less h = i.shallow k (omega arith) (rw (run_more s d c (take k cs) p e) at h)
 
-  by_step : (s : State) (d c : ℕ) (cs : List ℕ) (f : Fault) → s ≢ whole → IsWithin limit d → (o : Option Place) → step s d c ≡ o → MayLead d o →
+  by_step : (s : State) (d c : ℕ) (cs : List ℕ) (f : Fault) → s ≢ whole → IsWithin limit d → (o : Option StateAt) → step s d c ≡ o → MayLead d o →
       outcome_on limit o (suc (length cs)) cs (λ p. outcome limit p.0 p.1 cs) ≡ Err f →
       ((s' : State) (d' : ℕ) → s' ≢ whole → IsWithin limit d' → outcome limit s' d' cs ≡ Err f → FaultIs limit s' d' cs f) →
       FaultIs limit s d (c ∷ cs) f
@@ -217,7 +217,7 @@ module _ (limit : ℕ) where
         let e' : Err (TooDeep (suc (length cs))) ≡ Err f = rw deep at e in
         fault_deep s d c cs f p ne h.1 step_is (eqb-true p.1 (suc limit) deep) (cc)
     | inr shallow ↦ elim (cases_Bool (p.1 == 0)) [
-      | inl end ↦ let e' : Ok (after_space cs) ≡ Err f = rw (shallow, end) at e in cc
+      | inl end ↦ let e' : Ok (without_space cs) ≡ Err f = rw (shallow, end) at e in cc
       | inr some ↦
           let e' : outcome limit p.0 p.1 cs ≡ Err f = rw (shallow, some) at e in
           let above : p.1 ≢ 0 = eqb-false p.1 0 some in

@@ -4,10 +4,10 @@ use Rattle.std.proofs.lemmas.List.{map-append}
 use Rattle.std.specs.Borrow.{Bor}
 use Rattle.std.specs.Prelude.{Option, Some, None, IfSome}
 use Rattle.std.specs.List.{flat_map, filter, list_all}
-use Rattle.go_sgf.specs.Record.{Property, is_letter, is_upper, IsValue}
-use Rattle.go_sgf.specs.Spelling.{Part, semicolon, name, value, after_space, begins_with}
+use Rattle.go_sgf.specs.Record.{Property, is_letter_byte, is_upper_byte, IsValue}
+use Rattle.go_sgf.specs.Spelling.{Part, semicolon, name, value_part, without_space, is_first}
 use Rattle.go_sgf.specs.inner.Reads.{begins_space}
-use Rattle.go_sgf.specs.PartsIn.{begins_letter, nodes_at, parts_in, properties_at, values_at}
+use Rattle.go_sgf.specs.PartsIn.{is_letter_first, nodes_at, parts_in, properties_at, values_at}
 use Rattle.go_sgf.specs.inner.Texts.{StayValues, Stays, node_text, parts_text, property_text, value_text}
 use Rattle.go_sgf.proofs.Passing.{flat_map-push}
 use Rattle.go_sgf.proofs.PartsIn.{first_part, name_first, no_part, nodes_passed_values, semicolon_part, values_given, values_passed}
@@ -25,7 +25,7 @@ semicolon_text : (ps : List Part) → parts_text (semicolon ∷ ps) ≡ 59 ∷ p
 semicolon_text ps = ap (λ ys. ys ++ flat_map node_text (nodes_at ps)) (sym (node_text-is (properties_at ps)))
 
 -- a name, the values behind it and what follows them
-pub name_text : (n : List ℕ) (ps : List Part) → parts_text (name n ∷ ps) ≡ (filter is_upper n ++ flat_map value_text (values_at ps)) ++ parts_text ps
+pub name_text : (n : List ℕ) (ps : List Part) → parts_text (name n ∷ ps) ≡ (filter is_upper_byte n ++ flat_map value_text (values_at ps)) ++ parts_text ps
 name_text n ps =
     let p : Property = record { name = n; values = values_at ps } in
     append_assoc (property_text p) (flat_map property_text (properties_at ps)) (flat_map node_text (nodes_at ps))
@@ -40,21 +40,21 @@ semicolon_stays b rest e = record {
   written = ap (λ (xs : List ℕ). parts_text (parts_in xs)) e ∙ ap parts_text (semicolon_part rest) ∙ semicolon_text (parts_in rest);
 }
 
--- one value more
-pub value_stays : (vs : List (List ℕ)) (b rest inside v more : List ℕ) → b ≡ flat_map value_text vs ++ rest → parts_in b ≡ map value vs ++ parts_in rest →
+-- one value_part more
+pub value_stays : (vs : List (List ℕ)) (b rest inside v more : List ℕ) → b ≡ flat_map value_text vs ++ rest → parts_in b ≡ map value_part vs ++ parts_in rest →
     rest ≡ 91 ∷ inside → inside ≡ v ++ (93 ∷ more) → IsValue v →
-    (b ≡ flat_map value_text (vs ++ v ∷ []) ++ more) × (parts_in b ≡ map value (vs ++ v ∷ []) ++ parts_in more)
+    (b ≡ flat_map value_text (vs ++ v ∷ []) ++ more) × (parts_in b ≡ map value_part (vs ++ v ∷ []) ++ parts_in more)
 value_stays vs b rest inside v more whole parts e f h =
     let text : rest ≡ value_text v ++ more = e ∙ ap (λ xs. 91 ∷ xs) (f ∙ sym (append_assoc v (93 ∷ []) more)) in
-    let part : parts_in rest ≡ value v ∷ parts_in more = first_part rest inside v more (ap after_space e) f h in (
+    let part : parts_in rest ≡ value_part v ∷ parts_in more = first_part rest inside v more (ap without_space e) f h in (
       whole ∙ ap (λ xs. flat_map value_text vs ++ xs) text ∙ sym (append_assoc (flat_map value_text vs) (value_text v) more)
           ∙ ap (λ xs. xs ++ more) (sym (flat_map-push value_text vs v)),
-      parts ∙ ap (λ ps. map value vs ++ ps) part ∙ sym (append_assoc (map value vs) (value v ∷ []) (parts_in more))
-          ∙ ap (λ ps. ps ++ parts_in more) (sym (map-append value vs (v ∷ []))),
+      parts ∙ ap (λ ps. map value_part vs ++ ps) part ∙ sym (append_assoc (map value_part vs) (value_part v ∷ []) (parts_in more))
+          ∙ ap (λ ps. ps ++ parts_in more) (sym (map-append value_part vs (v ∷ []))),
     )
 
-property_stays : (b n behind rest : List ℕ) → begins_letter b ≡ true → b ≡ n ++ behind → list_all is_letter n ≡ true → list_all is_upper n ≡ true →
-    begins_letter behind ≡ false → StayValues behind rest → Stays b rest
+property_stays : (b n behind rest : List ℕ) → is_letter_first b ≡ true → b ≡ n ++ behind → list_all is_letter_byte n ≡ true → list_all is_upper_byte n ≡ true →
+    is_letter_first behind ≡ false → StayValues behind rest → Stays b rest
 property_stays b n behind rest first e letters upper stopped s =
     let vs = s.values in
     let named : parts_in b ≡ name n ∷ parts_in behind = name_first b n behind e letters first stopped in
@@ -66,18 +66,18 @@ property_stays b n behind rest first e letters upper stopped s =
       whole = e ∙ ap (λ xs. n ++ xs) s.whole ∙ sym (append_assoc n (flat_map value_text vs) rest);
       written =
           ap parts_text named ∙ name_text n (parts_in behind)
-          ∙ ap (λ xs. (xs ++ flat_map value_text (values_at (parts_in behind))) ++ parts_text (parts_in behind)) (filter-all is_upper n upper)
+          ∙ ap (λ xs. (xs ++ flat_map value_text (values_at (parts_in behind))) ++ parts_text (parts_in behind)) (filter-all is_upper_byte n upper)
           ∙ ap (λ ws. (n ++ flat_map value_text ws) ++ parts_text (parts_in behind)) given
           ∙ ap (λ xs. (n ++ flat_map value_text vs) ++ xs) later;
     }
 
-shorter_values : (b n behind rest : List ℕ) → begins_letter b ≡ true → b ≡ n ++ behind → begins_letter behind ≡ false → StayValues behind rest → length rest < length b
-shorter_values b [] behind rest first e stopped s = let same : begins_letter b ≡ false = rw e stopped in (cc)
+shorter_values : (b n behind rest : List ℕ) → is_letter_first b ≡ true → b ≡ n ++ behind → is_letter_first behind ≡ false → StayValues behind rest → length rest < length b
+shorter_values b [] behind rest first e stopped s = let same : is_letter_first b ≡ false = rw e stopped in (cc)
 shorter_values b (c ∷ cs) behind rest first e stopped s =
     omega (arith, ap length e, length-append cs behind, ap length s.whole, length-append (flat_map value_text s.values) rest)
 
-pub property_found : (r : Option (Bor (List ℕ))) (b n behind : List ℕ) → begins_letter b ≡ true → b ≡ n ++ behind → list_all is_letter n ≡ true →
-    list_all is_upper n ≡ true → begins_letter behind ≡ false → IfSome r (λ rest. StayValues behind rest.now) →
+pub property_found : (r : Option (Bor (List ℕ))) (b n behind : List ℕ) → is_letter_first b ≡ true → b ≡ n ++ behind → list_all is_letter_byte n ≡ true →
+    list_all is_upper_byte n ≡ true → is_letter_first behind ≡ false → IfSome r (λ rest. StayValues behind rest.now) →
     IfSome r (λ rest. Stays b rest.now) × IfSome r (λ rest. length rest.now < length b)
 property_found None b n behind first e letters upper stopped s = (tt, tt)
 property_found (Some rest) b n behind first e letters upper stopped s = (
@@ -95,5 +95,5 @@ stays_on b mid rest s t = record {
 
 -- ---- what is left
 
-pub nothing_left : (b : List ℕ) → begins_space b ≡ false → begins_letter b ≡ false → begins_with 59 b ≡ false → values_at (parts_in b) ≡ [] → parts_text (parts_in b) ≡ []
+pub nothing_left : (b : List ℕ) → begins_space b ≡ false → is_letter_first b ≡ false → is_first 59 b ≡ false → values_at (parts_in b) ≡ [] → parts_text (parts_in b) ≡ []
 nothing_left b e f g h = ap parts_text (no_part b e f g h)

@@ -3,9 +3,9 @@ use Rattle.std.proofs.Common.{◌≡◌, ◌≢◌, ◌≤◌, ◌<◌, ◌+◌,
 use Rattle.std.proofs.lemmas.Bool.{cases_Bool, and_parts}
 use Rattle.std.specs.List.{flat_map, AllByRecursion}
 use Rattle.go_sgf.specs.Record.{Property, Trees, none, tree, IsProperty, AreTrees, depth}
-use Rattle.go_sgf.specs.Spelling.{Part, opening, closing, begins_with, node_parts, parts, after_space, begins_tree, from_tree, Spells, SpellsParts}
+use Rattle.go_sgf.specs.Spelling.{Part, opening, closing, is_first, node_parts, parts, without_space, is_tree_first, tree_in, Spells, SpellsParts}
 use Rattle.go_sgf.specs.Stands.{stands, run, opened, IsAtDepth}
-use Rattle.go_sgf.specs.inner.Outcome.{outcome, left_of, place_of, Meets}
+use Rattle.go_sgf.specs.inner.Outcome.{outcome, left_of, error_at, Meets}
 use Rattle.go_sgf.specs.inner.Reads.{ReadsTree}
 use Rattle.go_sgf.specs.Refusals.{StopsAt, EndsAt, StandsNoLonger, StandsTooDeep, IsRefusal}
 use Rattle.go_sgf.specs.View.{chain}
@@ -21,25 +21,25 @@ use Rattle.go_sgf.proofs.Standing.{FaultIs, Why, fault_is}
 
 -- ---- from the first tree on
 
-pub from_tree_begins : (b : List ℕ) → from_tree b ≢ [] → begins_tree (from_tree b) ≡ true
+pub from_tree_begins : (b : List ℕ) → tree_in b ≢ [] → is_tree_first (tree_in b) ≡ true
 from_tree_begins [] some = absurd (some refl)
-from_tree_begins (c ∷ cs) some = elim (cases_Bool (begins_tree (c ∷ cs))) [
+from_tree_begins (c ∷ cs) some = elim (cases_Bool (is_tree_first (c ∷ cs))) [
   | inl e ↦ rw (from_tree_here c cs e) e
   | inr e ↦ rw (from_tree_more c cs e) (from_tree_begins cs (λ h. some (from_tree_more c cs e ∙ h)))
 ]
 
-pub length-from_tree : (b : List ℕ) → length (from_tree b) ≤ length b
+pub length-from_tree : (b : List ℕ) → length (tree_in b) ≤ length b
 length-from_tree [] = omega arith
-length-from_tree (c ∷ cs) = elim (cases_Bool (begins_tree (c ∷ cs))) [
+length-from_tree (c ∷ cs) = elim (cases_Bool (is_tree_first (c ∷ cs))) [
   | inl e ↦ rw (from_tree_here c cs e) (omega arith)
   | inr e ↦ let h = length-from_tree cs in rw (from_tree_more c cs e) (omega arith)
 ]
 
 -- a text that begins a tree begins with no white space
-pub begins_no_space : (b : List ℕ) → begins_tree b ≡ true → after_space b ≡ b
+pub begins_no_space : (b : List ℕ) → is_tree_first b ≡ true → without_space b ≡ b
 begins_no_space [] e = refl
 begins_no_space (c ∷ cs) e =
-    let is : c ≡ 40 = eqb-true c 40 (and_parts (c == 40) (begins_with 59 (after_space cs)) e).0 in
+    let is : c ≡ 40 = eqb-true c 40 (and_parts (c == 40) (is_first 59 (without_space cs)) e).0 in
     rw is refl
 
 -- ---- two readings of one text
@@ -53,7 +53,7 @@ first_tree nodes children later b r some fit below deep s =
     let heads = SpellsParts-split (flat_map node_parts nodes) (parts children ++ (closing ∷ parts later)) b r s in
     let inner = SpellsParts-split (parts children) (closing ∷ parts later) heads.0 r heads.2 in
     let close = inner.2 in
-    let behind : List ℕ = after_space close.0 in
+    let behind : List ℕ = without_space close.0 in
     let whole : SpellsParts b (flat_map node_parts nodes ++ (parts children ++ (closing ∷ []))) behind =
     SpellsParts-append (flat_map node_parts nodes) (parts children ++ (closing ∷ [])) b heads.0 behind heads.1
     (SpellsParts-append (parts children) (closing ∷ []) heads.0 inner.0 behind inner.1 (close.0, close.1, refl)) in (
@@ -63,16 +63,16 @@ first_tree nodes children later b r some fit below deep s =
     )
 
 pub tree_begins : (nodes : List (List Property)) (ps : List Part) (b r : List ℕ) → nodes ≢ [] → SpellsParts b (flat_map node_parts nodes ++ ps) r →
-    begins_tree (40 ∷ b) ≡ true
+    is_tree_first (40 ∷ b) ≡ true
 tree_begins [] ps b r some s = absurd (some refl)
 tree_begins (n ∷ ns) ps b r some s = rw s.1 refl
 
 -- trees and then a fault, and trees and then no tree, aren't both read from one text
 two_ways : (before c : Trees) (b at rest inside : List ℕ) (f : Fault) → AreTrees before → depth before ≤ MAX_DEPTH → AreTrees c → depth c ≤ MAX_DEPTH →
-    SpellsParts b (parts before) at → SpellsParts b (parts c) rest → begins_tree rest ≡ false → begins_tree at ≡ true → at ≡ 40 ∷ inside →
+    SpellsParts b (parts before) at → SpellsParts b (parts c) rest → is_tree_first rest ≡ false → is_tree_first at ≡ true → at ≡ 40 ∷ inside →
     outcome MAX_DEPTH opened 1 inside ≡ Err f → ⊥
 two_ways none none b at rest inside f w n w' n' s s' ended begins is e =
-    let same : begins_tree at ≡ begins_tree rest = ap begins_tree (sym s ∙ s') in
+    let same : is_tree_first at ≡ is_tree_first rest = ap is_tree_first (sym s ∙ s') in
     let h : true ≡ false = sym begins ∙ same ∙ ended in cc
 two_ways none (tree nodes children later) b at rest inside f w n w' n' s s' ended begins is e =
     let first = first_tree nodes children later s'.0 rest w'.0 w'.1 w'.2 (omega arith) s'.2 in
@@ -81,7 +81,7 @@ two_ways none (tree nodes children later) b at rest inside f w n w' n' s s' ende
     let h : Ok first.0 ≡ Err f = sym first.1 ∙ ap (outcome MAX_DEPTH opened 1) (sym inner) ∙ e in cc
 two_ways (tree nodes children later) none b at rest inside f w n w' n' s s' ended begins is e =
     let same : 40 ∷ s.0 ≡ rest = sym s.1 ∙ s' in
-    let h : true ≡ false = sym (tree_begins nodes _ s.0 at w.0 s.2) ∙ ap begins_tree same ∙ ended in cc
+    let h : true ≡ false = sym (tree_begins nodes _ s.0 at w.0 s.2) ∙ ap is_tree_first same ∙ ended in cc
 two_ways (tree nodes children later) (tree nodes' children' later') b at rest inside f w n w' n' s s' ended begins is e =
     let first = first_tree nodes children later s.0 at w.0 w.1 w.2 (omega arith) s.2 in
     let first' = first_tree nodes' children' later' s'.0 rest w'.0 w'.1 w'.2 (omega arith) s'.2 in
@@ -95,26 +95,26 @@ two_ways (tree nodes children later) (tree nodes' children' later') b at rest in
 -- ---- a collection read so far
 
 pub record TreesSoFar (source : List ℕ) (ts : List Grown) (rest : List ℕ) : Type 0 where
-  pub some : ts ≡ [] → begins_tree rest ≡ true
+  pub some : ts ≡ [] → is_tree_first rest ≡ true
   pub fit : AreTrees (chain ts)
   pub nesting : depth (chain ts) ≤ MAX_DEPTH
-  pub spelling : SpellsParts (from_tree source) (parts (chain ts)) rest
+  pub spelling : SpellsParts (tree_in source) (parts (chain ts)) rest
 
-pub trees_first : (source rest : List ℕ) → rest ≡ from_tree source → rest ≢ [] → TreesSoFar source [] rest
+pub trees_first : (source rest : List ℕ) → rest ≡ tree_in source → rest ≢ [] → TreesSoFar source [] rest
 trees_first source rest e some =
-    let begins : begins_tree (from_tree source) ≡ true = from_tree_begins source (λ h. some (e ∙ h)) in
+    let begins : is_tree_first (tree_in source) ≡ true = from_tree_begins source (λ h. some (e ∙ h)) in
     record {
       some = λ _. rw e begins;
       fit = tt;
       nesting = omega arith;
-      spelling = begins_no_space (from_tree source) begins ∙ sym e;
+      spelling = begins_no_space (tree_in source) begins ∙ sym e;
     }
 
 pub trees_more : (source : List ℕ) (ts ts' : List Grown) (rest inside : List ℕ) (t : Grown) (more : List ℕ) → TreesSoFar source ts rest →
     ts' ≡ ts ++ t ∷ [] → rest ≡ 40 ∷ inside → ReadsTree 1 inside t more → TreesSoFar source ts' more
 trees_more source ts ts' rest inside t more far e f r =
     let Q : List Grown → Type 0 = λ xs. TreesSoFar source xs more in
-    let P : List Part → Type 0 = λ ps. SpellsParts (from_tree source) ps more in
+    let P : List Part → Type 0 = λ ps. SpellsParts (tree_in source) ps more in
     subst Q (sym e) (record {
       some = λ empty. absurd (push_some ts t empty);
       fit = chain-push ts t far.fit r.some r.nodes r.children;
@@ -122,14 +122,14 @@ trees_more source ts ts' rest inside t more far e f r =
       spelling =
           let tail : List Part = opening ∷ (flat_map node_parts t.0 ++ (parts t.1 ++ (closing ∷ []))) in
           subst P (sym (parts-push ts t))
-          (SpellsParts-append (parts (chain ts)) tail (from_tree source) rest more far.spelling (inside, ap after_space f, r.spelling));
+          (SpellsParts-append (parts (chain ts)) tail (tree_in source) rest more far.spelling (inside, ap without_space f, r.spelling));
     })
 
 chain_some : (ts : List Grown) → ts ≢ [] → chain ts ≢ none
 chain_some [] some e = some refl
 chain_some (t ∷ ts) some e = cc
 
-pub trees_whole : (source : List ℕ) (ts : List Grown) (rest : List ℕ) → TreesSoFar source ts rest → begins_tree rest ≡ false → Spells source (chain ts)
+pub trees_whole : (source : List ℕ) (ts : List Grown) (rest : List ℕ) → TreesSoFar source ts rest → is_tree_first rest ≡ false → Spells source (chain ts)
 trees_whole source ts rest far ended = record {
   fit = record { some = chain_some ts (λ empty. let h = far.some empty in cc); trees = far.fit; nesting = far.nesting };
   rest = rest;
@@ -166,13 +166,13 @@ why_in inside (TooDeep n) at w =
     (omega arith, subst P same w.1)
 
 stops_at : (source : List ℕ) (ts : List Grown) (inside : List ℕ) (f : Fault) (place : ℕ) → TreesSoFar source ts (40 ∷ inside) →
-    begins_tree (40 ∷ inside) ≡ true → outcome MAX_DEPTH opened 1 inside ≡ Err f → place + left_of f ≡ length source →
+    is_tree_first (40 ∷ inside) ≡ true → outcome MAX_DEPTH opened 1 inside ≡ Err f → place + left_of f ≡ length source →
     StopsAt source place (WhyIn f)
 stops_at source ts inside f place far begins e placed =
     let i : FaultIs MAX_DEPTH opened 1 inside f = fault_is MAX_DEPTH inside opened 1 f (λ h. cc) (omega arith, omega arith) e in
     record {
       spells_none = λ c s.
-          two_ways (chain ts) c (from_tree source) (40 ∷ inside) s.rest inside f far.fit far.nesting s.fit.trees s.fit.nesting
+          two_ways (chain ts) c (tree_in source) (40 ∷ inside) s.rest inside f far.fit far.nesting s.fit.trees s.fit.nesting
           far.spelling s.spelling s.ended begins refl e;
       before = chain ts;
       whole = far.fit;
@@ -193,7 +193,7 @@ left_in : (source : List ℕ) (ts : List Grown) (rest inside : List ℕ) (f : Fa
 left_in source ts rest inside f far is e =
     let i : FaultIs MAX_DEPTH opened 1 inside f = fault_is MAX_DEPTH inside opened 1 f (λ h. cc) (omega arith, omega arith) e in
     let h = i.left in
-    let whole : length rest ≤ length (from_tree source) = rest_le (parts (chain ts)) (from_tree source) rest far.spelling in
+    let whole : length rest ≤ length (tree_in source) = rest_le (parts (chain ts)) (tree_in source) rest far.spelling in
     omega (arith, length-from_tree source, ap length is)
 
 module _ {X : Type 0} (later : X → Result (List ℕ) Fault) (source : List ℕ) (ts : List Grown) (rest inside : List ℕ) where
@@ -204,15 +204,15 @@ module _ {X : Type 0} (later : X → Result (List ℕ) Fault) (source : List ℕ
   left_by (Unexpected n) far is m = left_in source ts rest inside (Unexpected n) far is m
   left_by (TooDeep n) far is m = left_in source ts rest inside (TooDeep n) far is m
 
-  stops_here : (f : Fault) (place : ℕ) → TreesSoFar source ts rest → begins_tree rest ≡ true → rest ≡ 40 ∷ inside →
+  stops_here : (f : Fault) (place : ℕ) → TreesSoFar source ts rest → is_tree_first rest ≡ true → rest ≡ 40 ∷ inside →
       outcome MAX_DEPTH opened 1 inside ≡ Err f → place + left_of f ≡ length source → StopsAt source place (WhyIn f)
   stops_here f place far begins is e placed =
       let P : List ℕ → Type 0 = λ xs. TreesSoFar source ts xs in
-      let Q : List ℕ → Type 0 = λ xs. begins_tree xs ≡ true in
+      let Q : List ℕ → Type 0 = λ xs. is_tree_first xs ≡ true in
       stops_at source ts inside f place (subst P is far) (subst Q is begins) e placed
 
-  pub refused_by : (f : Fault) → TreesSoFar source ts rest → begins_tree rest ≡ true → rest ≡ 40 ∷ inside →
-      Meets (Err f) (outcome MAX_DEPTH opened 1 inside) later → IsRefusal source (place_of (length source) f)
+  pub refused_by : (f : Fault) → TreesSoFar source ts rest → is_tree_first rest ≡ true → rest ≡ 40 ∷ inside →
+      Meets (Err f) (outcome MAX_DEPTH opened 1 inside) later → IsRefusal source (error_at (length source) f)
   refused_by Memory far begins is m = tt
   refused_by End far begins is m = (refl, stops_here End (length source) far begins is m (omega arith))
   refused_by (Unexpected n) far begins is m =

@@ -5,8 +5,8 @@ use Rattle.std.proofs.lemmas.Grind.{flat_map-append}
 use Rattle.std.proofs.lemmas.List.Elements.{filter-append}
 use Rattle.std.proofs.lemmas.List.{append-nil, map-append, take_all, take_more}
 use Rattle.std.specs.List.{flat_map, filter, list_all}
-use Rattle.go_sgf.specs.Record.{Property, Trees, is_upper, plain, plain_property}
-use Rattle.go_sgf.specs.Spelling.{Part, opening, closing, value, text, joined, node_parts, property_parts, parts, tree_text, canonical}
+use Rattle.go_sgf.specs.Record.{Property, Trees, is_upper_byte, plain, plain_property}
+use Rattle.go_sgf.specs.Spelling.{Part, opening, closing, value_part, text, text_of_parts, node_parts, property_parts, parts, tree_text, canonical}
 use Rattle.go_sgf.specs.inner.Texts.{value_text, property_text, node_text, text_of}
 use Rattle.go_sgf.specs.PartsIn.{nodes_at, parts_in}
 use Rattle.go_sgf.specs.View.{chain, tree_of, tree_step, trees_of}
@@ -46,15 +46,15 @@ filter_same p xs i x e h =
 
 -- ---- texts
 
-pub joined-append : (ps qs : List Part) → joined (ps ++ qs) ≡ joined ps ++ joined qs
+pub joined-append : (ps qs : List Part) → text_of_parts (ps ++ qs) ≡ text_of_parts ps ++ text_of_parts qs
 joined-append ps qs = flat_map-append text ps qs
 
 -- the text of the parts of elements
-pub joined-flat_map : {X : Type 0} (f : X → List Part) (xs : List X) → joined (flat_map f xs) ≡ flat_map (λ x. joined (f x)) xs
+pub joined-flat_map : {X : Type 0} (f : X → List Part) (xs : List X) → text_of_parts (flat_map f xs) ≡ flat_map (λ x. text_of_parts (f x)) xs
 joined-flat_map f [] = refl
-joined-flat_map f (x ∷ xs) = joined-append (f x) (flat_map f xs) ∙ ap (λ ys. joined (f x) ++ ys) (joined-flat_map f xs)
+joined-flat_map f (x ∷ xs) = joined-append (f x) (flat_map f xs) ∙ ap (λ ys. text_of_parts (f x) ++ ys) (joined-flat_map f xs)
 
-joined-values : (vs : List (List ℕ)) → joined (map value vs) ≡ flat_map value_text vs
+joined-values : (vs : List (List ℕ)) → text_of_parts (map value_part vs) ≡ flat_map value_text vs
 joined-values [] = refl
 joined-values (v ∷ vs) = ap (λ ys. value_text v ++ ys) (joined-values vs)
 
@@ -62,33 +62,33 @@ flat_map-map : {X Y Z : Type 0} (f : Y → List Z) (g : X → Y) (xs : List X) �
 flat_map-map f g [] = refl
 flat_map-map f g (x ∷ xs) = ap (λ ys. f (g x) ++ ys) (flat_map-map f g xs)
 
-pub property_text-is : (p : Property) → filter is_upper p.name ++ flat_map value_text p.values ≡ property_text p
-property_text-is p = ap (λ ys. filter is_upper p.name ++ ys) (sym (joined-values p.values))
+pub property_text-is : (p : Property) → filter is_upper_byte p.name ++ flat_map value_text p.values ≡ property_text p
+property_text-is p = ap (λ ys. filter is_upper_byte p.name ++ ys) (sym (joined-values p.values))
 
 pub node_text-is : (ps : List Property) → (59 ∷ []) ++ flat_map property_text ps ≡ node_text ps
 node_text-is ps =
-    ap (λ ys. 59 ∷ ys) (sym (ap joined (flat_map-map property_parts plain_property ps) ∙ joined-flat_map (λ p. property_parts (plain_property p)) ps))
+    ap (λ ys. 59 ∷ ys) (sym (ap text_of_parts (flat_map-map property_parts plain_property ps) ∙ joined-flat_map (λ p. property_parts (plain_property p)) ps))
 
-joined-nodes : (ns : List (List Property)) → joined (flat_map node_parts (map (map plain_property) ns)) ≡ flat_map node_text ns
+joined-nodes : (ns : List (List Property)) → text_of_parts (flat_map node_parts (map (map plain_property) ns)) ≡ flat_map node_text ns
 joined-nodes ns =
-    ap joined (flat_map-map node_parts (map plain_property) ns) ∙ joined-flat_map (λ n. node_parts (map plain_property n)) ns
+    ap text_of_parts (flat_map-map node_parts (map plain_property) ns) ∙ joined-flat_map (λ n. node_parts (map plain_property n)) ns
 
 -- a tree's text, and what follows it
 tree_then : (nodes : List (List Property)) (children : Trees) (ps : List Part) →
-    joined (opening ∷ (flat_map node_parts (map (map plain_property) nodes) ++ (parts (plain children) ++ (closing ∷ ps))))
-    ≡ tree_text nodes children ++ joined ps
+    text_of_parts (opening ∷ (flat_map node_parts (map (map plain_property) nodes) ++ (parts (plain children) ++ (closing ∷ ps))))
+    ≡ tree_text nodes children ++ text_of_parts ps
 tree_then nodes children ps =
     let front : List Part = flat_map node_parts (map (map plain_property) nodes) in
     let inner : front ++ (parts (plain children) ++ (closing ∷ ps)) ≡ (front ++ (parts (plain children) ++ (closing ∷ []))) ++ ps =
     ap (λ qs. front ++ qs) (sym (append_assoc (parts (plain children)) (closing ∷ []) ps))
     ∙ sym (append_assoc front (parts (plain children) ++ (closing ∷ [])) ps) in
-    ap (λ qs. joined (opening ∷ qs)) inner
+    ap (λ qs. text_of_parts (opening ∷ qs)) inner
     ∙ joined-append (opening ∷ (front ++ (parts (plain children) ++ (closing ∷ [])))) ps
 
 abbrev grown_text : Grown → List ℕ
 grown_text t = tree_text t.0 t.1
 
-children_text : (ts : List Grown) → joined (parts (plain (chain ts))) ≡ flat_map grown_text ts
+children_text : (ts : List Grown) → text_of_parts (parts (plain (chain ts))) ≡ flat_map grown_text ts
 children_text [] = refl
 children_text (t ∷ ts) = tree_then t.0 t.1 (parts (plain (chain ts))) ∙ ap (λ ys. tree_text t.0 t.1 ++ ys) (children_text ts)
 
@@ -97,11 +97,11 @@ tree_text-is : {A : Type 0} (nodes : List (List Property)) (ts : List (Tree A)) 
     (40 ∷ []) ++ (flat_map node_text nodes ++ (flat_map text_of ts ++ (41 ∷ []))) ≡ tree_text nodes (trees_of ts)
 tree_text-is nodes ts =
     let front : List Part = flat_map node_parts (map (map plain_property) nodes) in
-    let behind : joined (parts (plain (trees_of ts)) ++ (closing ∷ [])) ≡ flat_map text_of ts ++ (41 ∷ []) =
+    let behind : text_of_parts (parts (plain (trees_of ts)) ++ (closing ∷ [])) ≡ flat_map text_of ts ++ (41 ∷ []) =
     joined-append (parts (plain (trees_of ts))) (closing ∷ [])
     ∙ ap (λ ys. ys ++ (41 ∷ [])) (children_text (map tree_of ts) ∙ flat_map-map grown_text tree_of ts) in
-    let whole : joined (front ++ (parts (plain (trees_of ts)) ++ (closing ∷ []))) ≡ flat_map node_text nodes ++ (flat_map text_of ts ++ (41 ∷ [])) =
-    joined-append front (parts (plain (trees_of ts)) ++ (closing ∷ [])) ∙ ap (λ ys. ys ++ joined (parts (plain (trees_of ts)) ++ (closing ∷ []))) (joined-nodes nodes)
+    let whole : text_of_parts (front ++ (parts (plain (trees_of ts)) ++ (closing ∷ []))) ≡ flat_map node_text nodes ++ (flat_map text_of ts ++ (41 ∷ [])) =
+    joined-append front (parts (plain (trees_of ts)) ++ (closing ∷ [])) ∙ ap (λ ys. ys ++ text_of_parts (parts (plain (trees_of ts)) ++ (closing ∷ []))) (joined-nodes nodes)
     ∙ ap (λ ys. flat_map node_text nodes ++ ys) behind in
     ap (λ ys. 40 ∷ ys) (sym whole)
 

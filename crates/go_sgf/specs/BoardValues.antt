@@ -19,10 +19,10 @@ point_in n (c ∷ r ∷ []) =
 point_in n _ = None
 
 -- nothing, or `tt`
-abbrev pub is_pass : List ℕ → Bool
-is_pass [] = true
-is_pass (c ∷ d ∷ []) = (c == 116) && (d == 116)
-is_pass _ = false
+abbrev pub is_pass_word : List ℕ → Bool
+is_pass_word [] = true
+is_pass_word (c ∷ d ∷ []) = (c == 116) && (d == 116)
+is_pass_word _ = false
 
 -- a point, or else a pass
 abbrev pub vertex_by : Option Point → Bool → Option Vertex
@@ -30,8 +30,8 @@ vertex_by (Some p) pass = Some (At p)
 vertex_by None pass = if pass then Some Pass else None
 
 -- the point of a move, or a pass: an empty value, and `tt` where it is no point
-abbrev pub point_of : ℕ → List ℕ → Option Vertex
-point_of n v = vertex_by (point_in n (trimmed v)) (is_pass (trimmed v))
+abbrev pub vertex_in : ℕ → List ℕ → Option Vertex
+vertex_in n v = vertex_by (point_in n (trimmed v)) (is_pass_word (trimmed v))
 
 abbrev pub is_between : ℕ → ℕ → ℕ → Bool
 is_between a b x = (nat_le a x && nat_le x b) || (nat_le b x && nat_le x a)
@@ -59,8 +59,8 @@ points_by n v (Some k) = rectangle_by n (point_in n (trimmed (take k v))) (point
 points_by n v None = points_alone n (trimmed v)
 
 -- the points of one value: a rectangle by two opposite corners, a point, or no point
-abbrev pub points_in : ℕ → List ℕ → Option (List Point)
-points_in n v = points_by n v (position (λ c. c == 58) v)
+abbrev pub points_listed : ℕ → List ℕ → Option (List Point)
+points_listed n v = points_by n v (position (λ c. c == 58) v)
 
 abbrev pub both : Option (List Point) → Option (List Point) → Option (List Point)
 both (Some ps) (Some qs) = Some (ps ++ qs)
@@ -69,4 +69,4 @@ both _ _ = None
 -- the points value by value, where each value has some
 abbrev pub points_of : ℕ → List (List ℕ) → Option (List Point)
 points_of n [] = Some []
-points_of n (v ∷ vs) = both (points_in n v) (points_of n vs)
+points_of n (v ∷ vs) = both (points_listed n v) (points_of n vs)

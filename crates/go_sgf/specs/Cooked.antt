@@ -5,28 +5,28 @@ use Rattle.go_sgf.specs.declared.cooking.Mode.{Mode}
 use Rattle.go_sgf.specs.declared.cooking.Mode.TheVariants.{Text, Escape, Broke}
 
 -- LF and CR
-abbrev pub is_break : ℕ → Bool
-is_break c = c == 10 || c == 13
+abbrev pub is_line_break : ℕ → Bool
+is_line_break c = c == 10 || c == 13
 
 -- HT, VT and FF become a space
-abbrev pub unblank : ℕ → ℕ
-unblank c = if (c == 9 || c == 11) || c == 12 then 32 else c
+abbrev pub unblanked : ℕ → ℕ
+unblanked c = if (c == 9 || c == 11) || c == 12 then 32 else c
 
 -- a byte that nothing before it bears on
-abbrev pub plain_step : ℕ → ℕ → Mode × Option ℕ
-plain_step line_break c =
-    if c == 92 then (Escape, None) else (if is_break c then (Broke c, Some line_break) else (Text, Some (unblank c)))
+abbrev pub cooked_alone : ℕ → ℕ → Mode × Option ℕ
+cooked_alone line_break c =
+    if c == 92 then (Escape, None) else (if is_line_break c then (Broke c, Some line_break) else (Text, Some (unblanked c)))
 
 -- One byte on: what is then open, and what the byte gives. The second byte of a line break gives nothing.
-abbrev pub step : ℕ → Mode → ℕ → Mode × Option ℕ
-step line_break Text c = plain_step line_break c
-step line_break Escape c = if is_break c then (Broke c, None) else (Text, Some (unblank c))
-step line_break (Broke b) c = if is_break c && not (c == b) then (Text, None) else plain_step line_break c
+abbrev pub cooked_next : ℕ → Mode → ℕ → Mode × Option ℕ
+cooked_next line_break Text c = cooked_alone line_break c
+cooked_next line_break Escape c = if is_line_break c then (Broke c, None) else (Text, Some (unblanked c))
+cooked_next line_break (Broke b) c = if is_line_break c && not (c == b) then (Text, None) else cooked_alone line_break c
 
 -- what the bytes give, where an unescaped line break gives this byte
 unfoldable pub cooked : ℕ → Mode → List ℕ → List ℕ
 cooked line_break m [] = []
-cooked line_break m (c ∷ cs) = option_to_list (step line_break m c).1 ++ cooked line_break (step line_break m c).0 cs
+cooked line_break m (c ∷ cs) = option_to_list (cooked_next line_break m c).1 ++ cooked line_break (cooked_next line_break m c).0 cs
 
 -- as Text, and as SimpleText
 abbrev pub cooked_text : List ℕ → List ℕ
@@ -45,28 +45,28 @@ escaped t = flat_map escaped_byte t
 -- the text begins with the other byte of a line break
 abbrev pub goes_on : ℕ → List ℕ → Bool
 goes_on b [] = false
-goes_on b (c ∷ cs) = is_break c && not (c == b)
+goes_on b (c ∷ cs) = is_line_break c && not (c == b)
 
 -- What a text gives, by its front. CR LF, LF CR, CR and LF are one line break each, the longest first.
 pub record CookedByFront (line_break : ℕ) : Type 0 where
   pub empty : cooked line_break Text [] ≡ []
   pub lone_escape : cooked line_break Text (92 ∷ []) ≡ []
-  pub escaped_pair : (b c : ℕ) (t : List ℕ) → is_break b ≡ true → goes_on b (c ∷ t) ≡ true →
+  pub escaped_pair : (b c : ℕ) (t : List ℕ) → is_line_break b ≡ true → goes_on b (c ∷ t) ≡ true →
       cooked line_break Text (92 ∷ b ∷ c ∷ t) ≡ cooked line_break Text t
-  pub escaped_break : (b : ℕ) (t : List ℕ) → is_break b ≡ true → goes_on b t ≡ false →
+  pub escaped_break : (b : ℕ) (t : List ℕ) → is_line_break b ≡ true → goes_on b t ≡ false →
       cooked line_break Text (92 ∷ b ∷ t) ≡ cooked line_break Text t
-  pub escaped_other : (b : ℕ) (t : List ℕ) → is_break b ≡ false →
-      cooked line_break Text (92 ∷ b ∷ t) ≡ unblank b ∷ cooked line_break Text t
-  pub pair : (b c : ℕ) (t : List ℕ) → is_break b ≡ true → goes_on b (c ∷ t) ≡ true →
+  pub escaped_other : (b : ℕ) (t : List ℕ) → is_line_break b ≡ false →
+      cooked line_break Text (92 ∷ b ∷ t) ≡ unblanked b ∷ cooked line_break Text t
+  pub pair : (b c : ℕ) (t : List ℕ) → is_line_break b ≡ true → goes_on b (c ∷ t) ≡ true →
       cooked line_break Text (b ∷ c ∷ t) ≡ line_break ∷ cooked line_break Text t
-  pub single : (b : ℕ) (t : List ℕ) → is_break b ≡ true → goes_on b t ≡ false →
+  pub single : (b : ℕ) (t : List ℕ) → is_line_break b ≡ true → goes_on b t ≡ false →
       cooked line_break Text (b ∷ t) ≡ line_break ∷ cooked line_break Text t
-  pub other : (b : ℕ) (t : List ℕ) → (b == 92) ≡ false → is_break b ≡ false →
-      cooked line_break Text (b ∷ t) ≡ unblank b ∷ cooked line_break Text t
+  pub other : (b : ℕ) (t : List ℕ) → (b == 92) ≡ false → is_line_break b ≡ false →
+      cooked line_break Text (b ∷ t) ≡ unblanked b ∷ cooked line_break Text t
 
 -- neither CR nor HT, VT and FF
 abbrev pub is_kept : ℕ → Bool
-is_kept c = not (c == 13) && (unblank c == c)
+is_kept c = not (c == 13) && (unblanked c == c)
 
 -- cooking an escaped text gives the text
 abbrev pub CookingUndoesEscaping : Type 0

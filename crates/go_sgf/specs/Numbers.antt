@@ -1,26 +1,26 @@
 -- Values that are numbers: a whole number, and a komi in hundredths.
-use Rattle.std.specs.Prelude.{ℕ, ℤ, pos, ◌+◌, ◌-◌, ◌-ℤ◌, ◌==◌, ◌&&◌, ◌||◌, not, nat_le, Bool, false, if◌then◌else◌, List, [], ◌∷◌, ◌++◌, Option, Some, None, codes, drop, length, option_map, position, reverse, take, unwrap_or}
+use Rattle.std.specs.Prelude.{ℕ, ℤ, pos, ◌-ℤ◌, ◌==◌, ◌&&◌, ◌||◌, not, nat_le, Bool, false, if◌then◌else◌, List, [], ◌∷◌, ◌++◌, Option, Some, None, codes, drop, length, option_map, position, reverse, take, unwrap_or}
 use Rattle.std.specs.Char.{is_ascii_digit}
 use Rattle.std.specs.List.{list_all}
-use Rattle.go_sgf.specs.Spelling.{after_space}
-use Rattle.go_board.specs.Decimals.{int_of, is_empty, value_of_digits}
-use Rattle.go_sgf.specs.declared.hundredths.TheConstants.{MOST_HUNDREDTHS}
+use Rattle.go_sgf.specs.Spelling.{without_space}
+use Rattle.go_board.specs.Decimals.{int_of, is_empty, digits_value}
+use Rattle.go_board.specs.declared.decimals.TheConstants.{MAX_KOMI}
 
 -- without the white space at the end
 abbrev pub trimmed_end : List ℕ → List ℕ
-trimmed_end v = reverse (after_space (reverse v))
+trimmed_end v = reverse (without_space (reverse v))
 
 -- without the white space at both ends
 abbrev pub trimmed : List ℕ → List ℕ
-trimmed v = trimmed_end (after_space v)
+trimmed v = trimmed_end (without_space v)
 
 abbrev pub behind_plus : List ℕ → List ℕ
 behind_plus [] = []
 behind_plus (c ∷ cs) = if c == 43 then cs else c ∷ cs
 
 -- an optional `+` and digits
-abbrev pub number_of : List ℕ → Option ℕ
-number_of v = int_of (behind_plus (trimmed v))
+abbrev pub number_in : List ℕ → Option ℕ
+number_in v = int_of (behind_plus (trimmed v))
 
 -- a number begins with a minus sign
 abbrev pub has_minus : List ℕ → Bool
@@ -51,11 +51,11 @@ is_decimal whole decimals =
 
 -- the digits with two decimals
 abbrev pub hundredths_in : List ℕ → List ℕ → ℕ
-hundredths_in whole decimals = value_of_digits (whole ++ take 2 (decimals ++ codes "00"))
+hundredths_in whole decimals = digits_value (whole ++ take 2 (decimals ++ codes "00"))
 
 abbrev pub size_by : List ℕ → List ℕ → Option ℕ
 size_by whole decimals =
-    if is_decimal whole decimals && nat_le (hundredths_in whole decimals) MOST_HUNDREDTHS
+    if is_decimal whole decimals && nat_le (hundredths_in whole decimals) MAX_KOMI
     then Some (hundredths_in whole decimals) else None
 
 -- the size of a number without a sign, in hundredths
@@ -69,5 +69,5 @@ with_sign minus size = if minus then pos 0 -ℤ pos size else pos size
 abbrev pub komi_of : List ℕ → Option ℤ
 komi_of word = option_map (with_sign (has_minus word)) (size_of_number (behind_sign word))
 
-abbrev pub hundredths_of : List ℕ → Option ℤ
-hundredths_of v = komi_of (trimmed v)
+abbrev pub hundredths_by : List ℕ → Option ℤ
+hundredths_by v = komi_of (trimmed v)

@@ -13,18 +13,18 @@ pub data Trees : Type 0 where
   none : Trees
   tree : List (List Property) → Trees → Trees → Trees
 
-abbrev pub is_upper : ℕ → Bool
-is_upper c = nat_le 65 c && nat_le c 90
+abbrev pub is_upper_byte : ℕ → Bool
+is_upper_byte c = nat_le 65 c && nat_le c 90
 
 abbrev pub is_lower : ℕ → Bool
 is_lower c = nat_le 97 c && nat_le c 122
 
-abbrev pub is_letter : ℕ → Bool
-is_letter c = is_upper c || is_lower c
+abbrev pub is_letter_byte : ℕ → Bool
+is_letter_byte c = is_upper_byte c || is_lower c
 
 -- letters, at least one of them upper-case
 abbrev pub IsName : List ℕ → Type 0
-IsName n = (list_all is_letter n ≡ true) × (list_any is_upper n ≡ true)
+IsName n = (list_all is_letter_byte n ≡ true) × (list_any is_upper_byte n ≡ true)
 
 -- A `\` and the byte after it belong together, and no other `]` stands inside. A first byte may be escaped from before.
 abbrev pub is_inside : Bool → List ℕ → Bool
@@ -59,7 +59,7 @@ pub record IsFit (c : Trees) : Type 0 where
 
 -- the name without its lower-case letters, which don't count
 abbrev pub plain_property : Property → Property
-plain_property p = record { name = filter is_upper p.name; values = p.values }
+plain_property p = record { name = filter is_upper_byte p.name; values = p.values }
 
 -- the trees with plain names alone
 abbrev pub plain : Trees → Trees

@@ -15,9 +15,9 @@ abbrev pub row_from : ℕ → ℕ → ℕ → List Point
 row_from row column count = map (λ c. record { col = c; row = row }) (range_with_len column count)
 
 -- the points of one of its rows, by the row's number from the lowest on
-abbrev pub row_of : RectangleValue → ℕ → List Point
-row_of r k = row_from (r.row + k) r.column r.columns
+abbrev pub points_of_row : RectangleValue → ℕ → List Point
+points_of_row r k = row_from (r.row + k) r.column r.columns
 
 -- all of its points: row by row from the lowest, each from the left
 abbrev pub listed : RectangleValue → List Point
-listed r = flat_map (row_of r) (range_with_len 0 r.rows)
+listed r = flat_map (points_of_row r) (range_with_len 0 r.rows)

@@ -1,7 +1,7 @@
 -- Why a source spells no record, and at which byte.
 use Rattle.std.specs.Prelude.{◌≡◌, ℕ, ◌+◌, ◌≤◌, ◌<◌, suc, true, List, [], take, length, None}
 use Rattle.go_sgf.specs.Record.{Trees, AreTrees, depth}
-use Rattle.go_sgf.specs.Spelling.{Spells, SpellsParts, begins_tree, from_tree, parts}
+use Rattle.go_sgf.specs.Spelling.{Spells, SpellsParts, is_tree_first, tree_in, parts}
 use Rattle.go_sgf.specs.Stands.{IsAtDepth, IsUnfinished, stands}
 use Rattle.go_sgf.specs.declared.error.SgfError.{SgfError}
 use Rattle.go_sgf.specs.declared.error.SgfError.TheVariants.{NoTree, EndInside, Unexpected, TooDeep, Memory, TooLong}
@@ -15,8 +15,8 @@ pub record StopsAt (source : List ℕ) (place : ℕ) (At : List ℕ → ℕ → 
   pub whole : AreTrees before
   pub nesting : depth before ≤ MAX_DEPTH
   pub text : List ℕ
-  pub spelling : SpellsParts (from_tree source) (parts before) text
-  pub begins : begins_tree text ≡ true
+  pub spelling : SpellsParts (tree_in source) (parts before) text
+  pub begins : is_tree_first text ≡ true
   pub at : ℕ
   pub placed : place + length text ≡ length source + at
   pub unfinished : IsUnfinished (stands (take at text))
@@ -37,7 +37,7 @@ StandsTooDeep text at = (at < length text) × IsAtDepth (suc MAX_DEPTH) (stands 
 
 -- what each refusal says of the source
 abbrev pub IsRefusal : List ℕ → SgfError → Type 0
-IsRefusal source NoTree = from_tree source ≡ []
+IsRefusal source NoTree = tree_in source ≡ []
 IsRefusal source (EndInside place) = (place ≡ length source) × StopsAt source place EndsAt
 IsRefusal source (Unexpected place) = StopsAt source place StandsNoLonger
 IsRefusal source (TooDeep place) = StopsAt source place StandsTooDeep

@@ -9,18 +9,18 @@ pub data Part : Type 0 where
   closing : Part
   semicolon : Part
   name : List ℕ → Part
-  value : List ℕ → Part
+  value_part : List ℕ → Part
 
--- `(`, `)`, `;`, a name, and a value between `[` and `]`
+-- `(`, `)`, `;`, a name, and a value_part between `[` and `]`
 abbrev pub text : Part → List ℕ
 text opening = 40 ∷ []
 text closing = 41 ∷ []
 text semicolon = 59 ∷ []
 text (name n) = n
-text (value v) = 91 ∷ (v ++ (93 ∷ []))
+text (value_part v) = 91 ∷ (v ++ (93 ∷ []))
 
 abbrev pub property_parts : Property → List Part
-property_parts p = name p.name ∷ map value p.values
+property_parts p = name p.name ∷ map value_part p.values
 
 abbrev pub node_parts : List Property → List Part
 node_parts ps = semicolon ∷ flat_map property_parts ps
@@ -36,44 +36,44 @@ abbrev pub is_space : ℕ → Bool
 is_space c = (c == 32) || (nat_le 9 c && nat_le c 13)
 
 -- the text after the white space at its front
-abbrev pub after_space : List ℕ → List ℕ
-after_space [] = []
-after_space (c ∷ cs) = if is_space c then after_space cs else c ∷ cs
+abbrev pub without_space : List ℕ → List ℕ
+without_space [] = []
+without_space (c ∷ cs) = if is_space c then without_space cs else c ∷ cs
 
 -- The text is these parts, with white space before and after any of them, and then rest, which begins with no white space.
 abbrev pub SpellsParts : List ℕ → List Part → List ℕ → Type 0
-SpellsParts b [] rest = after_space b ≡ rest
-SpellsParts b (p ∷ ps) rest = (more : List ℕ) × (after_space b ≡ text p ++ more) × SpellsParts more ps rest
+SpellsParts b [] rest = without_space b ≡ rest
+SpellsParts b (p ∷ ps) rest = (more : List ℕ) × (without_space b ≡ text p ++ more) × SpellsParts more ps rest
 
-abbrev pub begins_with : ℕ → List ℕ → Bool
-begins_with c [] = false
-begins_with c (d ∷ ds) = d == c
+abbrev pub is_first : ℕ → List ℕ → Bool
+is_first c [] = false
+is_first c (d ∷ ds) = d == c
 
 -- the text begins with `(`, and `;` follows, white space aside
-abbrev pub begins_tree : List ℕ → Bool
-begins_tree [] = false
-begins_tree (c ∷ cs) = (c == 40) && begins_with 59 (after_space cs)
+abbrev pub is_tree_first : List ℕ → Bool
+is_tree_first [] = false
+is_tree_first (c ∷ cs) = (c == 40) && is_first 59 (without_space cs)
 
 -- the text from the first tree on
-abbrev pub from_tree : List ℕ → List ℕ
-from_tree [] = []
-from_tree (c ∷ cs) = if begins_tree (c ∷ cs) then c ∷ cs else from_tree cs
+abbrev pub tree_in : List ℕ → List ℕ
+tree_in [] = []
+tree_in (c ∷ cs) = if is_tree_first (c ∷ cs) then c ∷ cs else tree_in cs
 
 -- The text spells the trees: a front without a tree, the trees, and a rest that goes on with no tree.
 pub record Spells (b : List ℕ) (c : Trees) : Type 0 where
   pub fit : IsFit c
   pub rest : List ℕ
-  pub spelling : SpellsParts (from_tree b) (parts c) rest
-  pub ended : begins_tree rest ≡ false
+  pub spelling : SpellsParts (tree_in b) (parts c) rest
+  pub ended : is_tree_first rest ≡ false
 
 -- the text of parts with nothing between them
-abbrev pub joined : List Part → List ℕ
-joined ps = flat_map text ps
+abbrev pub text_of_parts : List Part → List ℕ
+text_of_parts ps = flat_map text ps
 
 -- the text of a tree, with plain names
 abbrev pub tree_text : List (List Property) → Trees → List ℕ
 tree_text nodes children =
-    joined (opening ∷ (flat_map node_parts (map (map plain_property) nodes) ++ (parts (plain children) ++ (closing ∷ []))))
+    text_of_parts (opening ∷ (flat_map node_parts (map (map plain_property) nodes) ++ (parts (plain children) ++ (closing ∷ []))))
 
 -- each tree's text, then LF
 abbrev pub canonical : Trees → List ℕ

@@ -1,5 +1,5 @@
 ghost use Rattle.std.specs.Prelude.{◌≡◌, ◌++◌, IfOk, OnOk, option_to_list};
-ghost use Rattle.go_sgf.specs.Cooked.{cooked, cooked_simple, cooked_text, escaped, escaped_byte, is_break as is_line_break, plain_step as is_plain_step, step as is_step, unblank as is_unblanked};
+ghost use Rattle.go_sgf.specs.Cooked.{cooked, cooked_simple, cooked_text, escaped, escaped_byte, is_line_break, cooked_alone, cooked_next, unblanked};
 ghost use Rattle.go_sgf.specs.declared.cooking.Mode.TheVariants.{Text};
 
 use std::alloc::{AllocError, Allocator};
@@ -81,7 +81,7 @@ fn push_given<A: Allocator + Copy>(
 
 /// What is open behind a byte, and what the byte gives.
 fn step(line_break: u8, mode: Mode, byte: u8) -> (Mode, Option<u8>)
-    ensures { result ≡ is_step line_break mode byte }
+    ensures { result ≡ cooked_next line_break mode byte }
 {
     match mode {
         Mode::Text => plain_step(line_break, byte),
@@ -93,7 +93,7 @@ fn step(line_break: u8, mode: Mode, byte: u8) -> (Mode, Option<u8>)
 }
 
 fn plain_step(line_break: u8, byte: u8) -> (Mode, Option<u8>)
-    ensures { result ≡ is_plain_step line_break byte }
+    ensures { result ≡ cooked_alone line_break byte }
 {
     if byte == b'\\' {
         (Mode::Escape, None)
@@ -112,7 +112,7 @@ fn is_break(byte: u8) -> bool
 
 /// A space in place of HT, VT and FF.
 fn unblank(byte: u8) -> u8
-    ensures { result ≡ is_unblanked byte }
+    ensures { result ≡ unblanked byte }
 {
     match byte {
         9 | 11 | 12 => b' ',

@@ -1,32 +1,29 @@
 ghost use Rattle.std.specs.Prelude.{◌≡◌, ◌+◌, ◌-◌, ◌*◌, ◌<◌, ◌≤◌, ◌==◌, ◌++◌, ◌≤ℤ◌, codes, drop, length, min, negsuc, option_map, position, pos, IfSome, slice_index_or, take, true, unwrap_or};
 ghost use Rattle.std.specs.Char.{is_ascii_digit};
 ghost use Rattle.std.specs.List.{list_all};
-ghost use Rattle.go_board.specs.Decimals.{value_of_digits};
-ghost use Rattle.go_sgf.specs.Numbers.{decimals_in, hundredths_in, hundredths_of as hundredths_by, is_decimal, komi_of, point_place, size_by, size_of_number, whole_part, with_sign};
+ghost use Rattle.go_board.specs.Decimals.{digits_value};
+ghost use Rattle.go_board.specs.Komi.{IsKomi};
+ghost use Rattle.go_board.specs.declared.decimals.TheConstants.{MAX_KOMI};
+ghost use Rattle.go_sgf.specs.Numbers.{decimals_in, hundredths_in, hundredths_by, is_decimal, komi_of, point_place, size_by, size_of_number, whole_part, with_sign};
 
 use crate::numbers::trim;
-use go_board::{are_digits, value_of_digits, with_digit};
+use go_board::{MAX_KOMI, are_digits, value_of_digits, with_digit};
 
-/// The most hundredths that a komi has, either way.
-pub const MOST_HUNDREDTHS: u64 = 99_999_999_999;
-
-const PAST_MOST: u64 = MOST_HUNDREDTHS + 1;
+const PAST_MOST: u64 = MAX_KOMI + 1;
 
 /// The komi that a value spells, in hundredths of a point: an optional sign, digits, and an
 /// optional point among or behind them, with white space at both ends skipped. Digits past the
 /// second decimal must be 0. None where it spells no komi, or one of more than 999,999,999.99.
 pub fn hundredths_of(value: &[u8]) -> Option<i64>
     ensures value { result ≡ hundredths_by value.now }
-    ensures low { IfSome result (λ komi. negsuc 99999999998 ≤ℤ komi) }
-    ensures high { IfSome result (λ komi. komi ≤ℤ pos MOST_HUNDREDTHS) }
+    ensures range { IfSome result IsKomi }
 {
     read_komi(trim(value))
 }
 
 fn read_komi(word: &[u8]) -> Option<i64>
     ensures value { result ≡ komi_of word.now }
-    ensures low { IfSome result (λ komi. negsuc 99999999998 ≤ℤ komi) }
-    ensures high { IfSome result (λ komi. komi ≤ℤ pos MOST_HUNDREDTHS) }
+    ensures range { IfSome result IsKomi }
 {
     match word.split_first() {
         Some((b'-', number)) => signed(true, read_size(number)),
@@ -36,10 +33,9 @@ fn read_komi(word: &[u8]) -> Option<i64>
 }
 
 fn signed(minus: bool, size: Option<u64>) -> Option<i64>
-    requires { IfSome size (λ n. n ≤ MOST_HUNDREDTHS) }
+    requires { IfSome size (λ n. n ≤ MAX_KOMI) }
     ensures value { result ≡ option_map (with_sign minus) size }
-    ensures low { IfSome result (λ komi. negsuc 99999999998 ≤ℤ komi) }
-    ensures high { IfSome result (λ komi. komi ≤ℤ pos MOST_HUNDREDTHS) }
+    ensures range { IfSome result IsKomi }
 {
     match size {
         None => None,
@@ -50,7 +46,7 @@ fn signed(minus: bool, size: Option<u64>) -> Option<i64>
 /// The size of a number without a sign, in hundredths.
 fn read_size(number: &[u8]) -> Option<u64>
     ensures value { result ≡ size_of_number number.now }
-    ensures bound { IfSome result (λ n. n ≤ MOST_HUNDREDTHS) }
+    ensures bound { IfSome result (λ n. n ≤ MAX_KOMI) }
 {
     let (whole, tail) = number.split_at(place_of_point(number));
     let decimals = match tail.split_first() {
@@ -79,17 +75,13 @@ fn first_point(number: &[u8]) -> Option<usize>
 
 fn size_of_parts(whole: &[u8], decimals: &[u8]) -> Option<u64>
     ensures value { result ≡ size_by whole.now decimals.now }
-    ensures bound { IfSome result (λ n. n ≤ MOST_HUNDREDTHS) }
+    ensures bound { IfSome result (λ n. n ≤ MAX_KOMI) }
 {
     if !are_decimal(whole, decimals) {
         return None;
     }
     let size = hundredths(whole, decimals);
-    if size > MOST_HUNDREDTHS {
-        None
-    } else {
-        Some(size)
-    }
+    if size > MAX_KOMI { None } else { Some(size) }
 }
 
 /// Whether the parts are digits, at least one in all, with none but 0 behind the second decimal.

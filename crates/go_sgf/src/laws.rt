@@ -3,14 +3,12 @@
 ghost use Rattle.std.specs.Prelude.{◌≡◌, ℕ};
 ghost use Rattle.go_sgf.specs.Cooked.{CookedByFront, CookingUndoesEscaping};
 ghost use Rattle.go_sgf.specs.Laws.{CanonicalSpellsPlain, FrontsStand, OneRecord, SpelledIsFit};
-ghost use Rattle.go_sgf.specs.declared.hundredths.TheConstants.{MOST_HUNDREDTHS};
 ghost use Rattle.go_sgf.specs.declared.limits.TheConstants.{MAX_DEPTH, MAX_RECORD};
 
-/// The most bytes and the deepest nesting of a record, and the most hundredths that a value spells.
+/// The most bytes and the deepest nesting of a record.
 pub fn limits()
     ensures bytes { MAX_RECORD ≡ 16777216 }
     ensures depth { MAX_DEPTH ≡ 1000 }
-    ensures hundredths { MOST_HUNDREDTHS ≡ 99999999999 }
 {}
 
 /// The canonical text of a record spells it with plain names, and is their canonical text too.

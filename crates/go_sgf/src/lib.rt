@@ -40,7 +40,7 @@ mod writer;
 
 pub use cooking::{cook_simple, cook_text, escape};
 pub use error::SgfError;
-pub use hundredths::{MOST_HUNDREDTHS, hundredths_of};
+pub use hundredths::hundredths_of;
 pub use limits::{MAX_DEPTH, MAX_RECORD};
 pub use nodes::{Node, Nodes, Properties, Property};
 pub use numbers::{number_of, trim};

@@ -1,8 +1,8 @@
 ghost use Rattle.std.specs.Prelude.{◌≡◌, [], bytes_eq, filter, false};
 ghost use Rattle.go_sgf.specs.PartsIn.{nodes_at, parts_in, properties_at, values_at};
 ghost use Rattle.go_sgf.specs.inner.Reads.{begins_space};
-ghost use Rattle.go_sgf.specs.PartsIn.{begins_letter as is_letter_first};
-ghost use Rattle.go_sgf.specs.Record.{is_upper as is_upper_byte, plain_property};
+ghost use Rattle.go_sgf.specs.PartsIn.{is_letter_first};
+ghost use Rattle.go_sgf.specs.Record.{is_upper_byte, plain_property};
 
 use crate::scan::{begins_letter, is_upper, letters, strip};
 use crate::values::{Values, behind_values};

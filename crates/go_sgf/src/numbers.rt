@@ -1,6 +1,6 @@
 ghost use Rattle.std.specs.Prelude.{◌≡◌, ◌≤◌, IfSome};
 ghost use Rattle.go_board.specs.declared.decimals.TheConstants.{MAX_INT};
-ghost use Rattle.go_sgf.specs.Numbers.{number_of as number_in, trimmed, trimmed_end};
+ghost use Rattle.go_sgf.specs.Numbers.{number_in, trimmed, trimmed_end};
 
 use crate::scan::{after_space, is_white};
 use go_board::{MAX_INT, read_int};

@@ -1,7 +1,7 @@
 ghost use Rattle.std.specs.Prelude.{◌≡◌, ◌<◌, ◌==◌, All, IfSome, length, option_map, position};
 ghost use Rattle.go_board.specs.Points.{IsOn};
 ghost use Rattle.go_board.specs.Vertices.{IsOnBoard};
-ghost use Rattle.go_sgf.specs.BoardValues.{is_pass as is_pass_word, names_line, point_in, point_of as point_by, points_alone, points_in as points_by};
+ghost use Rattle.go_sgf.specs.BoardValues.{is_pass_word, names_line, point_in, vertex_in, points_alone, points_listed};
 ghost use Rattle.go_sgf.specs.Rectangles.{listed};
 
 use crate::numbers::trim;
@@ -12,7 +12,7 @@ use go_board::{Point, Size, Vertex};
 /// top, `a` the first. An empty value is a pass, and so is `tt` on boards where it is no point.
 /// White space at both ends is skipped. None where the value is neither.
 pub fn point_of(value: &[u8], size: Size) -> Option<Vertex>
-    ensures value { result ≡ point_by size value.now }
+    ensures value { result ≡ vertex_in size value.now }
     ensures on { IfSome result (IsOnBoard size) }
 {
     let word = trim(value);
@@ -56,7 +56,7 @@ fn is_line(letter: u8, size: Size) -> bool
 /// between them, or nothing, for no point. White space at both ends of the value or of a corner is
 /// skipped. None where the value is malformed.
 pub fn points_in(value: &[u8], size: Size) -> Option<Rectangle>
-    ensures value { option_map listed result ≡ points_by size value.now }
+    ensures value { option_map listed result ≡ points_listed size value.now }
     ensures on { IfSome result (λ r. All (IsOn size) (listed r)) }
 {
     match colon_in(value) {

@@ -1,10 +1,10 @@
 ghost use Rattle.std.specs.Prelude.{◌≡◌, ◌≤◌, ◌+◌, ◌++◌, ◌∷◌, ℕ, List, Err, IfOk, OnOk, [], false, true, IfErr, ◌<◌, ◌↔◌, length};
-ghost use Rattle.go_sgf.specs.inner.Outcome.{IsWithin, Meets, here, left_of, outcome, outcome_after, place_of};
+ghost use Rattle.go_sgf.specs.inner.Outcome.{IsWithin, Meets, here, left_of, outcome, outcome_after, error_at};
 ghost use Rattle.go_sgf.specs.inner.Reads.{ReadsNode, ReadsNodes, ReadsProperty, ReadsTree, ReadsValues};
-ghost use Rattle.go_sgf.specs.PartsIn.{begins_letter as is_letter_first, nodes_at, parts_in};
+ghost use Rattle.go_sgf.specs.PartsIn.{is_letter_first, nodes_at, parts_in};
 ghost use Rattle.go_sgf.specs.Record.{Property};
 ghost use Rattle.go_sgf.specs.Refusals.{IsRefusal};
-ghost use Rattle.go_sgf.specs.Spelling.{Spells, begins_with as begins_with_by};
+ghost use Rattle.go_sgf.specs.Spelling.{Spells, is_first};
 ghost use Rattle.go_sgf.specs.Stands.{after, closed, in_node, named, opened};
 ghost use Rattle.go_sgf.specs.View.{collection_of, tree_of};
 
@@ -43,7 +43,7 @@ fn push<T: Drop, A: Allocator + Copy>(list: &mut Vec<T, A>, item: T) -> Result<(
 fn values(bytes: &[u8]) -> Result<&[u8], Fault>
     requires { is_letter_first bytes.now ≡ false }
     ensures read { IfOk result (λ rest. (vs : List (List ℕ)) × ReadsValues bytes.now vs rest.now) }
-    ensures stopped { IfOk result (λ rest. begins_with_by 91 rest.now ≡ false) }
+    ensures stopped { IfOk result (λ rest. is_first 91 rest.now ≡ false) }
     ensures place { (d : ℕ) → IsWithin MAX_DEPTH d → Meets result
         (outcome MAX_DEPTH named d bytes.now) (λ rest. outcome MAX_DEPTH in_node d rest.now) }
 {
@@ -144,7 +144,7 @@ pub(crate) fn tree<'a, A: Allocator + Copy>(
 /// What is answered for a fault in a source of this length.
 fn placed(fault: Fault, length: usize) -> SgfError
     requires { left_of fault ≤ length }
-    ensures { result ≡ place_of length fault }
+    ensures { result ≡ error_at length fault }
 {
     match fault {
         Fault::Memory => SgfError::Memory,

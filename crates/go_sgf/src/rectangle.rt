@@ -3,7 +3,7 @@ ghost use Rattle.std.specs.Iterator.{YieldsFirst, item_count};
 ghost use Rattle.go_board.specs.Points.{IsOn};
 ghost use Rattle.go_board.specs.declared.size.TheConstants.{MAX_LINES};
 ghost use Rattle.go_sgf.specs.BoardValues.{rectangle};
-ghost use Rattle.go_sgf.specs.Rectangles.{listed, row_of};
+ghost use Rattle.go_sgf.specs.Rectangles.{listed, points_of_row};
 
 use go_board::Point;
 use std::marker::Model;
@@ -96,7 +96,7 @@ impl Rectangle {
     /// The row with this number, 0 for the lowest.
     pub fn row(self, number: u8) -> Row
         requires { number < self.rows }
-        ensures { result ≡ row_of self number }
+        ensures { result ≡ points_of_row self number }
     {
         Row {
             row: self.row + number,

@@ -2,9 +2,9 @@ ghost use Rattle.std.specs.Prelude.{◌≡◌, ◌∷◌, ◌++◌, ◌||◌, �
 ghost use Rattle.std.specs.List.{list_all, list_any};
 ghost use Rattle.memchr.specs.Find.{IsFirstByte, is_byte2};
 ghost use Rattle.go_sgf.specs.inner.Reads.{is_ordinary};
-ghost use Rattle.go_sgf.specs.PartsIn.{begins_letter as is_letter_first};
-ghost use Rattle.go_sgf.specs.Record.{is_letter as is_letter_byte, is_upper as is_upper_byte};
-ghost use Rattle.go_sgf.specs.Spelling.{after_space as without_space, begins_tree as is_tree_first, begins_with as is_first, from_tree as tree_in, is_space};
+ghost use Rattle.go_sgf.specs.PartsIn.{is_letter_first};
+ghost use Rattle.go_sgf.specs.Record.{is_letter_byte, is_upper_byte};
+ghost use Rattle.go_sgf.specs.Spelling.{without_space, is_tree_first, is_first, tree_in, is_space};
 
 use memchr::memchr2;
 

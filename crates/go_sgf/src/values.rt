@@ -5,7 +5,7 @@ ghost use Rattle.go_sgf.specs.inner.Outcome.{IsWithin, outcome};
 ghost use Rattle.go_sgf.specs.PartsIn.{nodes_at, parts_from, parts_in, properties_at, values_at};
 ghost use Rattle.go_sgf.specs.inner.Reads.{begins_space};
 ghost use Rattle.go_sgf.specs.Record.{IsValue};
-ghost use Rattle.go_sgf.specs.Spelling.{value as value_part};
+ghost use Rattle.go_sgf.specs.Spelling.{value_part};
 ghost use Rattle.go_sgf.specs.Stands.{in_value};
 
 use crate::scan::{after_space, ordinary, strip};

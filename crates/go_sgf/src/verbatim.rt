@@ -1,6 +1,6 @@
 ghost use Rattle.std.specs.Prelude.{◌≡◌, ◌<◌, ◌++◌, IfNone, IfSome, false, length};
 ghost use Rattle.go_sgf.specs.PartsIn.{parts_in};
-ghost use Rattle.go_sgf.specs.Spelling.{begins_with as is_first};
+ghost use Rattle.go_sgf.specs.Spelling.{is_first};
 ghost use Rattle.go_sgf.specs.inner.Texts.{StayValues, Stays, parts_text};
 
 use crate::scan::{after_space, begins_letter, begins_with, is_plain, letters, strip};

@@ -4,8 +4,8 @@ ghost use Rattle.go_board.specs.Device.{Sent, failures_after};
 ghost use Rattle.go_board.specs.Pens.{Writes};
 ghost use Rattle.go_sgf.specs.PartsIn.{nodes_at, parts_in, values_at};
 ghost use Rattle.go_sgf.specs.inner.Reads.{begins_space};
-ghost use Rattle.go_sgf.specs.Record.{is_upper as is_upper_byte};
-ghost use Rattle.go_sgf.specs.Spelling.{begins_with as is_first, canonical};
+ghost use Rattle.go_sgf.specs.Record.{is_upper_byte};
+ghost use Rattle.go_sgf.specs.Spelling.{is_first, canonical};
 ghost use Rattle.go_sgf.specs.inner.Texts.{node_text, parts_text, text_of, value_text};
 ghost use Rattle.go_sgf.specs.View.{collection_of};
 

@@ -11,8 +11,7 @@ use Rattle.go_board.specs.Points.{number_of}
 use Rattle.go_game.specs.declared.errors.PlayError.{PlayError}
 use Rattle.go_game.specs.declared.errors.PlayError.TheVariants.{OffBoard, Occupied, Repeats, Memory}
 use Rattle.go_game.specs.Legal.{is_legal}
-use Rattle.go_game.specs.Standings as standings
-use Rattle.go_game.specs.Standings.{IsLegal, IsOccupied, IsOffBoard, Standing, seen_after, stood_of, with_move}
+use Rattle.go_game.specs.Standings.{IsLegal, IsOccupied, IsOffBoard, IsRepeat, Standing, seen_after, stood_of, with_move}
 use Rattle.goref.specs.declared.decision.Decision.TheVariants.{Done, Refused}
 use Rattle.goref.specs.declared.decision.Refusal.TheVariants.{IllegalMove, OutOfMemory}
 use Rattle.goref.specs.Decisions.{keeps, comes_to}
@@ -26,7 +25,7 @@ held_is_illegal : (s : Standing) (c : Colour) (v : Vertex) → IsOccupied s v �
 held_is_illegal s c Pass held = absurd held
 held_is_illegal s c (At p) held = λ legal. held.1 legal.1
 
-repeat_is_illegal : (s : Standing) (c : Colour) (v : Vertex) (k : ℕ) → standings.Repeats s c v k → (IsLegal s c v → ⊥)
+repeat_is_illegal : (s : Standing) (c : Colour) (v : Vertex) (k : ℕ) → IsRepeat s c v k → (IsLegal s c v → ⊥)
 repeat_is_illegal s c Pass k repeats = absurd repeats
 repeat_is_illegal s c (At p) k repeats =
     λ legal. legal.2 (k, repeats.0, sym (get_or_default (stood_of s) k ([], None) (seen_after s c (number_of s.lines p)) repeats.0) ∙ repeats.1)
@@ -51,7 +50,7 @@ module _ (law : LegalByTheRules) where
   pub move_refused : (s s' : Standing) (m : Move) (e : PlayError) → s' ≡ s →
       (e ≡ OffBoard → IsOffBoard s m.vertex) → (IsOffBoard s m.vertex → e ≡ OffBoard) →
       (e ≡ Occupied → IsOccupied s m.vertex) → (IsOccupied s m.vertex → e ≡ Occupied) →
-      ((k : ℕ) → e ≡ Repeats k → standings.Repeats s m.colour m.vertex k) →
+      ((k : ℕ) → e ≡ Repeats k → IsRepeat s m.colour m.vertex k) →
       DecidesPlay s (Some m.colour) (Some m.vertex) (record { decision = Refused (move_refusal e); standing = s' })
   move_refused s s' m OffBoard same off off' held held' repeats = illegal s s' m same (off_is_illegal s m.colour m.vertex (off refl))
   move_refused s s' m Occupied same off off' held held' repeats = illegal s s' m same (held_is_illegal s m.colour m.vertex (held refl))

@@ -11,8 +11,8 @@ use Rattle.go_board.specs.declared.vertex.Vertex.TheVariants.{Pass, At}
 use Rattle.go_board.specs.Points.{point_at}
 use Rattle.go_game.specs.Standings.{Standing}
 use Rattle.go_record.specs.Records.{alone, colour_letter, move_node, nodes_of, point_value, points_coloured, record_body, start_node, stones_property, vertex_value}
-use Rattle.go_sgf.specs.Record.{Property, is_upper, plain_property}
-use Rattle.go_sgf.specs.Spelling.{Part, closing, joined, node_parts, opening, property_parts, text, value}
+use Rattle.go_sgf.specs.Record.{Property, is_upper_byte, plain_property}
+use Rattle.go_sgf.specs.Spelling.{Part, closing, text_of_parts, node_parts, opening, property_parts, text, value_part}
 use Rattle.goref.proofs.Decimals.{full_decimal, hundredths_line}
 use Rattle.goref.proofs.Lines.{IsLine, all_append, line_append, line_by_test, line_filter}
 
@@ -21,15 +21,15 @@ use Rattle.goref.proofs.Lines.{IsLine, all_append, line_append, line_by_test, li
 abbrev IsLinePart : Part → Type 0
 IsLinePart p = IsLine (text p)
 
-joined_line : (ps : List Part) → AllByRecursion IsLinePart ps → IsLine (joined ps)
+joined_line : (ps : List Part) → AllByRecursion IsLinePart ps → IsLine (text_of_parts ps)
 joined_line [] h = tt
-joined_line (p ∷ ps) h = line_append (text p) (joined ps) h.0 (joined_line ps h.1)
+joined_line (p ∷ ps) h = line_append (text p) (text_of_parts ps) h.0 (joined_line ps h.1)
 
 record IsLineProperty (p : Property) : Type 0 where
   name : IsLine p.name
   values : AllByRecursion IsLine p.values
 
-value_parts : (vs : List (List ℕ)) → AllByRecursion IsLine vs → AllByRecursion IsLinePart (map value vs)
+value_parts : (vs : List (List ℕ)) → AllByRecursion IsLine vs → AllByRecursion IsLinePart (map value_part vs)
 value_parts [] h = tt
 value_parts (v ∷ vs) h = (line_append (91 ∷ v) (93 ∷ []) (omega arith, h.0) (omega arith, tt), value_parts vs h.1)
 
@@ -37,7 +37,7 @@ node_line : (ps : List Property) → AllByRecursion IsLineProperty ps → AllByR
 node_line [] h = tt
 node_line (p ∷ ps) h =
     all_append IsLinePart (property_parts (plain_property p)) (flat_map property_parts (map plain_property ps))
-    (line_filter is_upper p.name h.0.name, value_parts p.values h.0.values) (node_line ps h.1)
+    (line_filter is_upper_byte p.name h.0.name, value_parts p.values h.0.values) (node_line ps h.1)
 
 nodes_line : (nodes : List (List Property)) → AllByRecursion (AllByRecursion IsLineProperty) nodes → AllByRecursion IsLinePart (flat_map node_parts (map (map plain_property) nodes))
 nodes_line [] h = tt

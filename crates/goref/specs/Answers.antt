@@ -15,7 +15,7 @@ use Rattle.goref.specs.declared.decision.Fact.TheVariants.{About, Known, Places,
 use Rattle.goref.specs.declared.decision.Refusal.{Refusal}
 use Rattle.goref.specs.declared.decision.Refusal.TheVariants.{LineTooLong, UnknownCommand, SyntaxError, UnacceptableSize, IllegalMove, CannotUndo, BoardNotEmpty, InvalidNumber, BadVertexList, CannotLoad, GameInProgress, OutOfMemory}
 use Rattle.goref_lines.specs.Kept.{Kept, has_bytes, words}
-use Rattle.goref_lines.specs.Requests.{asked_by, id_of_cut}
+use Rattle.goref_lines.specs.Requests.{asked_by, id_before_space}
 use Rattle.goref_results.specs.Places.{places_text}
 use Rattle.goref_results.specs.Plays.{plays_text}
 use Rattle.goref_results.specs.Results.{result_text}
@@ -74,7 +74,7 @@ spoken id d = record { text = decision_text id d.decision d.standing; standing =
 
 -- the id of a line, also of one that is too long
 abbrev pub line_id : Kept → Option ℕ
-line_id k = if k.is_long then id_of_cut k.text else (asked_by (words k.text)).id
+line_id k = if k.is_long then id_before_space k.text else (asked_by (words k.text)).id
 
 -- what may be decided on a line with words, the content being what was fetched for it
 abbrev pub DecidesLine : Standing → Kept → Content → Decided → Type 0

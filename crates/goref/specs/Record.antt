@@ -64,9 +64,9 @@ abbrev pub of_sgf : SgfError → LoadError
 of_sgf sgf_error.Memory = load_error.Memory
 of_sgf why = load_error.Cannot
 
-abbrev pub of_record : RecordError → LoadError
-of_record record_error.Memory = load_error.Memory
-of_record why = load_error.Cannot
+abbrev pub load_error_of : RecordError → LoadError
+load_error_of record_error.Memory = load_error.Memory
+load_error_of why = load_error.Cannot
 
 -- what may be decided on the bytes of a file: its record's game is gone on with, or there is none,
 -- or memory is wanting

@@ -2,12 +2,12 @@
 ghost use Rattle.std.specs.Prelude.{◌≡◌, IfSome, slice_get};
 ghost use Rattle.std.specs.Option.{option_and_then};
 ghost use Rattle.go_board.specs.Vertices.{vertex_of, vertex_on};
-ghost use Rattle.go_game.specs.Standings.{IsKomi};
-ghost use Rattle.go_sgf.specs.Numbers.{hundredths_of};
+ghost use Rattle.go_board.specs.Komi.{IsKomi};
+ghost use Rattle.go_sgf.specs.Numbers.{hundredths_by};
 ghost use Rattle.goref.specs.Record.{number_asked};
 ghost use Rattle.goref.specs.Setup.{rule_of};
 ghost use Rattle.go_board.specs.Decimals.{int_of};
-ghost use Rattle.goref_lines.specs.Words.{colour_of};
+ghost use Rattle.goref_lines.specs.Words.{colour_spelled};
 
 use go_board::{Colour, Size, Vertex, VertexError, read_int, read_vertex};
 use go_game::Superko;
@@ -36,7 +36,7 @@ pub fn number_argument(request: &Request, place: u16) -> Option<Option<u32>>
 }
 
 pub fn colour_argument(request: &Request, place: u16) -> Option<Colour>
-    ensures { result ≡ option_and_then colour_of (slice_get request.now.arguments place) }
+    ensures { result ≡ option_and_then colour_spelled (slice_get request.now.arguments place) }
 {
     match request.argument(place) {
         Some(word) => read_colour(word),
@@ -57,7 +57,7 @@ pub fn vertex_argument(request: &Request, place: u16, size: Size) -> Result<Vert
 
 /// The komi in hundredths.
 pub fn komi_argument(request: &Request, place: u16) -> Option<i64>
-    ensures value { result ≡ option_and_then hundredths_of (slice_get request.now.arguments place) }
+    ensures value { result ≡ option_and_then hundredths_by (slice_get request.now.arguments place) }
     ensures bound { IfSome result IsKomi }
 {
     match request.argument(place) {

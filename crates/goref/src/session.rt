@@ -1,4 +1,4 @@
-ghost use Rattle.std.specs.Prelude.{◌≡◌, pos};
+ghost use Rattle.std.specs.Prelude.{◌≡◌};
 ghost use Rattle.go_board.specs.Device.{failures_after};
 ghost use Rattle.go_game.specs.Standings.{Standing};
 ghost use Rattle.goref.specs.Answers.{DecidesLine, is_end, line_id};
@@ -37,7 +37,7 @@ impl<A: Allocator + Copy> Model for Session<A> {
 impl<A: Allocator + Copy> Session<A> {
     /// A session over an empty board of this size, under the positional rule.
     pub fn new(alloc: A, size: Size) -> Session<A>
-        ensures { result ≡ begun size (pos 0) }
+        ensures { result ≡ begun size }
     {
         Session {
             game: Game::new(alloc, size),

@@ -4,11 +4,11 @@ use Rattle.std.specs.Prelude.{filter}
 use Rattle.std.specs.List.{slice_split, onto_first, prefix_len}
 use Rattle.std.proofs.lemmas.Bool.Decides.{nat_tests}
 use Rattle.std.proofs.lemmas.List.Splits.{slice_split-cons_yes}
-use Rattle.goref_lines.specs.Kept.{is_space, has_bytes, words}
+use Rattle.goref_lines.specs.Kept.{is_plain_space, has_bytes, words}
 
 -- how many bytes stand before the first space
 abbrev word_len : List ℕ → ℕ
-word_len text = prefix_len (λ b. not (is_space b)) text
+word_len text = prefix_len (λ b. not (is_plain_space b)) text
 
 abbrev pub first_word : List ℕ → List ℕ
 first_word text = take (word_len text) text
@@ -17,43 +17,43 @@ abbrev pub behind_word : List ℕ → List ℕ
 behind_word text = drop (word_len text) text
 
 abbrev pub behind_spaces : List ℕ → List ℕ
-behind_spaces text = drop (prefix_len is_space text) text
+behind_spaces text = drop (prefix_len is_plain_space text) text
 
 one_more : (n : ℕ) → 1 + n ≡ suc n
 one_more n = omega arith
 
-words_space : (b : ℕ) (text : List ℕ) → is_space b ≡ true → words (b ∷ text) ≡ words text
-words_space b text e = ap (filter has_bytes) (slice_split-cons_yes is_space b text e)
+words_space : (b : ℕ) (text : List ℕ) → is_plain_space b ≡ true → words (b ∷ text) ≡ words text
+words_space b text e = ap (filter has_bytes) (slice_split-cons_yes is_plain_space b text e)
 
 behind_spaces-cons : (s : Bool) (b : ℕ) (text : List ℕ) (n : ℕ) → drop (cond s (1 + n) 0) (b ∷ text) ≡ cond s (drop n text) (b ∷ text)
 behind_spaces-cons true b text n = ap (λ m. drop m (b ∷ text)) (one_more n)
 behind_spaces-cons false b text n = refl
 
-words_behind_spaces-cons : (s : Bool) (b : ℕ) (text behind : List ℕ) → is_space b ≡ s → words text ≡ words behind → words (b ∷ text) ≡ words (cond s behind (b ∷ text))
+words_behind_spaces-cons : (s : Bool) (b : ℕ) (text behind : List ℕ) → is_plain_space b ≡ s → words text ≡ words behind → words (b ∷ text) ≡ words (cond s behind (b ∷ text))
 words_behind_spaces-cons true b text behind e h = words_space b text e ∙ h
 words_behind_spaces-cons false b text behind e h = refl
 
 words_behind_spaces : (text : List ℕ) → words text ≡ words (behind_spaces text)
 words_behind_spaces [] = refl
 words_behind_spaces (b ∷ text) =
-    words_behind_spaces-cons (is_space b) b text _ refl (words_behind_spaces text)
-    ∙ ap words (sym (behind_spaces-cons (is_space b) b text (prefix_len is_space text)))
+    words_behind_spaces-cons (is_plain_space b) b text _ refl (words_behind_spaces text)
+    ∙ ap words (sym (behind_spaces-cons (is_plain_space b) b text (prefix_len is_plain_space text)))
 
 -- the parts of a text are its first word, and others that have the words behind it
 abbrev HasFirst : List ℕ → ℕ → List (List ℕ) → Type 0
 HasFirst text n parts = (rest : List (List ℕ)) × (parts ≡ take n text ∷ rest) × (filter has_bytes rest ≡ words (drop n text))
 
-has_first-cons : (s : Bool) (b : ℕ) (text : List ℕ) (n : ℕ) (parts : List (List ℕ)) → is_space b ≡ s → parts ≡ slice_split is_space text →
+has_first-cons : (s : Bool) (b : ℕ) (text : List ℕ) (n : ℕ) (parts : List (List ℕ)) → is_plain_space b ≡ s → parts ≡ slice_split is_plain_space text →
     HasFirst text n parts → HasFirst (b ∷ text) (cond (not s) (1 + n) 0) (cond s ([] ∷ parts) (onto_first b parts))
 has_first-cons true b text n parts e are h = (parts, refl, ap (filter has_bytes) are ∙ sym (words_space b text e))
 has_first-cons false b text n parts e are h = rw (one_more n) (h.0, ap (onto_first b) h.1, h.2)
 
-has_first : (text : List ℕ) → HasFirst text (word_len text) (slice_split is_space text)
+has_first : (text : List ℕ) → HasFirst text (word_len text) (slice_split is_plain_space text)
 has_first [] = ([], refl, refl)
-has_first (b ∷ text) = has_first-cons (is_space b) b text (word_len text) (slice_split is_space text) refl refl (has_first text)
+has_first (b ∷ text) = has_first-cons (is_plain_space b) b text (word_len text) (slice_split is_plain_space text) refl refl (has_first text)
 
 -- no word is left only where nothing stands behind the first spaces
-blank_is_empty-cons : (s : Bool) (b : ℕ) (text behind : List ℕ) → is_space b ≡ s → (first_word behind ≡ [] → behind ≡ []) →
+blank_is_empty-cons : (s : Bool) (b : ℕ) (text behind : List ℕ) → is_plain_space b ≡ s → (first_word behind ≡ [] → behind ≡ []) →
     first_word (cond s behind (b ∷ text)) ≡ [] → cond s behind (b ∷ text) ≡ []
 blank_is_empty-cons true b text behind e h none = h none
 blank_is_empty-cons false b text behind e h none = let some = rw (e, one_more (word_len text)) at none in cc
@@ -61,8 +61,8 @@ blank_is_empty-cons false b text behind e h none = let some = rw (e, one_more (w
 blank_is_empty : (text : List ℕ) → first_word (behind_spaces text) ≡ [] → behind_spaces text ≡ []
 blank_is_empty [] none = refl
 blank_is_empty (b ∷ text) none =
-    let at : behind_spaces (b ∷ text) ≡ cond (is_space b) (behind_spaces text) (b ∷ text) = behind_spaces-cons (is_space b) b text (prefix_len is_space text) in
-    at ∙ blank_is_empty-cons (is_space b) b text (behind_spaces text) refl (blank_is_empty text) (ap first_word (sym at) ∙ none)
+    let at : behind_spaces (b ∷ text) ≡ cond (is_plain_space b) (behind_spaces text) (b ∷ text) = behind_spaces-cons (is_plain_space b) b text (prefix_len is_plain_space text) in
+    at ∙ blank_is_empty-cons (is_plain_space b) b text (behind_spaces text) refl (blank_is_empty text) (ap first_word (sym at) ∙ none)
 
 filter_word : (word : List ℕ) (parts : List (List ℕ)) → nat_eq (length word) 0 ≡ false → filter has_bytes (word ∷ parts) ≡ word ∷ filter has_bytes parts
 filter_word [] parts e = cc

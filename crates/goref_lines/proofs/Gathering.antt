@@ -12,8 +12,8 @@ use Rattle.go_board.specs.declared.vertex.Vertex.{Vertex}
 use Rattle.go_board.specs.declared.vertex.Vertex.TheVariants.{At}
 use Rattle.go_board.specs.Points.{IsOn, number_of}
 use Rattle.goref_lines.specs.declared.stones.ListError.TheVariants.{Bad}
-use Rattle.goref_lines.specs.Stones.{are_distinct, is_free_handicap, point_in, points_in, stones_at, stones_of, with_first}
-use Rattle.goref_lines.specs.inner.Gathered.{AreApart, Gathered, can_follow, comes_from, comes_to}
+use Rattle.goref_lines.specs.Stones.{are_distinct, is_free_handicap, point_on, points_on, stones_at, stones_of, with_first}
+use Rattle.goref_lines.specs.inner.Gathered.{AreApart, Gathered, may_follow, comes_from, gathers}
 
 -- a number that stands among others is not distinct behind them
 twice : (xs ys : List ℕ) (y : ℕ) → list_any (λ x. x == y) xs ≡ true → are_distinct (xs ++ y ∷ ys) ≡ false
@@ -50,7 +50,7 @@ fails true false e = cc
 fails false met e = inl refl
 
 -- no free handicap has a point that cannot follow those before it
-cannot_follow : (n : ℕ) (points more : List Point) (p : Point) → can_follow n points p ≡ false → is_free_handicap n (points ++ p ∷ more) ≡ false
+cannot_follow : (n : ℕ) (points more : List Point) (p : Point) → may_follow n points p ≡ false → is_free_handicap n (points ++ p ∷ more) ≡ false
 cannot_follow n points more p h = no_handicap _ _ _ (elim (fails _ _ h) [ inl last ↦ inl (none_left n points more p last) | inr met ↦ inr (stands_twice n points more p met) ])
 
 passes : (left met : Bool) → (left && not met) ≡ true → (left ≡ true) × (met ≡ false)
@@ -58,7 +58,7 @@ passes true true e = cc
 passes true false e = (refl, refl)
 passes false met e = cc
 
-pub apart_more : (n : ℕ) (points : List Point) (p : Point) → AreApart n points → IsOn n p → can_follow n points p ≡ true → AreApart n (points ++ p ∷ [])
+pub apart_more : (n : ℕ) (points : List Point) (p : Point) → AreApart n points → IsOn n p → may_follow n points p ≡ true → AreApart n (points ++ p ∷ [])
 apart_more n points p apart on follows =
     let both = passes (nat_lt (length points + 1) (n * n)) (list_any (λ q. number_of n q == number_of n p) points) follows in
     record {
@@ -67,7 +67,7 @@ apart_more n points p apart on follows =
       distinct = rw (map-append (number_of n) points (p ∷ [])) (once (map (number_of n) points) (number_of n p) apart.distinct (numbered n (number_of n p) points ∙ both.1));
     }
 
-point_in_on : (n : ℕ) (p : Point) → IsOn n p → point_in n (At p) ≡ Some p
+point_in_on : (n : ℕ) (p : Point) → IsOn n p → point_on n (At p) ≡ Some p
 point_in_on n p on = grind (arith, nat_tests)
 
 -- the points so far, or none where the list is bad already
@@ -82,28 +82,28 @@ module _ (n : ℕ) (points : List Point) (p : Point) (on : IsOn n p) where
 
   -- a point of the board goes to the points
   pub grows : (bad : Bool) (rest : Option (List Vertex)) →
-      comes_to (record { lines = n; points = unless_bad bad points }) (with_first (Some (At p)) rest) ≡ comes_to (record { lines = n; points = unless_bad bad (points ++ p ∷ []) }) rest
+      gathers (record { lines = n; points = unless_bad bad points }) (with_first (Some (At p)) rest) ≡ gathers (record { lines = n; points = unless_bad bad (points ++ p ∷ []) }) rest
   grows bad None = refl
   grows true (Some vertices) = refl
-  grows false (Some vertices) = rw (point_in_on n p on) (grows_by (points_in n vertices))
+  grows false (Some vertices) = rw (point_in_on n p on) (grows_by (points_on n vertices))
 
-  spoils_by : (more : Option (List Point)) → can_follow n points p ≡ false → stones_of n (option_map (λ ps. points ++ ps) (with_first (Some p) more)) ≡ Err Bad
+  spoils_by : (more : Option (List Point)) → may_follow n points p ≡ false → stones_of n (option_map (λ ps. points ++ ps) (with_first (Some p) more)) ≡ Err Bad
   spoils_by None h = refl
   spoils_by (Some ps) h = rw (cannot_follow n points ps p h) refl
 
   -- one that cannot follow them makes the list bad
-  pub spoils : (bad : Bool) (rest : Option (List Vertex)) → can_follow n points p ≡ false →
-      comes_to (record { lines = n; points = unless_bad bad points }) (with_first (Some (At p)) rest) ≡ comes_to (record { lines = n; points = None }) rest
+  pub spoils : (bad : Bool) (rest : Option (List Vertex)) → may_follow n points p ≡ false →
+      gathers (record { lines = n; points = unless_bad bad points }) (with_first (Some (At p)) rest) ≡ gathers (record { lines = n; points = None }) rest
   spoils bad None h = refl
   spoils true (Some vertices) h = refl
-  spoils false (Some vertices) h = rw (point_in_on n p on) (spoils_by (points_in n vertices) h)
+  spoils false (Some vertices) h = rw (point_in_on n p on) (spoils_by (points_on n vertices) h)
 
 begins_by : (n : ℕ) (points : Option (List Point)) → stones_of n (option_map (λ ps. [] ++ ps) points) ≡ stones_of n points
 begins_by n None = refl
 begins_by n (Some points) = refl
 
 -- where nothing is read yet, a list comes to the stones at its vertices
-pub begins : (n : ℕ) (g : Gathered) → g.lines ≡ n → g.points ≡ Some [] → (vertices : Option (List Vertex)) → comes_to g vertices ≡ stones_at n vertices
+pub begins : (n : ℕ) (g : Gathered) → g.lines ≡ n → g.points ≡ Some [] → (vertices : Option (List Vertex)) → gathers g vertices ≡ stones_at n vertices
 begins n g lines none None = refl
 begins n g lines none (Some vertices) =
-    ap (λ m. comes_from m g.points vertices) lines ∙ ap (λ points. comes_from n points vertices) none ∙ begins_by n (points_in n vertices)
+    ap (λ m. comes_from m g.points vertices) lines ∙ ap (λ points. comes_from n points vertices) none ∙ begins_by n (points_on n vertices)

@@ -1,10 +1,10 @@
--- How the joined words of a text change as one more byte comes to its end.
+-- How the single_spaced words of a text change as one more byte comes to its end.
 use Rattle.std.proofs.Common.{◌≡◌, ◌∙◌, ℕ, Bool, true, false, if◌then◌else◌, ◌&&◌, List, [], ◌∷◌, ◌++◌, refl, sym, ap, append_assoc}
 use Rattle.std.specs.Prelude.{filter}
 use Rattle.std.specs.List.{slice_split, join_with_byte}
 use Rattle.std.proofs.lemmas.List.{append-nil}
 use Rattle.std.proofs.lemmas.List.Elements.{filter-append}
-use Rattle.goref_lines.specs.Kept.{has_bytes, is_space, words, joined, ends_with_space}
+use Rattle.goref_lines.specs.Kept.{has_bytes, is_plain_space, words, single_spaced, ends_with_space}
 use Rattle.goref_lines.specs.inner.Front.{with_space}
 use Rattle.goref_lines.proofs.Splits.{onto_last, HasParts, slice_split_push_yes, slice_split_push_no}
 
@@ -75,7 +75,7 @@ pub snoc_view : (b : ℕ) (text : List ℕ) → SnocView (b ∷ text)
 snoc_view b [] = ([], b, refl)
 snoc_view b (c ∷ text) = let h = snoc_view c text in (b ∷ h.0, h.1, ap (λ t. b ∷ t) h.2)
 
-ends_with_space-push : (text : List ℕ) (b : ℕ) → ends_with_space (text ++ b ∷ []) ≡ is_space b
+ends_with_space-push : (text : List ℕ) (b : ℕ) → ends_with_space (text ++ b ∷ []) ≡ is_plain_space b
 ends_with_space-push [] b = refl
 ends_with_space-push (c ∷ []) b = refl
 ends_with_space-push (c ∷ d ∷ text) b = ends_with_space-push (d ∷ text) b
@@ -92,29 +92,29 @@ ends_empty-onto_last b ((c ∷ part) ∷ []) = refl
 ends_empty-onto_last b (part ∷ next ∷ []) = ends_empty-onto_last b (next ∷ [])
 ends_empty-onto_last b (part ∷ next ∷ other ∷ parts) = ends_empty-onto_last b (next ∷ other ∷ parts)
 
-ends_empty_is : (front : List ℕ) (b : ℕ) (s : Bool) → is_space b ≡ s → ends_empty (slice_split is_space (front ++ b ∷ [])) ≡ s
-ends_empty_is front b true e = ap ends_empty (slice_split_push_yes is_space front b e) ∙ ends_empty-push (slice_split is_space front)
-ends_empty_is front b false e = ap ends_empty (slice_split_push_no is_space front b e) ∙ ends_empty-onto_last b (slice_split is_space front)
+ends_empty_is : (front : List ℕ) (b : ℕ) (s : Bool) → is_plain_space b ≡ s → ends_empty (slice_split is_plain_space (front ++ b ∷ [])) ≡ s
+ends_empty_is front b true e = ap ends_empty (slice_split_push_yes is_plain_space front b e) ∙ ends_empty-push (slice_split is_plain_space front)
+ends_empty_is front b false e = ap ends_empty (slice_split_push_no is_plain_space front b e) ∙ ends_empty-onto_last b (slice_split is_plain_space front)
 
 -- a space stands behind a word
 abbrev pub has_trailing_space : List ℕ → Bool
-has_trailing_space text = has_bytes (joined text) && ends_with_space text
+has_trailing_space text = has_bytes (single_spaced text) && ends_with_space text
 
-trailing_space_last : (front : List ℕ) (b : ℕ) → ends_with_space (front ++ b ∷ []) ≡ ends_empty (slice_split is_space (front ++ b ∷ []))
-trailing_space_last front b = ends_with_space-push front b ∙ sym (ends_empty_is front b (is_space b) refl)
+trailing_space_last : (front : List ℕ) (b : ℕ) → ends_with_space (front ++ b ∷ []) ≡ ends_empty (slice_split is_plain_space (front ++ b ∷ []))
+trailing_space_last front b = ends_with_space-push front b ∙ sym (ends_empty_is front b (is_plain_space b) refl)
 
-pub has_trailing_space_is : (text : List ℕ) → has_trailing_space text ≡ (has_parts (words text) && ends_empty (slice_split is_space text))
+pub has_trailing_space_is : (text : List ℕ) → has_trailing_space text ≡ (has_parts (words text) && ends_empty (slice_split is_plain_space text))
 has_trailing_space_is [] = refl
 has_trailing_space_is (b ∷ text) =
     let view = snoc_view b text in
-    let last : ends_with_space (b ∷ text) ≡ ends_empty (slice_split is_space (b ∷ text)) =
-    ap ends_with_space view.2 ∙ trailing_space_last view.0 view.1 ∙ sym (ap (λ t. ends_empty (slice_split is_space t)) view.2) in
-    ap (λ c. c && ends_with_space (b ∷ text)) (has_bytes-join (slice_split is_space (b ∷ text))) ∙ ap (λ c. has_parts (words (b ∷ text)) && c) last
+    let last : ends_with_space (b ∷ text) ≡ ends_empty (slice_split is_plain_space (b ∷ text)) =
+    ap ends_with_space view.2 ∙ trailing_space_last view.0 view.1 ∙ sym (ap (λ t. ends_empty (slice_split is_plain_space t)) view.2) in
+    ap (λ c. c && ends_with_space (b ∷ text)) (has_bytes-join (slice_split is_plain_space (b ∷ text))) ∙ ap (λ c. has_parts (words (b ∷ text)) && c) last
 
-pub joined_push_space : (text : List ℕ) (b : ℕ) → is_space b ≡ true → joined (text ++ b ∷ []) ≡ joined text
+pub joined_push_space : (text : List ℕ) (b : ℕ) → is_plain_space b ≡ true → single_spaced (text ++ b ∷ []) ≡ single_spaced text
 joined_push_space text b e =
-    ap (join_with_byte 32) (ap (filter has_bytes) (slice_split_push_yes is_space text b e)
-    ∙ filter-append has_bytes (slice_split is_space text) ([] ∷ []) ∙ append-nil (words text))
+    ap (join_with_byte 32) (ap (filter has_bytes) (slice_split_push_yes is_plain_space text b e)
+    ∙ filter-append has_bytes (slice_split is_plain_space text) ([] ∷ []) ∙ append-nil (words text))
 
 push_byte_at : (b : ℕ) (parts : List (List ℕ)) (s : Bool) → ends_empty parts ≡ s →
     join_with_byte 32 (filter has_bytes (onto_last b parts)) ≡ join_with_byte 32 (filter has_bytes parts) ++ with_space (has_parts (filter has_bytes parts) && s) (b ∷ [])
@@ -131,23 +131,23 @@ push_byte_at b parts false e = ap (join_with_byte 32) (filter_last b parts e) �
     and_false true = refl
     and_false false = refl
 
-pub joined_push_byte : (text : List ℕ) (b : ℕ) → is_space b ≡ false → joined (text ++ b ∷ []) ≡ joined text ++ with_space (has_trailing_space text) (b ∷ [])
+pub joined_push_byte : (text : List ℕ) (b : ℕ) → is_plain_space b ≡ false → single_spaced (text ++ b ∷ []) ≡ single_spaced text ++ with_space (has_trailing_space text) (b ∷ [])
 joined_push_byte text b e =
-    ap (λ ps. join_with_byte 32 (filter has_bytes ps)) (slice_split_push_no is_space text b e)
-    ∙ push_byte_at b (slice_split is_space text) (ends_empty (slice_split is_space text)) refl
-    ∙ ap (λ c. joined text ++ with_space c (b ∷ [])) (sym (has_trailing_space_is text))
+    ap (λ ps. join_with_byte 32 (filter has_bytes ps)) (slice_split_push_no is_plain_space text b e)
+    ∙ push_byte_at b (slice_split is_plain_space text) (ends_empty (slice_split is_plain_space text)) refl
+    ∙ ap (λ c. single_spaced text ++ with_space c (b ∷ [])) (sym (has_trailing_space_is text))
 
-pub has_trailing_space_push_space : (text : List ℕ) (b : ℕ) → is_space b ≡ true → has_trailing_space (text ++ b ∷ []) ≡ has_bytes (joined text)
+pub has_trailing_space_push_space : (text : List ℕ) (b : ℕ) → is_plain_space b ≡ true → has_trailing_space (text ++ b ∷ []) ≡ has_bytes (single_spaced text)
 has_trailing_space_push_space text b e =
     ap (λ t. has_bytes t && ends_with_space (text ++ b ∷ [])) (joined_push_space text b e)
-    ∙ ap (λ c. has_bytes (joined text) && c) (ends_with_space-push text b ∙ e) ∙ and_true (has_bytes (joined text))
+    ∙ ap (λ c. has_bytes (single_spaced text) && c) (ends_with_space-push text b ∙ e) ∙ and_true (has_bytes (single_spaced text))
   where
     and_true : (c : Bool) → (c && true) ≡ c
     and_true true = refl
     and_true false = refl
 
-pub has_trailing_space_push_byte : (text : List ℕ) (b : ℕ) → is_space b ≡ false → has_trailing_space (text ++ b ∷ []) ≡ false
-has_trailing_space_push_byte text b e = ap (λ c. has_bytes (joined (text ++ b ∷ [])) && c) (ends_with_space-push text b ∙ e) ∙ and_false (has_bytes (joined (text ++ b ∷ [])))
+pub has_trailing_space_push_byte : (text : List ℕ) (b : ℕ) → is_plain_space b ≡ false → has_trailing_space (text ++ b ∷ []) ≡ false
+has_trailing_space_push_byte text b e = ap (λ c. has_bytes (single_spaced (text ++ b ∷ [])) && c) (ends_with_space-push text b ∙ e) ∙ and_false (has_bytes (single_spaced (text ++ b ∷ [])))
   where
     and_false : (c : Bool) → (c && false) ≡ false
     and_false true = refl

@@ -9,8 +9,8 @@ use Rattle.std.proofs.lemmas.Bool.Decides.{nat_tests}
 use Rattle.std.specs.Prelude.{slice_index}
 use Rattle.memchr.specs.Find.{IsFirstByte, is_byte}
 use Rattle.goref_lines.specs.declared.line.TheConstants.{LINE_LIMIT}
-use Rattle.goref_lines.specs.Kept.{is_control, is_hash, is_space, spaced, printable, before_comment, cleaned, has_bytes, joined, ends_with_space, Kept, kept}
-use Rattle.goref_lines.specs.inner.Front.{AreOfWord, KeepsFront, is_of_word, last_of, space_after, with_space}
+use Rattle.goref_lines.specs.Kept.{is_control_byte, is_hash, is_plain_space, spaced, printable, before_comment, cleaned, has_bytes, single_spaced, ends_with_space, Kept, kept}
+use Rattle.goref_lines.specs.inner.Front.{AreOfWord, KeepsFront, is_word_byte, last_of, space_after, with_space}
 use Rattle.goref_lines.proofs.Joins.{has_trailing_space, joined_push_space, joined_push_byte, has_trailing_space_push_byte}
 use Rattle.goref_lines.proofs.Pushes.{before_comment_none, kept_comment, kept_hash, plain, plain_is, plain_before, has_comment_is, spaced_other}
 
@@ -24,7 +24,7 @@ before_comment_append (b ∷ bs) more e = at (is_hash b) e (before_comment_appen
     at false e later = ap (λ ys. b ∷ ys) (later e)
 
 printable_append : (line bytes : List ℕ) → printable (line ++ bytes) ≡ printable line ++ printable bytes
-printable_append line bytes = filter-append (λ b. not (is_control b)) line bytes
+printable_append line bytes = filter-append (λ b. not (is_control_byte b)) line bytes
 
 -- the cleaned bytes, where no comment has begun
 pub cleaned_append : (line bytes : List ℕ) → list_any is_hash (printable line) ≡ false → cleaned (line ++ bytes) ≡ cleaned line ++ cleaned bytes
@@ -40,26 +40,26 @@ of_word_parts false true s e = cc
 of_word_parts false false true e = cc
 of_word_parts false false false e = (refl, refl, refl)
 
-of_word : (b : ℕ) → is_of_word b ≡ true → (is_control b ≡ false) × (is_hash b ≡ false) × (is_space (spaced b) ≡ false)
-of_word b e = of_word_parts (is_control b) (is_hash b) (is_space (spaced b)) e
+of_word : (b : ℕ) → is_word_byte b ≡ true → (is_control_byte b ≡ false) × (is_hash b ≡ false) × (is_plain_space (spaced b) ≡ false)
+of_word b e = of_word_parts (is_control_byte b) (is_hash b) (is_plain_space (spaced b)) e
 
-first_of : (b : ℕ) (word : List ℕ) → AreOfWord (b ∷ word) → is_of_word b ≡ true
-first_of b word h = (and_parts (is_of_word b) (list_all is_of_word word) h).0
+first_of : (b : ℕ) (word : List ℕ) → AreOfWord (b ∷ word) → is_word_byte b ≡ true
+first_of b word h = (and_parts (is_word_byte b) (list_all is_word_byte word) h).0
 
 others_of : (b : ℕ) (word : List ℕ) → AreOfWord (b ∷ word) → AreOfWord word
-others_of b word h = (and_parts (is_of_word b) (list_all is_of_word word) h).1
+others_of b word h = (and_parts (is_word_byte b) (list_all is_word_byte word) h).1
 
 one_more : (n : ℕ) → suc n ≡ 1 + n
 one_more n = omega arith
 
-pub word_first : (bytes : List ℕ) → AreOfWord (take (prefix_len is_of_word bytes) bytes)
+pub word_first : (bytes : List ℕ) → AreOfWord (take (prefix_len is_word_byte bytes) bytes)
 word_first [] = refl
-word_first (b ∷ bytes) = at (is_of_word b) refl (word_first bytes)
+word_first (b ∷ bytes) = at (is_word_byte b) refl (word_first bytes)
   where
-    at : (c : Bool) → is_of_word b ≡ c → AreOfWord (take (prefix_len is_of_word bytes) bytes) →
-        AreOfWord (take (if c then 1 + prefix_len is_of_word bytes else 0) (b ∷ bytes))
+    at : (c : Bool) → is_word_byte b ≡ c → AreOfWord (take (prefix_len is_word_byte bytes) bytes) →
+        AreOfWord (take (if c then 1 + prefix_len is_word_byte bytes else 0) (b ∷ bytes))
     at true e later =
-        subst (λ n. AreOfWord (take n (b ∷ bytes))) (one_more (prefix_len is_of_word bytes)) (ap (λ c. c && list_all is_of_word (take (prefix_len is_of_word bytes) bytes)) e ∙ later)
+        subst (λ n. AreOfWord (take n (b ∷ bytes))) (one_more (prefix_len is_word_byte bytes)) (ap (λ c. c && list_all is_word_byte (take (prefix_len is_word_byte bytes) bytes)) e ∙ later)
     at false e later = refl
 
 printable_word : (word : List ℕ) → AreOfWord word → printable word ≡ word
@@ -82,26 +82,26 @@ cleaned_word word h =
     ap (λ bs. map spaced (before_comment bs)) (printable_word word h)
     ∙ ap (map spaced) (before_comment_none word (no_hash_in_word word h)) ∙ spaced_word word h
 
-no_space : (b : ℕ) → is_of_word b ≡ true → is_space b ≡ false
-no_space b h = ap is_space (sym (spaced_other b (of_word b h).2)) ∙ (of_word b h).2
+no_space : (b : ℕ) → is_word_byte b ≡ true → is_plain_space b ≡ false
+no_space b h = ap is_plain_space (sym (spaced_other b (of_word b h).2)) ∙ (of_word b h).2
 
 behind : (has_space : Bool) (b : ℕ) (word : List ℕ) → with_space has_space (b ∷ []) ++ word ≡ with_space has_space (b ∷ word)
 behind true b word = refl
 behind false b word = refl
 
-joined_word : (text : List ℕ) (b : ℕ) (word : List ℕ) → is_of_word b ≡ true → AreOfWord word →
-    joined (text ++ b ∷ word) ≡ joined text ++ with_space (has_trailing_space text) (b ∷ word)
+joined_word : (text : List ℕ) (b : ℕ) (word : List ℕ) → is_word_byte b ≡ true → AreOfWord word →
+    single_spaced (text ++ b ∷ word) ≡ single_spaced text ++ with_space (has_trailing_space text) (b ∷ word)
 joined_word text b [] one h = joined_push_byte text b (no_space b one)
 joined_word text b (c ∷ word) one h =
     let front = text ++ b ∷ [] in
-    ap joined (sym (append_assoc text (b ∷ []) (c ∷ word)))
+    ap single_spaced (sym (append_assoc text (b ∷ []) (c ∷ word)))
     ∙ joined_word front c word (first_of c word h) (others_of c word h)
-    ∙ ap (λ s. joined front ++ with_space s (c ∷ word)) (has_trailing_space_push_byte text b (no_space b one))
+    ∙ ap (λ s. single_spaced front ++ with_space s (c ∷ word)) (has_trailing_space_push_byte text b (no_space b one))
     ∙ ap (λ t. t ++ c ∷ word) (joined_push_byte text b (no_space b one))
-    ∙ append_assoc (joined text) (with_space (has_trailing_space text) (b ∷ [])) (c ∷ word)
-    ∙ ap (λ t. joined text ++ t) (behind (has_trailing_space text) b (c ∷ word))
+    ∙ append_assoc (single_spaced text) (with_space (has_trailing_space text) (b ∷ [])) (c ∷ word)
+    ∙ ap (λ t. single_spaced text ++ t) (behind (has_trailing_space text) b (c ∷ word))
 
-trailing_word : (text : List ℕ) (b : ℕ) (word : List ℕ) → is_of_word b ≡ true → AreOfWord word → has_trailing_space (text ++ b ∷ word) ≡ false
+trailing_word : (text : List ℕ) (b : ℕ) (word : List ℕ) → is_word_byte b ≡ true → AreOfWord word → has_trailing_space (text ++ b ∷ word) ≡ false
 trailing_word text b [] one h = has_trailing_space_push_byte text b (no_space b one)
 trailing_word text b (c ∷ word) one h =
     ap has_trailing_space (sym (append_assoc text (b ∷ []) (c ∷ word))) ∙ trailing_word (text ++ b ∷ []) c word (first_of c word h) (others_of c word h)
@@ -118,33 +118,33 @@ kept_word line (b ∷ word) k seen text is_long none some h grows =
     ap (list_any is_hash) (printable_append line (b ∷ word)) ∙ list_any-append is_hash (printable line) (printable (b ∷ word))
     ∙ ap (λ c. c || list_any is_hash (printable (b ∷ word))) any
     ∙ ap (list_any is_hash) (printable_word (b ∷ word) h) ∙ no_hash_in_word (b ∷ word) h in
-    let grown = grows (joined (cleaned line)) (record { front = ap (λ (x : Kept). x.text) before; longer = ap (λ (x : Kept). x.is_long) before }) in
-    let whole : joined (cleaned line) ++ with_space k.has_space (b ∷ word) ≡ joined (cleaned line ++ b ∷ word) =
-    ap (λ s. joined (cleaned line) ++ with_space s (b ∷ word)) (ap (λ (x : Kept). x.has_space) before) ∙ sym (joined_word (cleaned line) b word (first_of b word h) (others_of b word h)) in
+    let grown = grows (single_spaced (cleaned line)) (record { front = ap (λ (x : Kept). x.text) before; longer = ap (λ (x : Kept). x.is_long) before }) in
+    let whole : single_spaced (cleaned line) ++ with_space k.has_space (b ∷ word) ≡ single_spaced (cleaned line ++ b ∷ word) =
+    ap (λ s. single_spaced (cleaned line) ++ with_space s (b ∷ word)) (ap (λ (x : Kept). x.has_space) before) ∙ sym (joined_word (cleaned line) b word (first_of b word h) (others_of b word h)) in
     let all : cleaned (line ++ b ∷ word) ≡ cleaned line ++ b ∷ word = cleaned_append line (b ∷ word) any ∙ ap (λ t. cleaned line ++ t) (cleaned_word (b ∷ word) h) in
     let f : List ℕ → Bool → Bool → Bool → Kept = λ text is_long comment space. record { text = text; is_long = is_long; has_comment = comment; has_space = space } in
     let last = cleaned line ++ b ∷ word in
     ap (λ c. f text is_long c false) none
     ∙ ap (λ t. f t is_long false false) (grown.front ∙ ap (take LINE_LIMIT) whole)
-    ∙ ap (λ l. f (take LINE_LIMIT (joined last)) l false false) (grown.longer ∙ ap (λ w. nat_lt LINE_LIMIT (length w)) whole)
-    ∙ ap (f (take LINE_LIMIT (joined last)) (nat_lt LINE_LIMIT (length (joined last))) false) (sym (trailing_word (cleaned line) b word (first_of b word h) (others_of b word h)))
+    ∙ ap (λ l. f (take LINE_LIMIT (single_spaced last)) l false false) (grown.longer ∙ ap (λ w. nat_lt LINE_LIMIT (length w)) whole)
+    ∙ ap (f (take LINE_LIMIT (single_spaced last)) (nat_lt LINE_LIMIT (length (single_spaced last))) false) (sym (trailing_word (cleaned line) b word (first_of b word h) (others_of b word h)))
     ∙ ap plain (sym all)
     ∙ sym (plain_is (line ++ b ∷ word) any')
 
--- what is joined of a text is the front of what is joined of a longer one
-joined_grows : (text more : List ℕ) → (rest : List ℕ) × (joined (text ++ more) ≡ joined text ++ rest)
-joined_grows text [] = ([], ap joined (append-nil text) ∙ sym (append-nil (joined text)))
-joined_grows text (b ∷ more) = by (is_space b) refl (joined_grows (text ++ b ∷ []) more)
+-- what is single_spaced of a text is the front of what is single_spaced of a longer one
+joined_grows : (text more : List ℕ) → (rest : List ℕ) × (single_spaced (text ++ more) ≡ single_spaced text ++ rest)
+joined_grows text [] = ([], ap single_spaced (append-nil text) ∙ sym (append-nil (single_spaced text)))
+joined_grows text (b ∷ more) = by (is_plain_space b) refl (joined_grows (text ++ b ∷ []) more)
   where
-    same : joined (text ++ b ∷ more) ≡ joined ((text ++ b ∷ []) ++ more)
-    same = ap joined (sym (append_assoc text (b ∷ []) more))
+    same : single_spaced (text ++ b ∷ more) ≡ single_spaced ((text ++ b ∷ []) ++ more)
+    same = ap single_spaced (sym (append_assoc text (b ∷ []) more))
 
-    by : (c : Bool) → is_space b ≡ c → (rest : List ℕ) × (joined ((text ++ b ∷ []) ++ more) ≡ joined (text ++ b ∷ []) ++ rest) →
-        (rest : List ℕ) × (joined (text ++ b ∷ more) ≡ joined text ++ rest)
+    by : (c : Bool) → is_plain_space b ≡ c → (rest : List ℕ) × (single_spaced ((text ++ b ∷ []) ++ more) ≡ single_spaced (text ++ b ∷ []) ++ rest) →
+        (rest : List ℕ) × (single_spaced (text ++ b ∷ more) ≡ single_spaced text ++ rest)
     by true e later = (later.0, same ∙ later.1 ∙ ap (λ t. t ++ later.0) (joined_push_space text b e))
     by false e later =
         let word = with_space (has_trailing_space text) (b ∷ []) in
-        (word ++ later.0, same ∙ later.1 ∙ ap (λ t. t ++ later.0) (joined_push_byte text b e) ∙ append_assoc (joined text) word later.0)
+        (word ++ later.0, same ∙ later.1 ∙ ap (λ t. t ++ later.0) (joined_push_byte text b e) ∙ append_assoc (single_spaced text) word later.0)
 
 ends_behind : (text : List ℕ) (b : ℕ) (more : List ℕ) → ends_with_space (text ++ b ∷ more) ≡ ends_with_space (b ∷ more)
 ends_behind [] b more = refl
@@ -179,21 +179,21 @@ kept_behind line bytes k seen long none hash =
     let c = map spaced (printable bytes) in
     let all : cleaned (line ++ bytes) ≡ a ++ c = cleaned_append line bytes any ∙ ap (λ t. a ++ map spaced t) (before_comment_none (printable bytes) hash) in
     let grown = joined_grows a c in
-    let more : LINE_LIMIT < length (joined a) = is_more LINE_LIMIT (joined a) (sym (ap (λ (x : Kept). x.is_long) before) ∙ long) in
-    let more' : LINE_LIMIT < length (joined (a ++ c)) = rw grown.1 (simp length-append (omega (arith, more))) in
-    let text : take LINE_LIMIT (joined a) ≡ take LINE_LIMIT (joined (a ++ c)) =
-    sym (ap (take LINE_LIMIT) grown.1 ∙ take-append-le LINE_LIMIT (joined a) grown.0 (omega (arith, more))) in
-    let longer : nat_lt LINE_LIMIT (length (joined a)) ≡ nat_lt LINE_LIMIT (length (joined (a ++ c))) = grind (arith, nat_tests) in
-    let some : has_bytes (joined a) ≡ true = has_bytes_by_length (joined a) (omega (arith, more)) in
-    let some' : has_bytes (joined (a ++ c)) ≡ true = has_bytes_by_length (joined (a ++ c)) (omega (arith, more')) in
+    let more : LINE_LIMIT < length (single_spaced a) = is_more LINE_LIMIT (single_spaced a) (sym (ap (λ (x : Kept). x.is_long) before) ∙ long) in
+    let more' : LINE_LIMIT < length (single_spaced (a ++ c)) = rw grown.1 (simp length-append (omega (arith, more))) in
+    let text : take LINE_LIMIT (single_spaced a) ≡ take LINE_LIMIT (single_spaced (a ++ c)) =
+    sym (ap (take LINE_LIMIT) grown.1 ∙ take-append-le LINE_LIMIT (single_spaced a) grown.0 (omega (arith, more))) in
+    let longer : nat_lt LINE_LIMIT (length (single_spaced a)) ≡ nat_lt LINE_LIMIT (length (single_spaced (a ++ c))) = grind (arith, nat_tests) in
+    let some : has_bytes (single_spaced a) ≡ true = has_bytes_by_length (single_spaced a) (omega (arith, more)) in
+    let some' : has_bytes (single_spaced (a ++ c)) ≡ true = has_bytes_by_length (single_spaced (a ++ c)) (omega (arith, more')) in
     let space : space_after k.has_space (last_of (printable bytes)) ≡ has_trailing_space (a ++ c) =
     ap (λ s. space_after s (last_of (printable bytes))) (ap (λ (x : Kept). x.has_space) before ∙ ap (λ h. h && ends_with_space a) some)
     ∙ sym (ends_after a (printable bytes)) ∙ sym (ap (λ h. h && ends_with_space (a ++ c)) some') in
     let f : List ℕ → Bool → Bool → Bool → Kept = λ text is_long comment space. record { text = text; is_long = is_long; has_comment = comment; has_space = space } in
     ap (λ (x : Kept). record x { has_space = space_after k.has_space (last_of (printable bytes)) }) before
-    ∙ ap (f (take LINE_LIMIT (joined a)) (nat_lt LINE_LIMIT (length (joined a))) false) space
-    ∙ ap (λ t. f t (nat_lt LINE_LIMIT (length (joined a))) false (has_trailing_space (a ++ c))) text
-    ∙ ap (λ l. f (take LINE_LIMIT (joined (a ++ c))) l false (has_trailing_space (a ++ c))) longer
+    ∙ ap (f (take LINE_LIMIT (single_spaced a)) (nat_lt LINE_LIMIT (length (single_spaced a))) false) space
+    ∙ ap (λ t. f t (nat_lt LINE_LIMIT (length (single_spaced a))) false (has_trailing_space (a ++ c))) text
+    ∙ ap (λ l. f (take LINE_LIMIT (single_spaced (a ++ c))) l false (has_trailing_space (a ++ c))) longer
     ∙ ap plain (sym all)
     ∙ sym (plain_is (line ++ bytes) any')
 
@@ -216,17 +216,17 @@ last_of-push (c ∷ []) b = refl
 last_of-push (c ∷ d ∷ bytes) b = last_of-push (d ∷ bytes) b
 
 -- the last printable byte of a text by its last byte
-pub last_is : (front : List ℕ) (b : ℕ) → is_control b ≡ false → last_of (printable (front ++ b ∷ [])) ≡ Some b
+pub last_is : (front : List ℕ) (b : ℕ) → is_control_byte b ≡ false → last_of (printable (front ++ b ∷ [])) ≡ Some b
 last_is front b e =
     ap last_of (printable_append front (b ∷ []) ∙ ap (λ c. printable front ++ cond (not c) (b ∷ []) []) e) ∙ last_of-push (printable front) b
 
-pub last_is_before : (front : List ℕ) (b : ℕ) → is_control b ≡ true → last_of (printable (front ++ b ∷ [])) ≡ last_of (printable front)
+pub last_is_before : (front : List ℕ) (b : ℕ) → is_control_byte b ≡ true → last_of (printable (front ++ b ∷ [])) ≡ last_of (printable front)
 last_is_before front b e =
     ap last_of (printable_append front (b ∷ []) ∙ ap (λ c. printable front ++ cond (not c) (b ∷ []) []) e ∙ append-nil (printable front))
 
 pub no_hash_printed : (bytes : List ℕ) → list_any is_hash bytes ≡ false → list_any is_hash (printable bytes) ≡ false
 no_hash_printed [] e = refl
-no_hash_printed (b ∷ bytes) e = at (is_hash b) (not (is_control b)) e refl (no_hash_printed bytes)
+no_hash_printed (b ∷ bytes) e = at (is_hash b) (not (is_control_byte b)) e refl (no_hash_printed bytes)
   where
     at : (c d : Bool) → (c || list_any is_hash bytes) ≡ false → is_hash b ≡ c → (list_any is_hash bytes ≡ false → list_any is_hash (printable bytes) ≡ false) →
         list_any is_hash (cond d (b ∷ printable bytes) (printable bytes)) ≡ false

@@ -1,19 +1,19 @@
 -- What a line keeps: controls out, the comment off, tabs as spaces, cut into words at spaces,
--- joined by single spaces, and of that as many bytes as a line may have.
+-- single_spaced by single spaces, and of that as many bytes as a line may have.
 use Rattle.std.specs.Prelude.{ℕ, ◌==◌, ◌&&◌, ◌||◌, not, nat_lt, Bool, true, false, if◌then◌else◌, List, [], ◌∷◌, map, filter, take, length}
 use Rattle.std.specs.List.{slice_split, join_with_byte, list_any}
 use Rattle.goref_lines.specs.declared.line.TheConstants.{LINE_LIMIT}
 
 -- a control: a byte below 32 other than HT, or 127
-abbrev pub is_control : ℕ → Bool
-is_control b = (nat_lt b 32 && not (b == 9)) || b == 127
+abbrev pub is_control_byte : ℕ → Bool
+is_control_byte b = (nat_lt b 32 && not (b == 9)) || b == 127
 
 -- `#`, which begins a comment
 abbrev pub is_hash : ℕ → Bool
 is_hash b = b == 35
 
-abbrev pub is_space : ℕ → Bool
-is_space b = b == 32
+abbrev pub is_plain_space : ℕ → Bool
+is_plain_space b = b == 32
 
 -- a byte with HT as a space
 abbrev pub spaced : ℕ → ℕ
@@ -21,7 +21,7 @@ spaced b = if b == 9 then 32 else b
 
 -- the bytes that are no controls
 abbrev pub printable : List ℕ → List ℕ
-printable line = filter (λ b. not (is_control b)) line
+printable line = filter (λ b. not (is_control_byte b)) line
 
 -- what stands before the first `#`
 abbrev pub before_comment : List ℕ → List ℕ
@@ -38,19 +38,19 @@ has_bytes (b ∷ bs) = true
 
 -- the words of a text: what stands between its spaces and is not empty
 abbrev pub words : List ℕ → List (List ℕ)
-words text = filter has_bytes (slice_split is_space text)
+words text = filter has_bytes (slice_split is_plain_space text)
 
--- the words of a text, joined by single spaces
-abbrev pub joined : List ℕ → List ℕ
-joined text = join_with_byte 32 (words text)
+-- the words of a text, single_spaced by single spaces
+abbrev pub single_spaced : List ℕ → List ℕ
+single_spaced text = join_with_byte 32 (words text)
 
 -- whether the last byte of a text is a space
 abbrev pub ends_with_space : List ℕ → Bool
 ends_with_space [] = false
-ends_with_space (b ∷ []) = is_space b
+ends_with_space (b ∷ []) = is_plain_space b
 ends_with_space (b ∷ c ∷ text) = ends_with_space (c ∷ text)
 
--- what is kept of a line: the front of its joined words, whether they were more, and, for the
+-- what is kept of a line: the front of its single_spaced words, whether they were more, and, for the
 -- bytes that may follow, whether a comment has begun and whether a space stands behind a word
 pub record Kept : Type 0 where
   pub text : List ℕ
@@ -61,8 +61,8 @@ pub record Kept : Type 0 where
 -- what is kept of a line's bytes
 unfoldable pub kept : List ℕ → Kept
 kept line = record {
-  text = take LINE_LIMIT (joined (cleaned line));
-  is_long = nat_lt LINE_LIMIT (length (joined (cleaned line)));
+  text = take LINE_LIMIT (single_spaced (cleaned line));
+  is_long = nat_lt LINE_LIMIT (length (single_spaced (cleaned line)));
   has_comment = list_any is_hash (printable line);
-  has_space = has_bytes (joined (cleaned line)) && ends_with_space (cleaned line);
+  has_space = has_bytes (single_spaced (cleaned line)) && ends_with_space (cleaned line);
 }

@@ -1,7 +1,7 @@
 -- What the words of a line ask for: a command with an id and arguments.
 use Rattle.std.specs.Prelude.{ℕ, if◌then◌else◌, List, [], ◌∷◌, Option, Some, None, option_and_then, position, take}
-use Rattle.goref_lines.specs.Kept.{is_space}
-use Rattle.go_board.specs.Decimals.{is_int, value_of_digits, int_of}
+use Rattle.goref_lines.specs.Kept.{is_plain_space}
+use Rattle.go_board.specs.Decimals.{is_int, digits_value, int_of}
 
 pub record Asked : Type 0 where
   pub id : Option ℕ
@@ -16,8 +16,8 @@ asked id (word ∷ words) = record { id = id; name = Some word; arguments = word
 -- what the words ask for: a number that stands first is the id
 abbrev pub asked_by : List (List ℕ) → Asked
 asked_by [] = asked None []
-asked_by (word ∷ words) = if is_int word then asked (Some (value_of_digits word)) words else asked None (word ∷ words)
+asked_by (word ∷ words) = if is_int word then asked (Some (digits_value word)) words else asked None (word ∷ words)
 
 -- the id of a text that was cut: what stands before its first space, where that is a number
-abbrev pub id_of_cut : List ℕ → Option ℕ
-id_of_cut text = option_and_then (λ end. int_of (take end text)) (position is_space text)
+abbrev pub id_before_space : List ℕ → Option ℕ
+id_before_space text = option_and_then (λ end. int_of (take end text)) (position is_plain_space text)

@@ -20,14 +20,14 @@ spelled [] = Some []
 spelled (word ∷ words) = with_first (vertex_of word) (spelled words)
 
 -- the point of a vertex, where it is one of a board of n lines and no pass
-abbrev pub point_in : ℕ → Vertex → Option Point
-point_in n Pass = None
-point_in n (At p) = if nat_lt p.col n && nat_lt p.row n then Some p else None
+abbrev pub point_on : ℕ → Vertex → Option Point
+point_on n Pass = None
+point_on n (At p) = if nat_lt p.col n && nat_lt p.row n then Some p else None
 
 -- the points of vertices, where each is a point of a board of n lines and none a pass
-abbrev pub points_in : ℕ → List Vertex → Option (List Point)
-points_in n [] = Some []
-points_in n (v ∷ vertices) = with_first (point_in n v) (points_in n vertices)
+abbrev pub points_on : ℕ → List Vertex → Option (List Point)
+points_on n [] = Some []
+points_on n (v ∷ vertices) = with_first (point_on n v) (points_on n vertices)
 
 -- no number stands twice
 abbrev pub are_distinct : List ℕ → Bool
@@ -47,7 +47,7 @@ stones_of n (Some points) = if is_free_handicap n points then Ok points else Err
 -- the stones at vertices, where the words spelled some
 abbrev pub stones_at : ℕ → Option (List Vertex) → Result (List Point) ListError
 stones_at n None = Err Malformed
-stones_at n (Some vertices) = stones_of n (points_in n vertices)
+stones_at n (Some vertices) = stones_of n (points_on n vertices)
 
 -- what the words of a free handicap list on a board of n lines: no words, or a word that spells no
 -- vertex, is malformed

@@ -1,6 +1,6 @@
 ghost use Rattle.std.specs.Prelude.{◌≡◌, ◌≤◌, ◌∷◌, [], IfNone, IfSome, length, not, option_copied, slice_get};
 ghost use Rattle.std.specs.List.{prefix_len};
-ghost use Rattle.goref_lines.specs.Kept.{is_space, words};
+ghost use Rattle.goref_lines.specs.Kept.{is_plain_space, words};
 
 use crate::words::word;
 use std::marker::Model;
@@ -60,7 +60,7 @@ impl<'a> Words<'a> {
 
 /// How many spaces a text begins with.
 fn count_spaces(text: &[u8]) -> usize
-    ensures value { result ≡ prefix_len is_space text.now }
+    ensures value { result ≡ prefix_len is_plain_space text.now }
     ensures bound { result ≤ length text.now }
 {
     text.iter().take_while(|byte| **byte == b' ').count()
@@ -68,7 +68,7 @@ fn count_spaces(text: &[u8]) -> usize
 
 /// How many bytes stand before the first space of a text.
 fn word_len(text: &[u8]) -> usize
-    ensures value { result ≡ prefix_len (λ b. not (is_space b)) text.now }
+    ensures value { result ≡ prefix_len (λ b. not (is_plain_space b)) text.now }
     ensures bound { result ≤ length text.now }
 {
     text.iter().take_while(|byte| **byte != b' ').count()

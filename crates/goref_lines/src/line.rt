@@ -1,7 +1,7 @@
 ghost use Rattle.std.specs.Prelude.{◌≡◌, ◌+◌, ◌<◌, ◌≤◌, ℕ, List, [], ◌∷◌, ◌++◌, length, take, false, true};
 ghost use Rattle.std.specs.List.{list_any, prefix_len};
-ghost use Rattle.goref_lines.specs.Kept.{Kept, has_bytes, kept, is_control as is_control_of, is_hash, is_space, printable, spaced};
-ghost use Rattle.goref_lines.specs.inner.Front.{AreOfWord, KeepsFront, is_of_word as is_of_word_by, last_of, with_space};
+ghost use Rattle.goref_lines.specs.Kept.{Kept, has_bytes, kept, is_control_byte, is_hash, is_plain_space, printable, spaced};
+ghost use Rattle.goref_lines.specs.inner.Front.{AreOfWord, KeepsFront, is_word_byte, last_of, with_space};
 
 use arrayvec::ArrayVec;
 use memchr::memchr;
@@ -190,27 +190,27 @@ impl Line {
 }
 
 fn is_control(byte: u8) -> bool
-    ensures { result ≡ is_control_of byte }
+    ensures { result ≡ is_control_byte byte }
 {
     byte < 32 && byte != b'\t' || byte == 127
 }
 
 fn is_blank(byte: u8) -> bool
-    ensures { result ≡ is_space (spaced byte) }
+    ensures { result ≡ is_plain_space (spaced byte) }
 {
     byte == b' ' || byte == b'\t'
 }
 
 /// Whether a byte stands in words.
 fn is_of_word(byte: u8) -> bool
-    ensures { result ≡ is_of_word_by byte }
+    ensures { result ≡ is_word_byte byte }
 {
     byte > b' ' && byte != b'#' && byte != 127
 }
 
 /// How many bytes of a word stand first.
 fn word_front(bytes: &[u8]) -> usize
-    ensures value { result ≡ prefix_len is_of_word_by bytes.now }
+    ensures value { result ≡ prefix_len is_word_byte bytes.now }
     ensures bound { result ≤ length bytes.now }
 {
     bytes.iter().take_while(|byte| is_of_word(**byte)).count()

@@ -1,6 +1,6 @@
 ghost use Rattle.std.specs.Prelude.{◌≡◌, ◌<◌, IfSome, length, option_copied, position, slice_get};
-ghost use Rattle.goref_lines.specs.Kept.{is_space, words};
-ghost use Rattle.goref_lines.specs.Requests.{Asked, asked_by, id_of_cut as id_before_space};
+ghost use Rattle.goref_lines.specs.Kept.{is_plain_space, words};
+ghost use Rattle.goref_lines.specs.Requests.{Asked, asked_by, id_before_space};
 
 use crate::cursor::Words;
 use go_board::read_int;
@@ -86,7 +86,7 @@ pub fn id_of_cut(text: &[u8]) -> Option<u32>
 }
 
 fn first_space(text: &[u8]) -> Option<usize>
-    ensures place { result ≡ position is_space text.now }
+    ensures place { result ≡ position is_plain_space text.now }
     ensures within { IfSome result (λ end. end < length text.now) }
 {
     text.iter().position(|byte| *byte == b' ')

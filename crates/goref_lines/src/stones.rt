@@ -1,9 +1,9 @@
 ghost use Rattle.std.specs.Prelude.{◌≡◌, ◌<◌, ◌*◌, ◌∷◌, ◌==◌, ℕ, [], List, Option, All, IfErr, IfOk, OnOk, length};
 ghost use Rattle.std.specs.List.{list_any};
-ghost use Rattle.go_board.specs.declared.vertex.Vertex.{Vertex as VertexValue};
+ghost use Rattle.go_board.specs.declared.vertex.Vertex.{Vertex};
 ghost use Rattle.go_board.specs.Points.{IsOn, number_of};
 ghost use Rattle.goref_lines.specs.Stones.{spelled, stones_listed, with_first};
-ghost use Rattle.goref_lines.specs.inner.Gathered.{can_follow as can_follow_on, comes_to};
+ghost use Rattle.goref_lines.specs.inner.Gathered.{may_follow, gathers};
 
 use crate::cursor::Words;
 use arrayvec::ArrayVec;
@@ -81,9 +81,9 @@ impl Stones {
     fn push(&mut self, word: &[u8]) -> Result<(), ListError>
         ensures lines { self.new.lines ≡ self.old.lines }
         ensures ok { OnOk result ((rest : List (List ℕ))
-            → comes_to self.old (spelled (word.now ∷ rest)) ≡ comes_to self.new (spelled rest)) }
+            → gathers self.old (spelled (word.now ∷ rest)) ≡ gathers self.new (spelled rest)) }
         ensures err { IfErr result (λ error. (rest : List (List ℕ))
-            → comes_to self.old (spelled (word.now ∷ rest)) ≡ Err error) }
+            → gathers self.old (spelled (word.now ∷ rest)) ≡ Err error) }
     {
         match read_vertex(word, self.size) {
             Ok(Vertex::At(point)) => self.add(point),
@@ -97,9 +97,9 @@ impl Stones {
     fn add(&mut self, point: Point)
         requires { IsOn self.old.lines point }
         ensures lines { self.new.lines ≡ self.old.lines }
-        ensures goes_on { (rest : Option (List VertexValue))
-            → comes_to self.old (with_first (Some (Vertex.At point)) rest)
-            ≡ comes_to self.new rest }
+        ensures goes_on { (rest : Option (List Vertex))
+            → gathers self.old (with_first (Some (Vertex.At point)) rest)
+            ≡ gathers self.new rest }
     {
         if can_follow(&self.points, point, self.size) {
             self.points.push(point);
@@ -110,8 +110,8 @@ impl Stones {
 
     /// The stones of the list, where it ends here.
     fn finish(self) -> Result<ArrayVec<Point, MAX_POINTS>, ListError>
-        ensures ok { IfOk result (λ points. comes_to self (Some []) ≡ Ok points.items) }
-        ensures err { IfErr result (λ error. comes_to self (Some []) ≡ Err error) }
+        ensures ok { IfOk result (λ points. gathers self (Some []) ≡ Ok points.items) }
+        ensures err { IfErr result (λ error. gathers self (Some []) ≡ Err error) }
         ensures on { IfOk result (λ points. All (IsOn self.lines) points.items) }
         ensures few { IfOk result (λ points. length points.items < self.lines * self.lines) }
     {
@@ -126,7 +126,7 @@ impl Stones {
 fn can_follow(points: &[Point], point: Point, size: Size) -> bool
     requires points { All (IsOn size) points.now }
     requires point { IsOn size point }
-    ensures { result ≡ can_follow_on size points.now point }
+    ensures { result ≡ may_follow size points.now point }
 {
     points.len() + 1 < usize::from(size.points()) && !has_number(points, point.index(size), size)
 }

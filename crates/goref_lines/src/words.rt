@@ -1,6 +1,6 @@
 ghost use Rattle.std.specs.Prelude.{◌≡◌, option_copied, slice_get};
 ghost use Rattle.goref_lines.specs.Kept.{words};
-ghost use Rattle.goref_lines.specs.Words.{is_named as is_named_by, colour_of};
+ghost use Rattle.goref_lines.specs.Words.{is_same_word, colour_spelled};
 
 use go_board::Colour;
 
@@ -15,7 +15,7 @@ pub(crate) fn word(text: &[u8], place: usize) -> Option<&[u8]>
 
 /// The colour that a word names.
 pub fn read_colour(word: &[u8]) -> Option<Colour>
-    ensures { result ≡ colour_of word.now }
+    ensures { result ≡ colour_spelled word.now }
 {
     if is_named(word, b"b") || is_named(word, b"black") {
         return Some(Colour::Black);
@@ -27,7 +27,7 @@ pub fn read_colour(word: &[u8]) -> Option<Colour>
 }
 
 fn is_named(word: &[u8], name: &[u8]) -> bool
-    ensures { result ≡ is_named_by word.now name.now }
+    ensures { result ≡ is_same_word word.now name.now }
 {
     word.eq_ignore_ascii_case(name)
 }

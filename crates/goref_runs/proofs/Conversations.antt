@@ -7,7 +7,7 @@ use Rattle.goref.specs.Contents.{Content, nothing, missing}
 use Rattle.goref_runs.specs.Shelves.{Pair}
 use Rattle.goref.specs.Answers.{Said, Reply, wanted}
 use Rattle.goref.specs.Laws.{SomeReply}
-use Rattle.goref_runs.specs.Conversation.{Asks, Conversation, ends, quits, goes_on}
+use Rattle.goref_runs.specs.Conversation.{AsksShelf, Conversation, ends, quits, goes_on}
 use Rattle.goref_runs.specs.inner.Progress.{Reaches}
 
 -- the same session, told in other words
@@ -20,7 +20,7 @@ retold {s} {lines} {lines'} {asked} {asked'} {text} {text'} l a t c =
     subst R t (subst Q a (subst P l c))
 
 -- something can be fetched for each line
-some_content : (want : Option (List ℕ)) → (content : Content) × (asked : List Pair) × Asks want content asked
+some_content : (want : Option (List ℕ)) → (content : Content) × (asked : List Pair) × AsksShelf want content asked
 some_content None = (nothing, [], (refl, refl))
 some_content (Some name) = (missing, (name, missing) ∷ [], refl)
 
@@ -29,7 +29,7 @@ SomeConversation s lines = (asked : List Pair) × (text : List ℕ) × Conversat
 
 -- a reply that ends the session, or one behind which it goes on
 pub some_more : (s : Standing) (line : List ℕ) (lines : List (List ℕ)) (content : Content) (asked : List Pair) (reply : Said) (stop : Bool) →
-    Asks (wanted (kept line)) content asked → Reply s (kept line) content reply → reply.ends ≡ stop → SomeConversation reply.standing lines →
+    AsksShelf (wanted (kept line)) content asked → Reply s (kept line) content reply → reply.ends ≡ stop → SomeConversation reply.standing lines →
     (later : List Pair) × (rest : List ℕ) × Conversation s (line ∷ lines) (asked ++ later) (reply.text ++ rest)
 some_more s line lines content asked reply true asks is e c =
     ([], [], retold refl (sym (append-nil asked)) (sym (append-nil reply.text)) (quits s line lines content asked reply asks is e))
@@ -53,7 +53,7 @@ reaches_first s = record { on = λ more later rest c. c }
 -- a line that was answered, with the session going on
 pub reaches_next : {s now : Standing} {lines : List (List ℕ)} {asked : List Pair} {text : List ℕ} → Reaches s lines asked text now →
     (line : List ℕ) (content : Content) (asked' : List Pair) (reply : Said) →
-    Asks (wanted (kept line)) content asked' → Reply now (kept line) content reply → reply.ends ≡ false →
+    AsksShelf (wanted (kept line)) content asked' → Reply now (kept line) content reply → reply.ends ≡ false →
     Reaches s (lines ++ line ∷ []) (asked ++ asked') (text ++ reply.text) reply.standing
 reaches_next {s} {now} {lines} {asked} {text} r line content asked' reply asks is e = record {
   on = λ more later rest c.

@@ -14,7 +14,7 @@ use Rattle.goref_runs.specs.Shelves.{Pair, then_pairs}
 use Rattle.goref.specs.Answers.{Said, Reply, wanted}
 use Rattle.goref.specs.Laws.{SomeReply}
 use Rattle.goref.specs.Replies.{flow_of}
-use Rattle.goref_runs.specs.Conversation.{Asks, Conversation, ends, quits, goes_on, Converses, BreaksOff}
+use Rattle.goref_runs.specs.Conversation.{AsksShelf, Conversation, ends, quits, goes_on, Converses, BreaksOff}
 use Rattle.goref_runs.specs.inner.Progress.{Reaches, Progress, Proceeds, Responds, Finishes}
 use Rattle.goref_runs.proofs.Lines.{complete_lines-nil, unfinished_line-nil, complete_lines_more, unfinished_line_more, complete_lines_end, unfinished_line_end, lines_later, Later}
 use Rattle.goref_runs.proofs.Conversations.{retold, some_more, some_conversation, reaches_first, reaches_next}
@@ -139,7 +139,7 @@ unfolding kept
 silent_reply s content reply (inl e) = ap (λ (x : Said). x.text) e.1
 silent_reply s content reply (inr h) = let words = h.0 in cc
 
-silent_asks : (content : Content) (asked : List Pair) → Asks (wanted (kept [])) content asked → asked ≡ []
+silent_asks : (content : Content) (asked : List Pair) → AsksShelf (wanted (kept [])) content asked → asked ≡ []
 unfolding kept
 silent_asks content asked h = h.1
 
@@ -158,7 +158,7 @@ module _ {s now : Standing} {read : List ℕ} {line : Kept} {given given' : Opti
     last_line b u e = let P : Kept → Type 0 = λ k. Responds now new k result given' given'' taken' taken'' in subst P (p.keeps ∙ ap kept e) r
 
   last_answered : (line : List ℕ) (content : Content) (asked : List Pair) (reply : Said) (stop : Bool) → reply.ends ≡ stop →
-      Asks (wanted (kept line)) content asked → Reply now (kept line) content reply → Conversation now (line ∷ []) asked reply.text
+      AsksShelf (wanted (kept line)) content asked → Reply now (kept line) content reply → Conversation now (line ∷ []) asked reply.text
   last_answered line content asked reply true e asks is = quits now line [] content asked reply asks is e
   last_answered line content asked reply false e asks is =
       retold refl (append-nil asked) (append-nil reply.text) (goes_on now line [] content asked reply [] [] asks is e (ends reply.standing))

@@ -8,19 +8,19 @@ use Rattle.goref_runs.specs.Shelves.{Pair, then_pairs}
 use Rattle.goref.specs.Answers.{Said, Reply, wanted}
 
 -- what is asked of the shelf for a line: its file, where it wants one
-abbrev pub Asks : Option (List ℕ) → Content → List Pair → Type 0
-Asks None content asked = (content ≡ nothing) × (asked ≡ [])
-Asks (Some name) content asked = asked ≡ (name, content) ∷ []
+abbrev pub AsksShelf : Option (List ℕ) → Content → List Pair → Type 0
+AsksShelf None content asked = (content ≡ nothing) × (asked ≡ [])
+AsksShelf (Some name) content asked = asked ≡ (name, content) ∷ []
 
 -- over a standing these lines, with these files asked for, are answered by this text: each line
 -- over the standing that the one before it left, up to one that ends the session
 pub data Conversation : Standing → List (List ℕ) → List Pair → List ℕ → Type 0 where
   ends : (s : Standing) → Conversation s [] [] []
   quits : (s : Standing) (line : List ℕ) (lines : List (List ℕ)) (content : Content) (asked : List Pair) (reply : Said) →
-      Asks (wanted (kept line)) content asked → Reply s (kept line) content reply → reply.ends ≡ true →
+      AsksShelf (wanted (kept line)) content asked → Reply s (kept line) content reply → reply.ends ≡ true →
       Conversation s (line ∷ lines) asked reply.text
   goes_on : (s : Standing) (line : List ℕ) (lines : List (List ℕ)) (content : Content) (asked : List Pair) (reply : Said) (later : List Pair) (rest : List ℕ) →
-      Asks (wanted (kept line)) content asked → Reply s (kept line) content reply → reply.ends ≡ false →
+      AsksShelf (wanted (kept line)) content asked → Reply s (kept line) content reply → reply.ends ≡ false →
       Conversation reply.standing lines later rest →
       Conversation s (line ∷ lines) (asked ++ later) (reply.text ++ rest)
 

@@ -1,4 +1,4 @@
-ghost use Rattle.std.specs.Prelude.{◌≡◌, ◌≤◌, ◌+◌, ℕ, List, [], ◌∷◌, ◌++◌, Option, IfOk, IfSome, OnOk, IsErrOf, pos};
+ghost use Rattle.std.specs.Prelude.{◌≡◌, ◌≤◌, ◌+◌, ℕ, List, [], ◌∷◌, ◌++◌, Option, IfOk, IfSome, OnOk, IsErrOf};
 ghost use Rattle.go_board.specs.Device.{failures_after};
 ghost use Rattle.go_game.specs.Standings.{Standing};
 ghost use Rattle.goref.specs.Starts.{begun};
@@ -32,16 +32,16 @@ pub fn run<A: Allocator + Copy, R: Source, W: Sink, S: Shelf<A>>(
     shelf: &mut S,
 ) -> Result<(), RunError>
     ensures ok { OnOk result (IfSome (R.left reader.old) (λ input.
-        Converses (begun size (pos 0)) (lines input)
+        Converses (begun size) (lines input)
         (S.given shelf.old) (S.given shelf.new) (W.taken writer.old) (W.taken writer.new))) }
     ensures read { IsErrOf result RunError.Read →
-        AnswersComplete (begun size (pos 0)) (R.left reader.old) (R.left reader.new)
+        AnswersComplete (begun size) (R.left reader.old) (R.left reader.new)
         (S.given shelf.old) (S.given shelf.new) (W.taken writer.old) (W.taken writer.new) }
     ensures endless { IsErrOf result RunError.Endless →
-        AnswersComplete (begun size (pos 0)) (R.left reader.old) (R.left reader.new)
+        AnswersComplete (begun size) (R.left reader.old) (R.left reader.new)
         (S.given shelf.old) (S.given shelf.new) (W.taken writer.old) (W.taken writer.new) }
     ensures write { IsErrOf result RunError.Write →
-        AnswersFront (begun size (pos 0)) (R.left reader.old) (R.left reader.new)
+        AnswersFront (begun size) (R.left reader.old) (R.left reader.new)
         (S.given shelf.old) (S.given shelf.new) (W.taken writer.old) (W.taken writer.new) }
     ensures read_failures { R.failures reader.new ≡ read_failures_after result
         (R.failures reader.old) }
@@ -68,16 +68,16 @@ pub fn run_within<A: Allocator + Copy, R: Source, W: Sink, S: Shelf<A>>(
     shelf: &mut S,
 ) -> Result<(), RunError>
     ensures ok { OnOk result (IfSome (R.left reader.old) (λ input.
-        Converses (begun size (pos 0)) (lines input)
+        Converses (begun size) (lines input)
         (S.given shelf.old) (S.given shelf.new) (W.taken writer.old) (W.taken writer.new))) }
     ensures read { IsErrOf result RunError.Read →
-        AnswersComplete (begun size (pos 0)) (R.left reader.old) (R.left reader.new)
+        AnswersComplete (begun size) (R.left reader.old) (R.left reader.new)
         (S.given shelf.old) (S.given shelf.new) (W.taken writer.old) (W.taken writer.new) }
     ensures endless { IsErrOf result RunError.Endless →
-        AnswersComplete (begun size (pos 0)) (R.left reader.old) (R.left reader.new)
+        AnswersComplete (begun size) (R.left reader.old) (R.left reader.new)
         (S.given shelf.old) (S.given shelf.new) (W.taken writer.old) (W.taken writer.new) }
     ensures write { IsErrOf result RunError.Write →
-        AnswersFront (begun size (pos 0)) (R.left reader.old) (R.left reader.new)
+        AnswersFront (begun size) (R.left reader.old) (R.left reader.new)
         (S.given shelf.old) (S.given shelf.new) (W.taken writer.old) (W.taken writer.new) }
     ensures read_failures { R.failures reader.new ≡ read_failures_after result
         (R.failures reader.old) }

@@ -9,7 +9,7 @@ use Rattle.go_sgf.specs.Refusals.{IsRefusal}
 use Rattle.go_sgf.specs.declared.error.SgfError.{SgfError}
 use Rattle.go_sgf.specs.declared.error.SgfError.TheVariants.{NoTree, EndInside, Unexpected, TooDeep, Memory, TooLong}
 use Rattle.go_sgf.specs.declared.limits.TheConstants.{MAX_RECORD}
-use Rattle.goref_tools.specs.Tools.{IsInput, Reads, Refuses, of_record}
+use Rattle.goref_tools.specs.Tools.{IsInput, Reads, Refuses, tool_error_of}
 use Rattle.goref_tools.specs.declared.error.ToolError.TheVariants.{Sgf}
 
 -- what was read before, and then more
@@ -34,7 +34,7 @@ told : (left : Option (List ℕ)) (e why : SgfError) → e ≢ Memory → e ≡ 
 told left e why other same h =
     let P : SgfError → Type 0 = λ x. Refuses left x in subst P same (other, h)
 
-no_memory : (why : SgfError) → of_record Memory ≡ Sgf why → ⊥
+no_memory : (why : SgfError) → tool_error_of Memory ≡ Sgf why → ⊥
 no_memory why e = cc
 
 -- a longer input is too long too
@@ -43,7 +43,7 @@ longer bytes more h = omega (arith, length-append bytes more)
 
 -- what a record is refused for, unless that is want of memory, the whole input is refused for
 pub refuses : (bytes : List ℕ) (left left' : Option (List ℕ)) → IsInput bytes left left' → (e : SgfError) → IsRefusal bytes e → (MAX_RECORD < length bytes → e ≡ TooLong) →
-    (why : SgfError) → of_record e ≡ Sgf why → Refuses left why
+    (why : SgfError) → tool_error_of e ≡ Sgf why → Refuses left why
 refuses bytes left left' is NoTree r long why f =
     told left NoTree why (λ e. cc) (cc) (of_whole (λ b. IsRefusal b NoTree) bytes left' is (λ h. let e = long h in cc) r)
 refuses bytes left left' is (EndInside place) r long why f =

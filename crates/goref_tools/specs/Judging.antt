@@ -14,16 +14,16 @@ abbrev pub line_of : List ℕ → List ℕ → List ℕ
 line_of name value = name ++ (value ++ codes "\n")
 
 -- how the score that a record states compares with its game's
-abbrev pub stated_word : Stated → List ℕ
-stated_word None = codes "none"
-stated_word Agrees = codes "agrees"
-stated_word Differs = codes "differs"
+abbrev pub word_of_stated : Stated → List ℕ
+word_of_stated None = codes "none"
+word_of_stated Agrees = codes "agrees"
+word_of_stated Differs = codes "differs"
 
 -- the three lines of a verdict
 abbrev pub verdict_text : Verdict → List ℕ
 verdict_text v =
     line_of (codes "moves ") (decimal v.moves)
-    ++ (line_of (codes "score ") (score_word v.margin) ++ line_of (codes "stated ") (stated_word v.stated))
+    ++ (line_of (codes "score ") (score_word v.margin) ++ line_of (codes "stated ") (word_of_stated v.stated))
 
 -- the writer took the lines of the verdict on the record that the input spells
 abbrev pub Judges : List ℕ → Option (List ℕ) → Option (List ℕ) → Type 0

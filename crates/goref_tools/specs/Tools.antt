@@ -3,7 +3,7 @@ use Rattle.std.specs.Prelude.{◌≡◌, ◌≢◌, ◌≤◌, ◌+◌, ℕ, Lis
 use Rattle.go_board.specs.Device.{after_bytes}
 use Rattle.go_record.specs.Games.{IsGameOf}
 use Rattle.go_record.specs.declared.error.RecordError.{RecordError}
-use Rattle.go_record.specs.declared.error.RecordError.TheVariants.{Memory as NoMemoryForGame}
+use Rattle.go_record.specs.declared.error.RecordError.TheVariants as record_error
 use Rattle.go_sgf.specs.Record.{Trees}
 use Rattle.go_sgf.specs.Refusals.{IsRefusal}
 use Rattle.go_sgf.specs.Spelling.{Spells}
@@ -11,7 +11,8 @@ use Rattle.go_sgf.specs.declared.error.SgfError.{SgfError}
 use Rattle.go_sgf.specs.declared.error.SgfError.TheVariants.{Memory}
 use Rattle.go_sgf.specs.declared.limits.TheConstants.{MAX_RECORD}
 use Rattle.goref_tools.specs.declared.error.ToolError.{ToolError}
-use Rattle.goref_tools.specs.declared.error.ToolError.TheVariants.{Sgf, Record, Read, Write, Memory as NoMemory}
+use Rattle.goref_tools.specs.declared.error.ToolError.TheVariants as tool_error
+use Rattle.goref_tools.specs.declared.error.ToolError.TheVariants.{Sgf, Record, Read, Write}
 
 -- the device gave at most one byte more than the largest record has
 pub record Reads (left left' : Option (List ℕ)) : Type 0 where
@@ -35,16 +36,16 @@ HasNoGame input why = (c : Trees) × Spells input c × IsGameOf c None (Err why)
 
 -- so for the whole input, and it isn't want of memory
 abbrev pub RefusesGame : Option (List ℕ) → RecordError → Type 0
-RefusesGame left why = (why ≢ NoMemoryForGame) × IfSome left (λ input. HasNoGame input why)
+RefusesGame left why = (why ≢ record_error.Memory) × IfSome left (λ input. HasNoGame input why)
 
 -- a refusal of the record; want of memory is one of the tool itself
-abbrev pub of_record : SgfError → ToolError
-of_record Memory = NoMemory
-of_record why = Sgf why
+abbrev pub tool_error_of : SgfError → ToolError
+tool_error_of Memory = tool_error.Memory
+tool_error_of why = Sgf why
 
 -- a refusal of its game; want of memory is one of the tool itself
 abbrev pub of_game : RecordError → ToolError
-of_game NoMemoryForGame = NoMemory
+of_game record_error.Memory = tool_error.Memory
 of_game why = Record why
 
 -- the exit status: 1 for a refused record or game, 3 for a fault

@@ -1,5 +1,5 @@
 ghost use Rattle.std.specs.Prelude.{◌≡◌};
-ghost use Rattle.goref_tools.specs.Tools.{of_game, of_record, status_of};
+ghost use Rattle.goref_tools.specs.Tools.{of_game, tool_error_of, status_of};
 ghost use Rattle.goref_tools.specs.declared.error.ToolError.TheVariants.{Memory};
 
 use go_record::RecordError;
@@ -48,7 +48,7 @@ impl From<AllocError> for ToolError {
 }
 
 impl From<SgfError> for ToolError {
-    ghost from_gives = { λ why error. error ≡ of_record why };
+    ghost from_gives = { λ why error. error ≡ tool_error_of why };
 
     fn from(why: SgfError) -> ToolError {
         match why {

@@ -1,7 +1,7 @@
 ghost use Rattle.std.specs.Prelude.{◌≡◌};
 ghost use Rattle.go_board.specs.Device.{Sent, failures_after};
 ghost use Rattle.go_board.specs.Pens.{Writes};
-ghost use Rattle.goref_tools.specs.Judging.{line_of, stated_word as word_of_stated, verdict_text};
+ghost use Rattle.goref_tools.specs.Judging.{line_of, word_of_stated, verdict_text};
 
 use go_board::{Pen, Sink, WriteFault};
 use go_game::score_text;

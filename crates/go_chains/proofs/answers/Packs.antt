@@ -8,9 +8,9 @@ use Rattle.std.proofs.Math.ListN.{length-set}
 use Rattle.go_board.specs.declared.pack.TheConstants.{PACK_BYTES}
 use Rattle.go_board.specs.declared.size.TheConstants.{MAX_LINES, MAX_POINTS}
 use Rattle.go_board.specs.Colours.{Colouring, colour_at}
-use Rattle.go_board.specs.Packs.{byte_of, code_of, packed_of}
-use Rattle.go_chains.specs.Cells.{colour_of}
-use Rattle.go_chains.specs.Sound.{colouring_of, value_of}
+use Rattle.go_board.specs.Packs.{byte_of, code_of, packed_of, colour_coded}
+use Rattle.go_chains.specs.Cells.{code_at}
+use Rattle.go_chains.specs.Sound.{colouring_of}
 use Rattle.go_chains.proofs.rules.Sound.{colouring-at, length-colouring}
 use Rattle.go_chains.proofs.answers.Queries.{code_none, zero_cell}
 
@@ -35,7 +35,7 @@ byte_same g h i same =
     omega (arith, at (4 * i) (omega arith) (omega arith), at (4 * i + 1) (omega arith) (omega arith), at (4 * i + 2) (omega arith) (omega arith), at (4 * i + 3) (omega arith) (omega arith))
 
 -- a colour cell's code
-pub code-at : (cells : List ℕ) (k : ℕ) → k < MAX_POINTS → code_of (colour_at (colouring_of MAX_LINES cells) k) ≡ code_of (value_of (colour_of cells k))
+pub code-at : (cells : List ℕ) (k : ℕ) → k < MAX_POINTS → code_of (colour_at (colouring_of MAX_LINES cells) k) ≡ code_of (colour_coded (code_at cells k))
 code-at cells k low = ap code_of (colouring-at MAX_LINES cells k (omega (arith, low)))
 
 pub code-past : (cells : List ℕ) (k : ℕ) → MAX_POINTS ≤ k → code_of (colour_at (colouring_of MAX_LINES cells) k) ≡ 0
@@ -46,7 +46,7 @@ pub pack_of_zeros : (count : ℕ) (cells bytes : List ℕ) → cells ≡ replica
 pack_of_zeros count cells bytes zeros none =
     let g = colouring_of MAX_LINES cells in
     let code : (k : ℕ) → code_of (colour_at g k) ≡ 0 = λ k. elim (cases_lt k MAX_POINTS) [
-      | inl low ↦ code-at cells k low ∙ ap (λ (v : ℕ). code_of (value_of v)) (zero_cell count cells zeros k)
+      | inl low ↦ code-at cells k low ∙ ap (λ (v : ℕ). code_of (colour_coded v)) (zero_cell count cells zeros k)
       | inr past ↦ code-past cells k past
     ] in
     packed_by g bytes (ap length none ∙ length-replicate {A = ℕ} PACK_BYTES 0)
@@ -56,7 +56,7 @@ pack_of_zeros count cells bytes zeros none =
 -- a write to a cell leaves the other colours
 other_colour : (cells : List ℕ) (place number k : ℕ) → k ≢ place → colour_at (colouring_of MAX_LINES cells) k ≡ colour_at (colouring_of MAX_LINES (slice_set cells place number)) k
 other_colour cells place number k other = elim (cases_lt k (MAX_LINES * MAX_LINES)) [
-  | inl low ↦ colouring-at MAX_LINES cells k low ∙ ap value_of (sym (get_or-set_other cells place k number 0 other)) ∙ sym (colouring-at MAX_LINES (slice_set cells place number) k low)
+  | inl low ↦ colouring-at MAX_LINES cells k low ∙ ap colour_coded (sym (get_or-set_other cells place k number 0 other)) ∙ sym (colouring-at MAX_LINES (slice_set cells place number) k low)
   | inr past ↦ get_or_past (colouring_of MAX_LINES cells) k None (omega (arith, length-colouring MAX_LINES cells, past))
       ∙ sym (get_or_past (colouring_of MAX_LINES (slice_set cells place number)) k None (omega (arith, length-colouring MAX_LINES (slice_set cells place number), past)))
 ]

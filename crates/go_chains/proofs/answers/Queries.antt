@@ -13,13 +13,13 @@ use Rattle.go_board.specs.declared.colour.Colour.{Colour}
 use Rattle.go_board.specs.declared.size.TheConstants.{MAX_LINES, MAX_POINTS}
 use Rattle.go_board.specs.Chains.{members}
 use Rattle.go_board.specs.Colours.{Colouring, colour_at}
-use Rattle.go_board.specs.Packs.{byte_of, code_of}
+use Rattle.go_board.specs.Packs.{byte_of, code_of, colour_coded}
 use Rattle.go_board.specs.Paths.{Joined}
 use Rattle.go_board.specs.Reaching.{is_liberty_of, joined, points}
-use Rattle.go_chains.specs.Cells.{colour_of, label_of, lib_of, next_of, size_of, tables_of, word_of}
+use Rattle.go_chains.specs.Cells.{code_at, label_of, lib_of, next_of, size_of, tables_of, word_of}
 use Rattle.go_chains.specs.inner.Parts.{is_labelled}
 use Rattle.go_chains.specs.Rings.{ring_from}
-use Rattle.go_chains.specs.Sound.{IsKept, IsStoneOf, colouring_of, value_of}
+use Rattle.go_chains.specs.Sound.{IsKept, IsStoneOf, colouring_of}
 use Rattle.go_chains.specs.inner.Tables.{IsStone}
 use Rattle.go_chains.proofs.rules.Sound.{IsKept-tidy, colouring-at, far_stone, length-colouring, length-ring_from, of_stone, stone-kept, tidy-kept, colouring-inside}
 use Rattle.go_chains.proofs.rules.Counting.{counted}
@@ -58,20 +58,20 @@ module _ (n : ℕ) (cells : List ℕ) (kept : IsKept n cells) where
       (λ t. eq-eqb a b (a_is ∙ same.1 (path.0 t) ∙ sym b_is))
 
   labelled : JoinedByPath → (p q l : ℕ) → IsStoneOf (colouring_of n cells) p → q < n * n → l ≡ label_of cells p
-      → (v : Option Colour) → value_of (colour_of cells q) ≡ v → is_labelled v (label_of cells q) l ≡ joined n (colouring_of n cells) p q
+      → (v : Option Colour) → colour_coded (code_at cells q) ≡ v → is_labelled v (label_of cells q) l ≡ joined n (colouring_of n cells) p q
   labelled by p q l stone q_in l_is None e =
       sym (false_from_ne_true (joined n (colouring_of n cells) p q) (λ t. (
       let j = (by n (colouring_of n cells) p q (stone-kept n cells kept p stone).0).0 t in
       let far = far_stone n (colouring_of n cells) cells (colouring-inside n cells) kept.sound.colours kept.sound.coded p q (stone-kept n cells kept p stone) j in
       let held = of_stone n (colouring_of n cells) cells (colouring-inside n cells) kept.sound.colours kept.sound.coded q far.0 in
-      none-some (value_of (colour_of cells q)) held.0 e (sym (colouring-at n cells q q_in) ∙ held.1))))
+      none-some (colour_coded (code_at cells q)) held.0 e (sym (colouring-at n cells q q_in) ∙ held.1))))
   labelled by p q l stone q_in l_is (Some c) e =
       labels_joined by p q l (label_of cells q) stone (c, colouring-at n cells q q_in ∙ e) l_is refl
 
   -- a point with the label of a stone is in its chain
   pub stone_answers : JoinedByPath → (p q l : ℕ) → IsStoneOf (colouring_of n cells) p → q < n * n → l ≡ label_of cells p
-      → is_labelled (value_of (colour_of cells q)) (label_of cells q) l ≡ joined n (colouring_of n cells) p q
-  stone_answers by p q l stone q_in l_is = labelled by p q l stone q_in l_is (value_of (colour_of cells q)) refl
+      → is_labelled (colour_coded (code_at cells q)) (label_of cells q) l ≡ joined n (colouring_of n cells) p q
+  stone_answers by p q l stone q_in l_is = labelled by p q l stone q_in l_is (colour_coded (code_at cells q)) refl
 
   pub size_counts : JoinedByPath → (p l : ℕ) → IsStoneOf (colouring_of n cells) p → l ≡ label_of cells p
       → size_of cells l ≡ length (members n (colouring_of n cells) p)
@@ -110,16 +110,16 @@ bit_read cells word l q at read is =
     ap (λ b. nat_eq b 1) (shr_and_one word (at % 64) ∙ ap (λ w. bit_at w (at % 64)) read ∙ ap (λ k. lib_of cells l k) is)
 
 -- cells that are all 0 have no stone
-pub zero_cell : (count : ℕ) (cells : List ℕ) → cells ≡ replicate count 0 → (p : ℕ) → colour_of cells p ≡ 0
+pub zero_cell : (count : ℕ) (cells : List ℕ) → cells ≡ replicate count 0 → (p : ℕ) → code_at cells p ≡ 0
 zero_cell count cells zeros p = ap (λ l. get_or l p 0) zeros ∙ elim (cases_lt p count) [
   | inl inside ↦ get_or-replicate count p 0 0 inside
   | inr past ↦ get_or_past (replicate count 0) p 0 (omega (arith, length-replicate {A = ℕ} count 0))
 ]
 
 -- a board without stones is kept, whatever its other cells have
-module _ (n : ℕ) (cells : List ℕ) (empty : (p : ℕ) → p < n * n → colour_of cells p ≡ 0) where
+module _ (n : ℕ) (cells : List ℕ) (empty : (p : ℕ) → p < n * n → code_at cells p ≡ 0) where
   no_stone : (p : ℕ) → IsStone (n * n) (tables_of cells) p → ⊥
-  no_stone p stone = let z = empty p stone.0 in let some : 0 < colour_of cells p = stone.1 in omega arith
+  no_stone p stone = let z = empty p stone.0 in let some : 0 < code_at cells p = stone.1 in omega arith
 
   pub IsKept-empty : n ≤ MAX_LINES → IsKept n cells
   IsKept-empty small =
@@ -142,7 +142,7 @@ module _ (n : ℕ) (cells : List ℕ) (empty : (p : ℕ) → p < n * n → colou
       let size = length-colouring n cells in
       ext_get_or None (colouring_of n cells) (replicate (n * n) None) (size ∙ sym (length-replicate (n * n) None))
       (λ i below. (let i_in : i < n * n = omega arith in
-      colouring-at n cells i i_in ∙ ap value_of (empty i i_in) ∙ sym (get_or-replicate (n * n) i None None i_in)))
+      colouring-at n cells i i_in ∙ ap colour_coded (empty i i_in) ∙ sym (get_or-replicate (n * n) i None None i_in)))
 
 -- a grid with the colour of each point is that colouring
 pub grid_filled : (n : ℕ) (cells : List ℕ) (colours : Colouring) (i : ℕ) → n * n ≤ i → length colours ≡ n * n
@@ -157,15 +157,15 @@ last_split (x ∷ []) some = ([], x, refl)
 last_split (x ∷ y ∷ ys) some = let rest = last_split (y ∷ ys) (omega arith) in (x ∷ rest.0, rest.1, ap (λ l. x ∷ l) rest.2)
 
 -- a colour cell is the code of its colour
-code_back : (k : ℕ) → k < 3 → code_of (value_of k) ≡ k
+code_back : (k : ℕ) → k < 3 → code_of (colour_coded k) ≡ k
 code_back zero low = refl
 code_back (suc zero) low = refl
 code_back (suc (suc zero)) low = refl
 code_back (suc (suc (suc k))) low = absurd (omega arith)
 
 -- so a colour cell is the code of its point
-pub code_read : (n : ℕ) (cells : List ℕ) → IsKept n cells → (k : ℕ) → k < n * n → colour_of cells k ≡ code_of (colour_at (colouring_of n cells) k)
-code_read n cells kept k inside = sym (code_back (colour_of cells k) (kept.sound.coded k inside)) ∙ ap code_of (sym (colouring-at n cells k inside))
+pub code_read : (n : ℕ) (cells : List ℕ) → IsKept n cells → (k : ℕ) → k < n * n → code_at cells k ≡ code_of (colour_at (colouring_of n cells) k)
+code_read n cells kept k inside = sym (code_back (code_at cells k) (kept.sound.coded k inside)) ∙ ap code_of (sym (colouring-at n cells k inside))
 
 -- and no point past the board has one
 pub code_none : (n : ℕ) (cells : List ℕ) (k : ℕ) → n * n ≤ k → code_of (colour_at (colouring_of n cells) k) ≡ 0

@@ -8,8 +8,9 @@ use Rattle.std.proofs.lemmas.Grind.{common_steps}
 use Rattle.std.proofs.lemmas.Nat.{rows}
 use Rattle.go_board.specs.declared.colour.Colour.{Colour}
 use Rattle.go_board.specs.Colours.{colour_at}
-use Rattle.go_chains.specs.Cells.{colour_of}
-use Rattle.go_chains.specs.Sound.{colouring_of, value_of}
+use Rattle.go_board.specs.Packs.{colour_coded}
+use Rattle.go_chains.specs.Cells.{code_at}
+use Rattle.go_chains.specs.Sound.{colouring_of}
 use Rattle.go_chains.proofs.rules.Sound.{colouring-at}
 
 -- one column more of a row
@@ -40,7 +41,7 @@ rows_more Q n k word old within before here row col = elim (cases_eq row k) [
 ]
 
 -- a test of what a cell stands for is one of the point's colour
-pub read_as : (n : ℕ) (cells : List ℕ) (row col word word' : ℕ) (colour : Option Colour) (c : Colour) → row * n + col < n * n → colour ≡ value_of (colour_of cells (row * n + col))
+pub read_as : (n : ℕ) (cells : List ℕ) (row col word word' : ℕ) (colour : Option Colour) (c : Colour) → row * n + col < n * n → colour ≡ colour_coded (code_at cells (row * n + col))
     → ((i : ℕ) → (bit_at word' i ≡ 1) ↔ (((i ≡ col) × (colour ≡ Some c)) ⊎ (bit_at word i ≡ 1)))
     → (i : ℕ) → (bit_at word' i ≡ 1) ↔ (((i ≡ col) × (colour_at (colouring_of n cells) (row * n + col) ≡ Some c)) ⊎ (bit_at word i ≡ 1))
 read_as n cells row col word word' colour c low is put =

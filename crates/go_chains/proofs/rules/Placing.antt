@@ -1,19 +1,20 @@
 -- A play over the cells, step by step, and what it comes to in the words of the board's rules.
 use Rattle.std.specs.Prelude.{slice_set}
 use Rattle.go_board.specs.Laws.{ReachesByPath, JoinedByPath}
-use Rattle.std.proofs.Common.{ℕ, ◌+◌, ◌*◌, ◌<◌, ◌≤◌, ◌≡◌, ◌≢◌, ◌⊎◌, ◌↔◌, inl, inr, sym, ap, ◌∙◌, subst, arith, Some, List, length, slice_index}
+use Rattle.std.proofs.Common.{ℕ, ◌+◌, ◌*◌, ◌<◌, ◌≤◌, ◌≡◌, ◌≢◌, ◌⊎◌, ◌↔◌, inl, inr, refl, sym, ap, ◌∙◌, subst, arith, Some, List, length, slice_index}
 use Rattle.std.proofs.lemmas.Bool.{cases_eq}
 use Rattle.go_board.specs.declared.colour.Colour.{Colour}
 use Rattle.go_board.specs.declared.colour.Colour.TheVariants.{Black, White}
 use Rattle.go_board.specs.Colours.{other}
 use Rattle.go_board.specs.Paths.{IsAdjacent}
 use Rattle.go_board.specs.Reaching.{cleared, moved, vanished}
+use Rattle.go_board.specs.Packs.{code_of, colour_coded}
 use Rattle.go_chains.specs.inner.Beside.{AreBeside}
-use Rattle.go_chains.specs.Cells.{colour_of, label_of, size_of, tables_of}
-use Rattle.go_chains.specs.Playing.{stones_beside, stones_taken}
-use Rattle.go_chains.specs.Sound.{IsKept, colouring_of, value_of}
+use Rattle.go_chains.specs.Cells.{code_at, label_of, size_of, tables_of}
+use Rattle.go_chains.specs.Playing.{stones_beside, stones_captured}
+use Rattle.go_chains.specs.Sound.{IsKept, colouring_of}
 use Rattle.go_chains.specs.inner.Steps.{CountsTaken, IsCapturing, IsCleared, IsConnectedTo, IsOccupied}
-use Rattle.go_chains.specs.inner.Tables.{IsDead, IsStone, IsTidy, IsWhole, Tables}
+use Rattle.go_chains.specs.inner.Tables.{IsDead, IsStone, IsTidy, AreChainsWhole, Tables}
 use Rattle.go_chains.proofs.rules.Sound.{IsKept-tidy, alive-kept, tidy-kept, whole-kept}
 use Rattle.go_chains.proofs.tables.Capturing.{IsCapturing_none}
 use Rattle.go_chains.proofs.rules.Playing.{cleared_is, placed_is}
@@ -25,10 +26,10 @@ use Rattle.go_chains.proofs.rules.Taking.{ring-le, vanished_is}
 pub record Begins (n : ℕ) (old : List ℕ) (p : ℕ) (c : Colour) (own theirs : ℕ) : Type 0 where
   pub kept : IsKept n old
   pub p_in : p < n * n
-  pub empty : colour_of old p ≡ 0
-  pub own_is : value_of own ≡ Some c
+  pub empty : code_at old p ≡ 0
+  pub own_is : colour_coded own ≡ Some c
   pub own_range : (0 < own) × (own < 3)
-  pub theirs_is : value_of theirs ≡ Some (other c)
+  pub theirs_is : colour_coded theirs ≡ Some (other c)
   pub theirs_range : (0 < theirs) × (theirs < 3)
 
 -- the stone is placed, and joined to its chains
@@ -41,41 +42,41 @@ pub record Joins (n : ℕ) (old placed joined : List ℕ) (p own : ℕ) (beside 
 -- the chains beside it that have no liberty are taken off, and then its own if it has none
 pub record Takes (n : ℕ) (joined captured end : List ℕ) (p own theirs : ℕ) (beside : List ℕ) : Type 0 where
   pub capturing : IsCapturing (n * n) (IsAdjacent n) (tables_of joined) (tables_of captured) theirs
-  pub gone : (i : ℕ) → i < length beside → colour_of joined (slice_index beside i) ≡ theirs → IsDead (n * n) (tables_of joined) (label_of joined (slice_index beside i)) → colour_of captured (slice_index beside i) ≡ 0
+  pub gone : (i : ℕ) → i < length beside → code_at joined (slice_index beside i) ≡ theirs → IsDead (n * n) (tables_of joined) (label_of joined (slice_index beside i)) → code_at captured (slice_index beside i) ≡ 0
   pub clearing : IsCapturing (n * n) (IsAdjacent n) (tables_of captured) (tables_of end) own
-  pub own_gone : colour_of captured p ≡ own → IsDead (n * n) (tables_of captured) (label_of captured p) → colour_of end p ≡ 0
+  pub own_gone : code_at captured p ≡ own → IsDead (n * n) (tables_of captured) (label_of captured p) → code_at end p ≡ 0
 
-codes_apart : (a b : ℕ) (c : Colour) → value_of a ≡ Some c → value_of b ≡ Some (other c) → b ≢ a
-codes_apart a b Black is is_other same = absurd (let e : value_of a ≡ Some White = ap value_of (sym same) ∙ is_other in cc)
-codes_apart a b White is is_other same = absurd (let e : value_of a ≡ Some Black = ap value_of (sym same) ∙ is_other in cc)
+codes_apart : (a b : ℕ) (c : Colour) → colour_coded a ≡ Some c → colour_coded b ≡ Some (other c) → b ≢ a
+codes_apart a b Black is is_other same = absurd (let e : colour_coded a ≡ Some White = ap colour_coded (sym same) ∙ is_other in cc)
+codes_apart a b White is is_other same = absurd (let e : colour_coded a ≡ Some Black = ap colour_coded (sym same) ∙ is_other in cc)
 
 module _ (n : ℕ) (old : List ℕ) (p : ℕ) (c : Colour) (own theirs : ℕ) (b : Begins n old p c own theirs) where
   pub differ : theirs ≢ own
   differ = codes_apart own theirs c b.own_is b.theirs_is
 
-  pub two_of : (q : ℕ) → IsStone (n * n) (tables_of old) q → (colour_of old q ≡ theirs) ⊎ (colour_of old q ≡ own)
-  two_of q stone = elim (cases_eq (colour_of old q) own) [
+  pub two_of : (q : ℕ) → IsStone (n * n) (tables_of old) q → (code_at old q ≡ theirs) ⊎ (code_at old q ≡ own)
+  two_of q stone = elim (cases_eq (code_at old q) own) [
     | inl is ↦ inr is
-    | inr not ↦ inl (let some : 0 < colour_of old q = stone.1 in let small : colour_of old q < 3 = b.kept.sound.coded q stone.0 in
+    | inr not ↦ inl (let some : 0 < code_at old q = stone.1 in let small : code_at old q < 3 = b.kept.sound.coded q stone.0 in
         let a = b.own_range.0 in let e = b.own_range.1 in let f = b.theirs_range.0 in let g = b.theirs_range.1 in let d = differ in omega arith)
   ]
 
 module _ (n : ℕ) (old placed joined : List ℕ) (p : ℕ) (c : Colour) (own theirs : ℕ) (beside : List ℕ) (b : Begins n old p c own theirs) (j : Joins n old placed joined p own beside) where
-  pub whole_of : IsWhole (n * n) (IsAdjacent n) (tables_of joined)
+  pub whole_of : AreChainsWhole (n * n) (IsAdjacent n) (tables_of joined)
   whole_of = whole_joined (n * n) (IsAdjacent n) (flip n) (tables_of old) (tables_of placed) (tables_of joined) p own theirs beside (whole-kept n old b.kept) (two_of n old p c own theirs b) j.near.all j.occupied j.connected
 
-  pub two_then : (q : ℕ) → IsStone (n * n) (tables_of joined) q → (colour_of joined q ≡ theirs) ⊎ (colour_of joined q ≡ own)
+  pub two_then : (q : ℕ) → IsStone (n * n) (tables_of joined) q → (code_at joined q ≡ theirs) ⊎ (code_at joined q ≡ own)
   two_then = two_joined (n * n) (IsAdjacent n) (flip n) (tables_of old) (tables_of placed) (tables_of joined) p own theirs beside (whole-kept n old b.kept) (two_of n old p c own theirs b) j.near.all j.occupied j.connected
 
-  pub colours_then : (q : ℕ) → q < n * n → q ≢ p → colour_of joined q ≡ colour_of old q
+  pub colours_then : (q : ℕ) → q < n * n → q ≢ p → code_at joined q ≡ code_at old q
   colours_then = colours_joined (n * n) (IsAdjacent n) (flip n) (tables_of old) (tables_of placed) (tables_of joined) p own theirs beside (whole-kept n old b.kept) (two_of n old p c own theirs b) j.near.all j.occupied j.connected
 
-  pub placed_then : colour_of joined p ≡ own
+  pub placed_then : code_at joined p ≡ own
   placed_then = placed_joined (n * n) (IsAdjacent n) (flip n) (tables_of old) (tables_of placed) (tables_of joined) p own theirs beside (whole-kept n old b.kept) (two_of n old p c own theirs b) j.near.all j.occupied j.connected
 
-  pub coded_then : (q : ℕ) → q < n * n → colour_of joined q < 3
+  pub coded_then : (q : ℕ) → q < n * n → code_at joined q < 3
   coded_then q q_in = elim (cases_eq q p) [
-    | inl at ↦ (let e : colour_of joined q ≡ own = ap (colour_of joined) at ∙ placed_then in let h = b.own_range.1 in omega arith)
+    | inl at ↦ (let e : code_at joined q ≡ own = ap (code_at joined) at ∙ placed_then in let h = b.own_range.1 in omega arith)
     | inr off ↦ (let e = colours_then q q_in off in let h = b.kept.sound.coded q q_in in omega arith)
   ]
 
@@ -84,34 +85,34 @@ module _ (n : ℕ) (old placed joined : List ℕ) (p : ℕ) (c : Colour) (own th
   size_then law = ring-le law n old joined p own c b.kept.sound.coded b.own_range.1 b.own_is b.own_range.0 j.tidy b.p_in placed_then (λ q q_in off is. sym (colours_then q q_in off) ∙ is)
 
 -- a capture leaves no new colour
-coded_after : (n : ℕ) (before after : List ℕ) (o : ℕ) → ((q : ℕ) → q < n * n → colour_of before q < 3) → IsCapturing (n * n) (IsAdjacent n) (tables_of before) (tables_of after) o → (q : ℕ) → q < n * n → colour_of after q < 3
-coded_after n before after o coded capture q q_in = elim (capture.colours q q_in) [ inl same ↦ (let h = coded q q_in in omega arith) | inr gone ↦ (let z : colour_of after q ≡ 0 = gone.0 in omega arith) ]
+coded_after : (n : ℕ) (before after : List ℕ) (o : ℕ) → ((q : ℕ) → q < n * n → code_at before q < 3) → IsCapturing (n * n) (IsAdjacent n) (tables_of before) (tables_of after) o → (q : ℕ) → q < n * n → code_at after q < 3
+coded_after n before after o coded capture q q_in = elim (capture.colours q q_in) [ inl same ↦ (let h = coded q q_in in omega arith) | inr gone ↦ (let z : code_at after q ≡ 0 = gone.0 in omega arith) ]
 
 module _ (n : ℕ) (old placed joined captured end : List ℕ) (p : ℕ) (c : Colour) (own theirs : ℕ) (beside : List ℕ)
     (b : Begins n old p c own theirs) (j : Joins n old placed joined p own beside) (t : Takes n joined captured end p own theirs beside) where
-  whole2 : IsWhole (n * n) (IsAdjacent n) (tables_of joined)
+  whole2 : AreChainsWhole (n * n) (IsAdjacent n) (tables_of joined)
   whole2 = whole_of n old placed joined p c own theirs beside b j
 
-  gone_at : (s : ℕ) → IsAdjacent n p s → colour_of joined s ≡ theirs → IsDead (n * n) (tables_of joined) (label_of joined s) → colour_of captured s ≡ 0
+  gone_at : (s : ℕ) → IsAdjacent n p s → code_at joined s ≡ theirs → IsDead (n * n) (tables_of joined) (label_of joined s) → code_at captured s ≡ 0
   gone_at s near is dead =
       let at = j.near.all s near in
-      let P : ℕ → Type 0 = λ k. colour_of joined k ≡ theirs → IsDead (n * n) (tables_of joined) (label_of joined k) → colour_of captured k ≡ 0 in
+      let P : ℕ → Type 0 = λ k. code_at joined k ≡ theirs → IsDead (n * n) (tables_of joined) (label_of joined k) → code_at captured k ≡ 0 in
       subst P at.2 (t.gone at.0 at.1) is dead
 
-  cleared3 : IsCleared (n * n) (IsAdjacent n) (colour_of joined) (colour_of captured) theirs
+  cleared3 : IsCleared (n * n) (IsAdjacent n) (code_at joined) (code_at captured) theirs
   cleared3 = cleared_other (n * n) (IsAdjacent n) (flip n) (inside n) (tables_of old) (tables_of joined) (tables_of captured) (tables_of end) p own theirs b.own_range.0 b.theirs_range.0 (differ n old p c own theirs b) b.p_in b.empty
       (tidy-kept n old b.kept) (alive-kept n old b.kept) j.tidy whole2 (colours_then n old placed joined p c own theirs beside b j) (placed_then n old placed joined p c own theirs beside b j)
       (two_then n old placed joined p c own theirs beside b j) t.capturing gone_at t.clearing t.own_gone
 
-  cleared4 : IsCleared (n * n) (IsAdjacent n) (colour_of captured) (colour_of end) own
+  cleared4 : IsCleared (n * n) (IsAdjacent n) (code_at captured) (code_at end) own
   cleared4 = cleared_own (n * n) (IsAdjacent n) (flip n) (inside n) (tables_of old) (tables_of joined) (tables_of captured) (tables_of end) p own theirs b.own_range.0 b.theirs_range.0 (differ n old p c own theirs b) b.p_in b.empty
       (tidy-kept n old b.kept) (alive-kept n old b.kept) j.tidy whole2 (colours_then n old placed joined p c own theirs beside b j) (placed_then n old placed joined p c own theirs beside b j)
       (two_then n old placed joined p c own theirs beside b j) t.capturing gone_at t.clearing t.own_gone
 
-  coded3 : (q : ℕ) → q < n * n → colour_of captured q < 3
+  coded3 : (q : ℕ) → q < n * n → code_at captured q < 3
   coded3 = coded_after n joined captured theirs (coded_then n old placed joined p c own theirs beside b j) t.capturing
 
-  coded4 : (q : ℕ) → q < n * n → colour_of end q < 3
+  coded4 : (q : ℕ) → q < n * n → code_at end q < 3
   coded4 = coded_after n captured end own coded3 t.clearing
 
   pub kept_end : IsKept n end
@@ -143,12 +144,12 @@ module _ (n : ℕ) (old placed joined captured end : List ℕ) (p : ℕ) (c : Co
       )
       ∙ ap (λ g. vanished n g (colouring_of n end) (other c)) colours2
     where
-      stays : (q : ℕ) → q < n * n → (colour_of end q ≡ theirs) ↔ (colour_of captured q ≡ theirs)
+      stays : (q : ℕ) → q < n * n → (code_at end q ≡ theirs) ↔ (code_at captured q ≡ theirs)
       stays = other_stays (n * n) (IsAdjacent n) (flip n) (inside n) (tables_of old) (tables_of joined) (tables_of captured) (tables_of end) p own theirs b.own_range.0 b.theirs_range.0 (differ n old p c own theirs b) b.p_in b.empty
           (tidy-kept n old b.kept) (alive-kept n old b.kept) j.tidy whole2 (colours_then n old placed joined p c own theirs beside b j) (placed_then n old placed joined p c own theirs beside b j)
           (two_then n old placed joined p c own theirs beside b j) t.capturing gone_at t.clearing t.own_gone
 
-  own_then : (q : ℕ) → q < n * n → (colour_of captured q ≡ own) ↔ (colour_of joined q ≡ own)
+  own_then : (q : ℕ) → q < n * n → (code_at captured q ≡ own) ↔ (code_at joined q ≡ own)
   own_then = own_stays (n * n) (IsAdjacent n) (flip n) (inside n) (tables_of old) (tables_of joined) (tables_of captured) (tables_of end) p own theirs b.own_range.0 b.theirs_range.0 (differ n old p c own theirs b) b.p_in b.empty
       (tidy-kept n old b.kept) (alive-kept n old b.kept) j.tidy whole2 (colours_then n old placed joined p c own theirs beside b j) (placed_then n old placed joined p c own theirs beside b j)
       (two_then n old placed joined p c own theirs beside b j) t.capturing gone_at t.clearing t.own_gone
@@ -173,18 +174,23 @@ module _ (n : ℕ) (old placed joined captured end : List ℕ) (p : ℕ) (c : Co
       (λ q q_in off is. sym (colours_then n old placed joined p c own theirs beside b j q q_in off) ∙ (own_then q q_in).0 is)
 
   -- what the opponent lost, as the rules count it
-  pub taken_end : ReachesByPath → (taken : ℕ) → taken ≡ vanished n (slice_set (colouring_of n old) p (Some c)) (colouring_of n end) (other c) → taken ≡ stones_taken n (colouring_of n old) c p
+  pub taken_end : ReachesByPath → (taken : ℕ) → taken ≡ vanished n (slice_set (colouring_of n old) p (Some c)) (colouring_of n end) (other c) → taken ≡ stones_captured n (colouring_of n old) c p
   taken_end law taken is = is ∙ ap (λ g. vanished n (slice_set (colouring_of n old) p (Some c)) g (other c)) (moved_end law)
 
-pub begins : (n : ℕ) (old : List ℕ) (p : ℕ) (c o : Colour) (own theirs : ℕ) → IsKept n old → p < n * n → colour_of old p ≡ 0 → value_of own ≡ Some c → (0 < own) × (own < 3) → o ≡ other c
-    → value_of theirs ≡ Some o → (0 < theirs) × (theirs < 3) → Begins n old p c own theirs
+-- a colour's number stands for it
+code-coded : (c : Colour) → colour_coded (code_of (Some c)) ≡ Some c
+code-coded Black = refl
+code-coded White = refl
+
+pub begins : (n : ℕ) (old : List ℕ) (p : ℕ) (c o : Colour) (own theirs : ℕ) → IsKept n old → p < n * n → code_at old p ≡ 0 → own ≡ code_of (Some c) → (0 < own) × (own < 3) → o ≡ other c
+    → theirs ≡ code_of (Some o) → (0 < theirs) × (theirs < 3) → Begins n old p c own theirs
 begins n old p c o own theirs kept p_in empty own_is own_range o_is theirs_is theirs_range = record {
   kept = kept;
   p_in = p_in;
   empty = empty;
-  own_is = own_is;
+  own_is = ap colour_coded own_is ∙ code-coded c;
   own_range = own_range;
-  theirs_is = theirs_is ∙ ap Some o_is;
+  theirs_is = ap colour_coded theirs_is ∙ code-coded o ∙ ap Some o_is;
   theirs_range = theirs_range;
 }
 
@@ -198,9 +204,9 @@ joins n old placed joined p own items beside near same occupied connected tidy =
 }
 
 pub takes : (n : ℕ) (joined captured end : List ℕ) (p own theirs : ℕ) (beside : List ℕ) → IsCapturing (n * n) (IsAdjacent n) (tables_of joined) (tables_of captured) theirs
-    → ((i : ℕ) → i < length beside → colour_of joined (slice_index beside i) ≡ theirs → IsDead (n * n) (tables_of joined) (label_of joined (slice_index beside i)) → colour_of captured (slice_index beside i) ≡ 0)
+    → ((i : ℕ) → i < length beside → code_at joined (slice_index beside i) ≡ theirs → IsDead (n * n) (tables_of joined) (label_of joined (slice_index beside i)) → code_at captured (slice_index beside i) ≡ 0)
     → ((t : Tables) → IsTidy (n * n) (IsAdjacent n) t → IsCapturing (n * n) (IsAdjacent n) t (tables_of captured) own → IsCapturing (n * n) (IsAdjacent n) t (tables_of end) own)
-    → (colour_of captured p ≡ own → IsDead (n * n) (tables_of captured) (label_of captured p) → colour_of end p ≡ 0) → Takes n joined captured end p own theirs beside
+    → (code_at captured p ≡ own → IsDead (n * n) (tables_of captured) (label_of captured p) → code_at end p ≡ 0) → Takes n joined captured end p own theirs beside
 takes n joined captured end p own theirs beside capturing gone then own_gone = record {
   capturing = capturing;
   gone = gone;

@@ -10,10 +10,11 @@ use Rattle.go_board.specs.declared.colour.Colour.TheVariants.{Black, White}
 use Rattle.go_board.specs.declared.size.TheConstants.{MAX_LINES}
 use Rattle.go_board.specs.Colours.{Colouring, colour_at}
 use Rattle.go_board.specs.Paths.{IsAdjacent, Joined, Leads}
-use Rattle.go_chains.specs.Rings.{steps, ring_from, IsOn}
-use Rattle.go_chains.specs.inner.Tables.{IsStone, Links, IsJoined, IsTidy, IsWhole}
-use Rattle.go_chains.specs.Cells.{colour_of, label_of, next_of, size_of, lib_of, tables_of}
-use Rattle.go_chains.specs.Sound.{IsChainLiberty, IsKept, IsSound, IsStoneOf, colouring_of, value_of}
+use Rattle.go_board.specs.Packs.{colour_coded}
+use Rattle.go_chains.specs.Rings.{steps, ring_from, IsOnRing}
+use Rattle.go_chains.specs.inner.Tables.{IsStone, Links, IsJoined, IsTidy, AreChainsWhole}
+use Rattle.go_chains.specs.Cells.{code_at, label_of, next_of, size_of, lib_of, tables_of}
+use Rattle.go_chains.specs.Sound.{IsChainLiberty, IsKept, IsSound, IsStoneOf, colouring_of}
 use Rattle.go_chains.proofs.tables.Whole.{label-linked}
 
 pub length-ring_from : (next : ℕ → ℕ) (n p : ℕ) → length (ring_from next n p) ≡ n
@@ -50,13 +51,13 @@ ring_from-apart next n p apart i j d less below same =
     omega arith
 
 -- the list has the points that the steps lead to
-pub IsOn-Contains : (next : ℕ → ℕ) (n p q : ℕ) → Contains (ring_from next n p) q → IsOn next n p q
+pub IsOn-Contains : (next : ℕ → ℕ) (n p q : ℕ) → Contains (ring_from next n p) q → IsOnRing next n p q
 IsOn-Contains next n p q c =
     let size = length-ring_from next n p in
     let below : c.0 < length (ring_from next n p) = c.1 in
     (c.0, omega arith, sym (ring_from-at next n p c.0 q (omega arith)) ∙ c.2)
 
-pub Contains-IsOn : (next : ℕ → ℕ) (n p q : ℕ) → IsOn next n p q → Contains (ring_from next n p) q
+pub Contains-IsOn : (next : ℕ → ℕ) (n p q : ℕ) → IsOnRing next n p q → Contains (ring_from next n p) q
 Contains-IsOn next n p q on =
     let size = length-ring_from next n p in
     let below : on.0 < n = on.1 in
@@ -68,23 +69,23 @@ ring_from-closed next zero p q is = ap (λ x. x ∷ []) is
 ring_from-closed next (suc n) p q is = ap (λ k. ring_from next k p) (let e : suc n + 1 ≡ suc (n + 1) = omega arith in e) ∙ ap (λ l. p ∷ l) (ring_from-closed next n (next p) q (steps-first next n p ∙ is))
 
 -- a colour that a cell stands for tells that the cell isn't 0
-pub value-some : (k : ℕ) (c : Colour) → value_of k ≡ Some c → 0 < k
+pub value-some : (k : ℕ) (c : Colour) → colour_coded k ≡ Some c → 0 < k
 value-some zero c is = absurd (cc)
 value-some (suc k) c is = omega arith
 
-pub value-of_stone : (k : ℕ) → 0 < k → k < 3 → (c : Colour) × (value_of k ≡ Some c)
+pub value-of_stone : (k : ℕ) → 0 < k → k < 3 → (c : Colour) × (colour_coded k ≡ Some c)
 value-of_stone zero some small = absurd (omega arith)
 value-of_stone (suc zero) some small = (Black, refl)
 value-of_stone (suc (suc zero)) some small = (White, refl)
 value-of_stone (suc (suc (suc k))) some small = absurd (omega arith)
 
-pub value-none : (k : ℕ) → k < 3 → value_of k ≡ None → k ≡ 0
+pub value-none : (k : ℕ) → k < 3 → colour_coded k ≡ None → k ≡ 0
 value-none zero small is = refl
 value-none (suc zero) small is = absurd (cc)
 value-none (suc (suc zero)) small is = absurd (cc)
 value-none (suc (suc (suc k))) small is = absurd (omega arith)
 
-pub value-injective : (j k : ℕ) → j < 3 → k < 3 → value_of j ≡ value_of k → j ≡ k
+pub value-injective : (j k : ℕ) → j < 3 → k < 3 → colour_coded j ≡ colour_coded k → j ≡ k
 value-injective zero k sj sk is = sym (value-none k sk (sym is))
 value-injective (suc zero) zero sj sk is = absurd (cc)
 value-injective (suc zero) (suc zero) sj sk is = refl
@@ -103,43 +104,43 @@ colour-linked n adj inside f p (x ∷ xs) q p_in links = let r = colour-linked n
 
 -- what a cell of a sound colouring stands for, and the other way round
 module _ (n : ℕ) (g : Colouring) (cells : List ℕ) (inside_g : (p : ℕ) (c : Colour) → colour_at g p ≡ Some c → p < n * n)
-    (colours : (p : ℕ) → p < n * n → colour_at g p ≡ value_of (colour_of cells p)) (coded : (p : ℕ) → p < n * n → colour_of cells p < 3) where
+    (colours : (p : ℕ) → p < n * n → colour_at g p ≡ colour_coded (code_at cells p)) (coded : (p : ℕ) → p < n * n → code_at cells p < 3) where
   pub stone_of : (p : ℕ) → IsStoneOf g p → IsStone (n * n) (tables_of cells) p
   stone_of p is =
       let p_in = inside_g p is.0 is.1 in
-      (p_in, value-some (colour_of cells p) is.0 (sym (colours p p_in) ∙ is.1))
+      (p_in, value-some (code_at cells p) is.0 (sym (colours p p_in) ∙ is.1))
 
   pub of_stone : (p : ℕ) → IsStone (n * n) (tables_of cells) p → IsStoneOf g p
-  of_stone p stone = let v = value-of_stone (colour_of cells p) stone.1 (coded p stone.0) in (v.0, colours p stone.0 ∙ v.1)
+  of_stone p stone = let v = value-of_stone (code_at cells p) stone.1 (coded p stone.0) in (v.0, colours p stone.0 ∙ v.1)
 
-  pub empty_of : (p : ℕ) → p < n * n → colour_at g p ≡ None → colour_of cells p ≡ 0
-  empty_of p p_in is = value-none (colour_of cells p) (coded p p_in) (sym (colours p p_in) ∙ is)
+  pub empty_of : (p : ℕ) → p < n * n → colour_at g p ≡ None → code_at cells p ≡ 0
+  empty_of p p_in is = value-none (code_at cells p) (coded p p_in) (sym (colours p p_in) ∙ is)
 
-  pub of_empty : (p : ℕ) → p < n * n → colour_of cells p ≡ 0 → colour_at g p ≡ None
-  of_empty p p_in none = colours p p_in ∙ ap value_of none
+  pub of_empty : (p : ℕ) → p < n * n → code_at cells p ≡ 0 → colour_at g p ≡ None
+  of_empty p p_in none = colours p p_in ∙ ap colour_coded none
 
-  pub leads_of : (p : ℕ) (via : List ℕ) (q : ℕ) → p < n * n → Links (IsAdjacent n) (colour_of cells) p via q → Leads n g p via q
+  pub leads_of : (p : ℕ) (via : List ℕ) (q : ℕ) → p < n * n → Links (IsAdjacent n) (code_at cells) p via q → Leads n g p via q
   leads_of p [] q p_in links = links
   leads_of p (x ∷ xs) q p_in links =
       let x_in : x < n * n = links.0.1 in
-      (links.0, colours x x_in ∙ ap value_of links.1 ∙ sym (colours p p_in), leads_of x xs q x_in links.2)
+      (links.0, colours x x_in ∙ ap colour_coded links.1 ∙ sym (colours p p_in), leads_of x xs q x_in links.2)
 
-  pub of_leads : (p : ℕ) (via : List ℕ) (q : ℕ) → p < n * n → Leads n g p via q → Links (IsAdjacent n) (colour_of cells) p via q
+  pub of_leads : (p : ℕ) (via : List ℕ) (q : ℕ) → p < n * n → Leads n g p via q → Links (IsAdjacent n) (code_at cells) p via q
   of_leads p [] q p_in leads = leads
   of_leads p (x ∷ xs) q p_in leads =
       let x_in : x < n * n = leads.0.1 in
-      (leads.0, value-injective (colour_of cells x) (colour_of cells p) (coded x x_in) (coded p p_in) (sym (colours x x_in) ∙ leads.1 ∙ colours p p_in), of_leads x xs q x_in leads.2)
+      (leads.0, value-injective (code_at cells x) (code_at cells p) (coded x x_in) (coded p p_in) (sym (colours x x_in) ∙ leads.1 ∙ colours p p_in), of_leads x xs q x_in leads.2)
 
-  pub chain_of : (p q : ℕ) → p < n * n → IsJoined (IsAdjacent n) (colour_of cells) p q → Joined n g p q
+  pub chain_of : (p q : ℕ) → p < n * n → IsJoined (IsAdjacent n) (code_at cells) p q → Joined n g p q
   chain_of p q p_in joined = (joined.0, leads_of p joined.0 q p_in joined.1)
 
-  pub of_chain : (p q : ℕ) → p < n * n → Joined n g p q → IsJoined (IsAdjacent n) (colour_of cells) p q
+  pub of_chain : (p q : ℕ) → p < n * n → Joined n g p q → IsJoined (IsAdjacent n) (code_at cells) p q
   of_chain p q p_in chain = (chain.0, of_leads p chain.0 q p_in chain.1)
 
-  pub far_stone : (p q : ℕ) → IsStone (n * n) (tables_of cells) p → Joined n g p q → IsStone (n * n) (tables_of cells) q × (colour_of cells q ≡ colour_of cells p)
+  pub far_stone : (p q : ℕ) → IsStone (n * n) (tables_of cells) p → Joined n g p q → IsStone (n * n) (tables_of cells) q × (code_at cells q ≡ code_at cells p)
   far_stone p q stone chain =
-      let l = colour-linked (n * n) (IsAdjacent n) (λ x y near. near.1) (colour_of cells) p chain.0 q stone.0 (of_leads p chain.0 q stone.0 chain.1) in
-      ((l.0, let h : 0 < colour_of cells p = stone.1 in let e = l.1 in omega arith), l.1)
+      let l = colour-linked (n * n) (IsAdjacent n) (λ x y near. near.1) (code_at cells) p chain.0 q stone.0 (of_leads p chain.0 q stone.0 chain.1) in
+      ((l.0, let h : 0 < code_at cells p = stone.1 in let e = l.1 in omega arith), l.1)
 
 -- sound cells whose chains' labels are stones of them are tidy
 module _ (n : ℕ) (g : Colouring) (cells : List ℕ) (inside_g : (p : ℕ) (c : Colour) → colour_at g p ≡ Some c → p < n * n)
@@ -147,7 +148,7 @@ module _ (n : ℕ) (g : Colouring) (cells : List ℕ) (inside_g : (p : ℕ) (c :
   stone : (p : ℕ) → IsStone (n * n) (tables_of cells) p → IsStoneOf g p
   stone = of_stone n g cells inside_g sound.colours sound.coded
 
-  far : (p q : ℕ) → IsStone (n * n) (tables_of cells) p → Joined n g p q → IsStone (n * n) (tables_of cells) q × (colour_of cells q ≡ colour_of cells p)
+  far : (p q : ℕ) → IsStone (n * n) (tables_of cells) p → Joined n g p q → IsStone (n * n) (tables_of cells) q × (code_at cells q ≡ code_at cells p)
   far = far_stone n g cells inside_g sound.colours sound.coded
 
   same_label : (p q : ℕ) → IsStone (n * n) (tables_of cells) p → Joined n g p q → label_of cells p ≡ label_of cells q
@@ -186,7 +187,7 @@ module _ (n : ℕ) (g : Colouring) (cells : List ℕ) (inside_g : (p : ℕ) (c :
     joined = λ p q s s_q same. of_chain n g cells inside_g sound.colours sound.coded p q s.0 ((sound.labels p q (stone p s) (stone q s_q)).0 same);
   }
 
-  pub IsWhole-sound : IsWhole (n * n) (IsAdjacent n) (tables_of cells)
+  pub IsWhole-sound : AreChainsWhole (n * n) (IsAdjacent n) (tables_of cells)
   IsWhole-sound p q s s_q near same = same_label p q s (chain_of n g cells inside_g sound.colours sound.coded p q s.0 (q ∷ [], (near, sym same, refl)))
 
   pub alive-sound : (p : ℕ) → IsStone (n * n) (tables_of cells) p → (x : ℕ) × (x < n * n) × (lib_of cells (label_of cells p) x ≡ 1)
@@ -196,8 +197,8 @@ module _ (n : ℕ) (g : Colouring) (cells : List ℕ) (inside_g : (p : ℕ) (c :
 
 -- and tidy, whole cells whose chains have liberties are sound
 module _ (n : ℕ) (g : Colouring) (cells : List ℕ) (inside_g : (p : ℕ) (c : Colour) → colour_at g p ≡ Some c → p < n * n)
-    (colours : (p : ℕ) → p < n * n → colour_at g p ≡ value_of (colour_of cells p)) (coded : (p : ℕ) → p < n * n → colour_of cells p < 3)
-    (tidy : IsTidy (n * n) (IsAdjacent n) (tables_of cells)) (whole : IsWhole (n * n) (IsAdjacent n) (tables_of cells))
+    (colours : (p : ℕ) → p < n * n → colour_at g p ≡ colour_coded (code_at cells p)) (coded : (p : ℕ) → p < n * n → code_at cells p < 3)
+    (tidy : IsTidy (n * n) (IsAdjacent n) (tables_of cells)) (whole : AreChainsWhole (n * n) (IsAdjacent n) (tables_of cells))
     (living : (p : ℕ) → IsStone (n * n) (tables_of cells) p → (x : ℕ) × (x < n * n) × (lib_of cells (label_of cells p) x ≡ 1)) where
   chain_label : (p q : ℕ) → IsStone (n * n) (tables_of cells) p → Joined n g p q → IsStone (n * n) (tables_of cells) q × (label_of cells p ≡ label_of cells q)
   chain_label p q s chain = label-linked (n * n) (IsAdjacent n) (λ x y near. near.1) (tables_of cells) whole p chain.0 q s (of_leads n g cells inside_g colours coded p chain.0 q s.0 chain.1)
@@ -241,16 +242,16 @@ module _ (n : ℕ) (g : Colouring) (cells : List ℕ) (inside_g : (p : ℕ) (c :
   heads-tidy p is =
       let s = stone_of n g cells inside_g colours coded p is in
       let c = tidy.head_colour p s in
-      label_chain p (label_of cells p) s (tidy.head_in p s, let h : 0 < colour_of cells p = s.1 in omega arith) (sym (tidy.head_label p s))
+      label_chain p (label_of cells p) s (tidy.head_in p s, let h : 0 < code_at cells p = s.1 in omega arith) (sym (tidy.head_label p s))
 
 -- the colouring that cells say, point by point
-pub colouring-at : (n : ℕ) (cells : List ℕ) (p : ℕ) → p < n * n → colour_at (colouring_of n cells) p ≡ value_of (colour_of cells p)
+pub colouring-at : (n : ℕ) (cells : List ℕ) (p : ℕ) → p < n * n → colour_at (colouring_of n cells) p ≡ colour_coded (code_at cells p)
 unfolding colouring_of
-colouring-at n cells p p_in = get_or-map-range_with_len (λ q. value_of (colour_of cells q)) 0 (n * n) p p None p_in (omega arith)
+colouring-at n cells p p_in = get_or-map-range_with_len (λ q. colour_coded (code_at cells q)) 0 (n * n) p p None p_in (omega arith)
 
 pub length-colouring : (n : ℕ) (cells : List ℕ) → length (colouring_of n cells) ≡ n * n
 unfolding colouring_of
-length-colouring n cells = length-map-range_with_len (λ q. value_of (colour_of cells q)) 0 (n * n)
+length-colouring n cells = length-map-range_with_len (λ q. colour_coded (code_at cells q)) 0 (n * n)
 
 pub colouring-inside : (n : ℕ) (cells : List ℕ) (p : ℕ) (c : Colour) → colour_at (colouring_of n cells) p ≡ Some c → p < n * n
 colouring-inside n cells p c is = elim (cases_lt p (n * n)) [
@@ -263,7 +264,7 @@ module _ (n : ℕ) (cells : List ℕ) (kept : IsKept n cells) where
   pub tidy-kept : IsTidy (n * n) (IsAdjacent n) (tables_of cells)
   tidy-kept = IsTidy-sound n (colouring_of n cells) cells (colouring-inside n cells) kept.sound kept.heads
 
-  pub whole-kept : IsWhole (n * n) (IsAdjacent n) (tables_of cells)
+  pub whole-kept : AreChainsWhole (n * n) (IsAdjacent n) (tables_of cells)
   whole-kept = IsWhole-sound n (colouring_of n cells) cells (colouring-inside n cells) kept.sound kept.heads
 
   pub alive-kept : (p : ℕ) → IsStone (n * n) (tables_of cells) p → (x : ℕ) × (x < n * n) × (lib_of cells (label_of cells p) x ≡ 1)
@@ -272,8 +273,8 @@ module _ (n : ℕ) (cells : List ℕ) (kept : IsKept n cells) where
   pub stone-kept : (p : ℕ) → IsStoneOf (colouring_of n cells) p → IsStone (n * n) (tables_of cells) p
   stone-kept = stone_of n (colouring_of n cells) cells (colouring-inside n cells) kept.sound.colours kept.sound.coded
 
-pub IsKept-tidy : (n : ℕ) (cells : List ℕ) → n ≤ MAX_LINES → ((p : ℕ) → p < n * n → colour_of cells p < 3)
-    → IsTidy (n * n) (IsAdjacent n) (tables_of cells) → IsWhole (n * n) (IsAdjacent n) (tables_of cells)
+pub IsKept-tidy : (n : ℕ) (cells : List ℕ) → n ≤ MAX_LINES → ((p : ℕ) → p < n * n → code_at cells p < 3)
+    → IsTidy (n * n) (IsAdjacent n) (tables_of cells) → AreChainsWhole (n * n) (IsAdjacent n) (tables_of cells)
     → ((p : ℕ) → IsStone (n * n) (tables_of cells) p → (x : ℕ) × (x < n * n) × (lib_of cells (label_of cells p) x ≡ 1)) → IsKept n cells
 IsKept-tidy n cells small coded tidy whole living =
     let g = colouring_of n cells in

@@ -10,10 +10,11 @@ use Rattle.go_board.specs.Colours.{Colouring}
 use Rattle.go_board.specs.Paths.{IsAdjacent}
 use Rattle.go_board.specs.Points.{is_adjacent}
 use Rattle.go_board.specs.Reaching.{has_colour, joined, points, some_neighbour, vanished}
-use Rattle.go_chains.specs.Cells.{colour_of, label_of, next_of, size_of, tables_of}
+use Rattle.go_board.specs.Packs.{colour_coded}
+use Rattle.go_chains.specs.Cells.{code_at, label_of, next_of, size_of, tables_of}
 use Rattle.go_chains.specs.Playing.{is_beside_own, stones_beside}
 use Rattle.go_chains.specs.Rings.{ring_from}
-use Rattle.go_chains.specs.Sound.{colouring_of, value_of}
+use Rattle.go_chains.specs.Sound.{colouring_of}
 use Rattle.go_chains.specs.inner.Steps.{CountsTaken}
 use Rattle.go_chains.specs.inner.Tables.{IsJoined, IsStone, IsTidy, Links}
 use Rattle.go_chains.proofs.rules.Sound.{IsOn-Contains, chain_of, colouring-at, colouring-inside, length-ring_from, ring_from-apart}
@@ -22,21 +23,21 @@ use Rattle.go_chains.proofs.rules.Playing.{colour_test, not-false, not-true, tes
 use Rattle.go_chains.proofs.tables.Tidy.{length-le_members}
 
 -- the list counts the stones of a colour that are in the one colouring and not in the other
-pub vanished_is : (n : ℕ) (before after : List ℕ) (c : Colour) (code taken : ℕ) → ((p : ℕ) → p < n * n → colour_of before p < 3) → ((p : ℕ) → p < n * n → colour_of after p < 3) → code < 3 → value_of code ≡ Some c
+pub vanished_is : (n : ℕ) (before after : List ℕ) (c : Colour) (code taken : ℕ) → ((p : ℕ) → p < n * n → code_at before p < 3) → ((p : ℕ) → p < n * n → code_at after p < 3) → code < 3 → colour_coded code ≡ Some c
     → CountsTaken (n * n) (tables_of before) (tables_of after) code taken → taken ≡ vanished n (colouring_of n before) (colouring_of n after) c
 unfolding vanished
 vanished_is n before after c code taken coded coded' small is counts =
     sym (counts.1) ∙ sym (counted_by n (λ p. has_colour g p (Some c) && not (has_colour h p (Some c))) counts.0 counts.2
     (λ q has. (let of = (counts.3 q).0 has in (
       of.0,
-      and_from (has_colour g q (Some c)) (not (has_colour h q (Some c))) (colour_test n before q c of.0 (ap value_of of.1 ∙ is))
+      and_from (has_colour g q (Some c)) (not (has_colour h q (Some c))) (colour_test n before q c of.0 (ap colour_coded of.1 ∙ is))
           (not-false (has_colour h q (Some c)) (λ still. of.2 (test_colour n after q c code of.0 (coded' q of.0) small is still))),
     )))
     (λ q q_in passes. (let parts = and_parts (has_colour g q (Some c)) (not (has_colour h q (Some c))) passes in
     (counts.3 q).1 (
       q_in,
       test_colour n before q c code q_in (coded q q_in) small is parts.0,
-      λ still. not-true (has_colour h q (Some c)) parts.1 (colour_test n after q c q_in (ap value_of still ∙ is)),
+      λ still. not-true (has_colour h q (Some c)) parts.1 (colour_test n after q c q_in (ap colour_coded still ∙ is)),
     ))))
   where
     g : Colouring
@@ -66,8 +67,8 @@ seen n f f' p c x (y ∷ ys) q off is had x_in links =
     ]
 
 -- the placed stone's ring has no more stones than that stone and the own chains beside it
-pub ring-le : JoinedByPath → (n : ℕ) (before after : List ℕ) (p code : ℕ) (c : Colour) → ((q : ℕ) → q < n * n → colour_of before q < 3) → code < 3 → value_of code ≡ Some c → 0 < code
-    → IsTidy (n * n) (IsAdjacent n) (tables_of after) → p < n * n → colour_of after p ≡ code → ((q : ℕ) → q < n * n → q ≢ p → colour_of after q ≡ code → colour_of before q ≡ code)
+pub ring-le : JoinedByPath → (n : ℕ) (before after : List ℕ) (p code : ℕ) (c : Colour) → ((q : ℕ) → q < n * n → code_at before q < 3) → code < 3 → colour_coded code ≡ Some c → 0 < code
+    → IsTidy (n * n) (IsAdjacent n) (tables_of after) → p < n * n → code_at after p ≡ code → ((q : ℕ) → q < n * n → q ≢ p → code_at after q ≡ code → code_at before q ≡ code)
     → size_of after (label_of after p) ≤ stones_beside n (colouring_of n before) c p + 1
 unfolding stones_beside
 ring-le law n before after p code c coded small is some tidy p_in p_is had =
@@ -88,15 +89,15 @@ ring-le law n before after p code c coded small is some tidy p_in p_is had =
     own : List ℕ
     own = filter (is_beside_own n g c p) (points n)
 
-    passes : (q : ℕ) → q < n * n → colour_of before q ≡ code → (s : ℕ) → IsAdjacent n p s → colour_of before s ≡ code → IsJoined (IsAdjacent n) (colour_of before) s q → is_beside_own n g c p q ≡ true
+    passes : (q : ℕ) → q < n * n → code_at before q ≡ code → (s : ℕ) → IsAdjacent n p s → code_at before s ≡ code → IsJoined (IsAdjacent n) (code_at before) s q → is_beside_own n g c p q ≡ true
     passes q q_in q_is s near s_is path =
         let s_in : s < n * n = near.1 in
         let s_joined = (law n g s q s_in).1 (chain_of n g before (colouring-inside n before) (colouring-at n before) coded s q s_in path) in
         let s_passes : (is_adjacent n p s && (has_colour g s (Some c) && joined n g s q)) ≡ true =
         and_from (is_adjacent n p s) (has_colour g s (Some c) && joined n g s q) near.2
-        (and_from (has_colour g s (Some c)) (joined n g s q) (colour_test n before s c s_in (ap value_of s_is ∙ is)) s_joined) in
+        (and_from (has_colour g s (Some c)) (joined n g s q) (colour_test n before s c s_in (ap colour_coded s_is ∙ is)) s_joined) in
         let at = below_point n s s_in in
-        and_from (has_colour g q (Some c)) (some_neighbour n p (λ k. has_colour g k (Some c) && joined n g k q)) (colour_test n before q c q_in (ap value_of q_is ∙ is))
+        and_from (has_colour g q (Some c)) (some_neighbour n p (λ k. has_colour g k (Some c) && joined n g k q)) (colour_test n before q c q_in (ap colour_coded q_is ∙ is))
         (list_any-from_Any (λ k. is_adjacent n p k && (has_colour g k (Some c) && joined n g k q)) (points n) (at.0, s, at.1, at.2, s_passes))
 
     members : (q : ℕ) → Contains (ring_from (next_of after) size p) q → Contains (p ∷ own) q
@@ -106,8 +107,8 @@ ring-le law n before after p code c coded small is some tidy p_in p_is had =
           let on = tidy.on_ring p q stone (IsOn-Contains (next_of after) size p q has) in
           let q_in : q < n * n = on.0.0 in
           let path = tidy.joined p q stone on.0 (sym on.1) in
-          let q_is : colour_of before q ≡ code = had q q_in off (sym (tidy.head_colour q on.0) ∙ ap (colour_of after) on.1 ∙ tidy.head_colour p stone ∙ p_is) in
-          elim (seen n (colour_of before) (colour_of after) p code p path.0 q off p_is had p_in path.1) [
+          let q_is : code_at before q ≡ code = had q q_in off (sym (tidy.head_colour q on.0) ∙ ap (code_at after) on.1 ∙ tidy.head_colour p stone ∙ p_is) in
+          elim (seen n (code_at before) (code_at after) p code p path.0 q off p_is had p_in path.1) [
             | aside never _ ↦ absurd (never refl)
             | around s near s_is rest ↦
                 let in_own = passing-has n (is_beside_own n g c p) q q_in (passes q q_in q_is s near s_is rest) in

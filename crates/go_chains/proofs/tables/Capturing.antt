@@ -1,7 +1,7 @@
 -- Chains without a liberty that are taken off, one after another.
 use Rattle.std.proofs.Common.{ℕ, ◌<◌, ◌≡◌, ◌≢◌, ◌⊎◌, inl, inr, refl, sym, ap, ◌∙◌, subst, arith}
 use Rattle.std.proofs.lemmas.Bool.{cases_eq}
-use Rattle.go_chains.specs.inner.Tables.{Tables, IsStone, IsTidy, IsWhole, IsDead}
+use Rattle.go_chains.specs.inner.Tables.{Tables, IsStone, IsTidy, AreChainsWhole, IsDead}
 use Rattle.go_chains.specs.inner.Steps.{IsRemoved, IsCapturing, IsCleared}
 use Rattle.go_chains.proofs.tables.Occupying.{Links-stones}
 use Rattle.go_chains.proofs.tables.Whole.{label-linked, lib-reaches, reaches-lib}
@@ -9,7 +9,7 @@ use Rattle.go_chains.proofs.tables.Removing.{IsTidy-removed, IsWhole-removed, wa
 
 -- only a stone's placement at p can take the last liberty of a chain, and of no chain that is not beside p
 pub beside_or_alive : (n : ℕ) (adj : ℕ → ℕ → Type 0) (inside : (p q : ℕ) → adj p q → q < n) (t t' : Tables) (p : ℕ) → IsTidy n adj t
-    → ((q : ℕ) → IsStone n t q → (x : ℕ) × (x < n) × (t.lib (t.label q) x ≡ 1)) → IsTidy n adj t' → IsWhole n adj t'
+    → ((q : ℕ) → IsStone n t q → (x : ℕ) × (x < n) × (t.lib (t.label q) x ≡ 1)) → IsTidy n adj t' → AreChainsWhole n adj t'
     → t.colour p ≡ 0 → ((q : ℕ) → q < n → q ≢ p → t'.colour q ≡ t.colour q) → (q : ℕ) → IsStone n t q
     → ((x : ℕ) × (x < n) × (t'.lib (t'.label q) x ≡ 1)) ⊎ ((s : ℕ) × IsStone n t' s × (t'.label s ≡ t'.label q) × adj s p)
 beside_or_alive n adj inside t t' p tidy alive tidy' whole' empty colours q stone =
@@ -28,7 +28,7 @@ beside_or_alive n adj inside t t' p tidy alive tidy' whole' empty colours q ston
     ]
 
 -- no chain is taken off yet
-pub IsCapturing_none : (n : ℕ) (adj : ℕ → ℕ → Type 0) (t : Tables) (o : ℕ) → IsTidy n adj t → IsWhole n adj t → IsCapturing n adj t t o
+pub IsCapturing_none : (n : ℕ) (adj : ℕ → ℕ → Type 0) (t : Tables) (o : ℕ) → IsTidy n adj t → AreChainsWhole n adj t → IsCapturing n adj t t o
 IsCapturing_none n adj t o tidy whole = record {
   tidy = tidy;
   whole = whole;
@@ -99,7 +99,7 @@ IsCapturing_more n adj flip inside t mid t' o r tidy c m r_colour o_some dead = 
 }
 
 -- where every chain of colour o without a liberty has a marked stone, and every marked one of those is taken off, colour o is cleared
-pub IsCleared-captured : (n : ℕ) (adj : ℕ → ℕ → Type 0) (inside : (p q : ℕ) → adj p q → q < n) (Marked : ℕ → Type 0) (t t' : Tables) (o : ℕ) → 0 < o → IsTidy n adj t → IsWhole n adj t → IsCapturing n adj t t' o
+pub IsCleared-captured : (n : ℕ) (adj : ℕ → ℕ → Type 0) (inside : (p q : ℕ) → adj p q → q < n) (Marked : ℕ → Type 0) (t t' : Tables) (o : ℕ) → 0 < o → IsTidy n adj t → AreChainsWhole n adj t → IsCapturing n adj t t' o
     → ((q : ℕ) → IsStone n t q → t.colour q ≡ o → IsDead n t (t.label q) → (s : ℕ) × IsStone n t s × (t.label s ≡ t.label q) × Marked s)
     → ((s : ℕ) → IsStone n t s → t.colour s ≡ o → Marked s → IsDead n t (t.label s) → t'.colour s ≡ 0)
     → IsCleared n adj t.colour t'.colour o
@@ -120,7 +120,7 @@ IsCleared-captured n adj inside Marked t t' o o_some tidy whole c beside done = 
 
 -- after the captures a chain of the playing colour without a liberty is the one of the placed stone
 pub own_dead : (n : ℕ) (adj : ℕ → ℕ → Type 0) (inside : (p q : ℕ) → adj p q → q < n) (t t2 t3 : Tables) (p c o : ℕ) → IsTidy n adj t
-    → ((q : ℕ) → IsStone n t q → (x : ℕ) × (x < n) × (t.lib (t.label q) x ≡ 1)) → IsTidy n adj t2 → IsWhole n adj t2 → IsCapturing n adj t2 t3 o → c ≢ o → 0 < c → p < n
+    → ((q : ℕ) → IsStone n t q → (x : ℕ) × (x < n) × (t.lib (t.label q) x ≡ 1)) → IsTidy n adj t2 → AreChainsWhole n adj t2 → IsCapturing n adj t2 t3 o → c ≢ o → 0 < c → p < n
     → t.colour p ≡ 0 → t2.colour p ≡ c → ((q : ℕ) → q < n → q ≢ p → t2.colour q ≡ t.colour q)
     → (q : ℕ) → IsStone n t3 q → t3.colour q ≡ c → IsDead n t3 (t3.label q) → t3.label q ≡ t3.label p
 own_dead n adj inside t t2 t3 p c o tidy alive tidy2 whole2 cap apart some p_in empty placed colours q stone is dead =

@@ -1,6 +1,6 @@
 -- A chain that takes in those beside it, one by one.
 use Rattle.std.proofs.Common.{ℕ, ◌+◌, ◌-◌, ◌<◌, ◌≤◌, ◌≡◌, inl, inr, refl, sym, ap, ◌∙◌, subst, arith, List, length, slice_index}
-use Rattle.go_chains.specs.inner.Tables.{Tables, IsStone, IsWhole, IsWholeBut}
+use Rattle.go_chains.specs.inner.Tables.{Tables, IsStone, AreChainsWhole, IsWholeBut}
 use Rattle.go_chains.specs.inner.Steps.{IsJoin, IsConnected, IsConnectedTo}
 use Rattle.std.proofs.lemmas.Bool.{cases_lt, cases_eq}
 use Rattle.go_chains.proofs.tables.Whole.{label-join}
@@ -59,7 +59,7 @@ IsConnectedTo_more n t mid t' point beside i near stone inside near_is so_far on
 
 -- joined to all beside it, the placed stone leaves the tables whole
 pub IsWhole-connected : (n : ℕ) (adj : ℕ → ℕ → Type 0) (flip : (p q : ℕ) → adj p q → adj q p) (t t' : Tables) (point : ℕ) (beside : List ℕ) → IsWholeBut n adj t point
-    → ((q : ℕ) → adj point q → (i : ℕ) × (i < length beside) × (slice_index beside i ≡ q)) → IsConnectedTo n t t' point beside (length beside) → IsWhole n adj t'
+    → ((q : ℕ) → adj point q → (i : ℕ) × (i < length beside) × (slice_index beside i ≡ q)) → IsConnectedTo n t t' point beside (length beside) → AreChainsWhole n adj t'
 IsWhole-connected n adj flip t t' point beside whole all c p q sp sq near same =
     let before : (x : ℕ) → IsStone n t' x → IsStone n t x = λ x sx. (sx.0, let e = c.colours x sx.0 in let h : 0 < t'.colour x = sx.1 in omega arith) in
     let same_before : t.colour p ≡ t.colour q = sym (c.colours p sp.0) ∙ same ∙ c.colours q sq.0 in

@@ -1,7 +1,7 @@
 -- Tables stay tidy when two chains become one.
 use Rattle.std.proofs.Common.{ℕ, ◌+◌, ◌<◌, ◌≡◌, ◌≢◌, ◌⊎◌, inl, inr, refl, sym, ap, ◌∙◌, subst, arith, List, [], ◌∷◌, ◌++◌}
 use Rattle.std.proofs.lemmas.Bool.{cases_eq}
-use Rattle.go_chains.specs.Rings.{IsRing, IsOn}
+use Rattle.go_chains.specs.Rings.{IsRing, IsOnRing}
 use Rattle.go_chains.specs.inner.Tables.{Tables, IsStone, Links, IsJoined, Touches, IsTidy}
 use Rattle.go_chains.specs.inner.Steps.{IsJoin}
 use Rattle.go_chains.proofs.tables.Rings.{IsRing-from, IsOn-from, IsRing-kept, IsOn-kept, IsOn-was, IsSplice, IsRing-splice, IsOn-splice, IsOn-splice_first, IsOn-splice_second}
@@ -54,7 +54,7 @@ module _ (n : ℕ) (adj : ℕ → ℕ → Type 0) (flip : (p q : ℕ) → adj p 
   }
 
   -- the ring of a stone aside stays
-  pub kept_ring : (p : ℕ) → IsStone n t p → t.label p ≢ t.label a → t.label p ≢ t.label b → (q : ℕ) → IsOn t.next (t.size (t.label p)) p q → t'.next q ≡ t.next q
+  pub kept_ring : (p : ℕ) → IsStone n t p → t.label p ≢ t.label a → t.label p ≢ t.label b → (q : ℕ) → IsOnRing t.next (t.size (t.label p)) p q → t'.next q ≡ t.next q
   kept_ring p stone not_first not_second q on =
       let same : t.label q ≡ t.label p = (tidy.on_ring p q stone on).1 in
       j.nexts q (tidy.on_ring p q stone on).0.0 (λ e. not_first (sym same ∙ ap t.label e)) (λ e. not_second (sym same ∙ ap t.label e))
@@ -63,7 +63,7 @@ module _ (n : ℕ) (adj : ℕ → ℕ → Type 0) (flip : (p q : ℕ) → adj p 
   whole = t.size (t.label b) + t.size (t.label a)
 
   -- a stone of either chain is on the new ring from a
-  pub on_whole : (p : ℕ) → IsStone n t p → (t.label p ≡ t.label a) ⊎ (t.label p ≡ t.label b) → IsOn t'.next whole a p
+  pub on_whole : (p : ℕ) → IsStone n t p → (t.label p ≡ t.label a) ⊎ (t.label p ≡ t.label b) → IsOnRing t'.next whole a p
   on_whole p stone which = elim which [
     | inl first ↦ IsOn-splice_first t.next t'.next (t.size (t.label a)) a (t.size (t.label b)) b p splice (tidy.ring_has a p j.first stone first)
     | inr second ↦ IsOn-splice_second t.next t'.next (t.size (t.label a)) a (t.size (t.label b)) b p splice (tidy.ring_has b p j.second stone second)
@@ -73,7 +73,7 @@ module _ (n : ℕ) (adj : ℕ → ℕ → Type 0) (flip : (p q : ℕ) → adj p 
   whole_ring = IsRing-splice t.next t'.next (t.size (t.label a)) a (t.size (t.label b)) b splice
 
   -- what stands on the new ring has the new label
-  pub whole_is : (q : ℕ) → IsOn t'.next whole a q → IsStone n t q × (t'.label q ≡ t.label a)
+  pub whole_is : (q : ℕ) → IsOnRing t'.next whole a q → IsStone n t q × (t'.label q ≡ t.label a)
   whole_is q on = elim (IsOn-splice t.next t'.next (t.size (t.label a)) a (t.size (t.label b)) b q splice on) [
     | inl first ↦ let s = tidy.on_ring a q j.first first in (s.0, j.labels q s.0 (λ e. j.apart (sym s.1 ∙ e)) ∙ s.1)
     | inr second ↦ let s = tidy.on_ring b q j.second second in (s.0, j.relabelled q s.0 s.1)
@@ -87,33 +87,33 @@ module _ (n : ℕ) (adj : ℕ → ℕ → Type 0) (flip : (p q : ℕ) → adj p 
         subst R (sym (ap t'.size is ∙ j.sizes (t.label p) (tidy.head_in p stone) not_first)) (IsRing-kept t.next t'.next (t.size (t.label p)) p (tidy.ring p stone) (kept_ring p stone not_first not_second))
   ]
 
-  pub on_ring' : (p q : ℕ) → IsStone n t p → IsOn t'.next (t'.size (t'.label p)) p q → IsStone n t q × (t'.label q ≡ t'.label p)
+  pub on_ring' : (p q : ℕ) → IsStone n t p → IsOnRing t'.next (t'.size (t'.label p)) p q → IsStone n t q × (t'.label q ≡ t'.label p)
   on_ring' p q stone on = elim (side_of n t t' a b p j stone) [
     | with_first was_first is ↦ in_whole is (inl was_first)
     | with_second was_second is ↦ in_whole is (inr was_second)
     | aside not_first not_second is ↦
-        let O : ℕ → Type 0 = λ k. IsOn t'.next k p q in
-        let before : IsOn t.next (t.size (t.label p)) p q = IsOn-was t.next t'.next (t.size (t.label p)) p q (kept_ring p stone not_first not_second) (subst O (ap t'.size is ∙ j.sizes (t.label p) (tidy.head_in p stone) not_first) on) in
+        let O : ℕ → Type 0 = λ k. IsOnRing t'.next k p q in
+        let before : IsOnRing t.next (t.size (t.label p)) p q = IsOn-was t.next t'.next (t.size (t.label p)) p q (kept_ring p stone not_first not_second) (subst O (ap t'.size is ∙ j.sizes (t.label p) (tidy.head_in p stone) not_first) on) in
         let s = tidy.on_ring p q stone before in
         (s.0, j.labels q s.0 (λ e. not_second (sym s.1 ∙ e)) ∙ s.1 ∙ sym is)
   ]
     where
       in_whole : t'.label p ≡ t.label a → (t.label p ≡ t.label a) ⊎ (t.label p ≡ t.label b) → IsStone n t q × (t'.label q ≡ t'.label p)
       in_whole is which =
-          let O : ℕ → Type 0 = λ k. IsOn t'.next k p q in
-          let on_p : IsOn t'.next whole p q = subst O (ap t'.size is ∙ j.size_is) on in
-          let p_on : IsOn t'.next whole a p = on_whole p stone which in
+          let O : ℕ → Type 0 = λ k. IsOnRing t'.next k p q in
+          let on_p : IsOnRing t'.next whole p q = subst O (ap t'.size is ∙ j.size_is) on in
+          let p_on : IsOnRing t'.next whole a p = on_whole p stone which in
           let ring_p : IsRing t'.next whole p = IsRing-from t'.next whole a p whole_ring p_on in
-          let a_on : IsOn t'.next whole p a = IsOn-from t'.next whole a p a whole_ring p_on (0, whole_ring.some, refl) in
+          let a_on : IsOnRing t'.next whole p a = IsOn-from t'.next whole a p a whole_ring p_on (0, whole_ring.some, refl) in
           let s = whole_is q (IsOn-from t'.next whole p a q ring_p a_on on_p) in
           (s.0, s.1 ∙ sym is)
 
-  pub ring_has' : (p q : ℕ) → IsStone n t p → IsStone n t q → t'.label q ≡ t'.label p → IsOn t'.next (t'.size (t'.label p)) p q
+  pub ring_has' : (p q : ℕ) → IsStone n t p → IsStone n t q → t'.label q ≡ t'.label p → IsOnRing t'.next (t'.size (t'.label p)) p q
   ring_has' p q stone stone_q same = elim (side_of n t t' a b p j stone) [
     | with_first was_first is ↦ in_whole is (inl was_first)
     | with_second was_second is ↦ in_whole is (inr was_second)
     | aside not_first not_second is ↦
-        let O : ℕ → Type 0 = λ k. IsOn t'.next k p q in
+        let O : ℕ → Type 0 = λ k. IsOnRing t'.next k p q in
         let same_before : t.label q ≡ t.label p = elim (side_of n t t' a b q j stone_q) [
           | with_first q_first q_is ↦ absurd (not_first (sym is ∙ sym same ∙ q_is))
           | with_second q_second q_is ↦ absurd (not_first (sym is ∙ sym same ∙ q_is))
@@ -122,10 +122,10 @@ module _ (n : ℕ) (adj : ℕ → ℕ → Type 0) (flip : (p q : ℕ) → adj p 
         subst O (sym (ap t'.size is ∙ j.sizes (t.label p) (tidy.head_in p stone) not_first)) (IsOn-kept t.next t'.next (t.size (t.label p)) p q (kept_ring p stone not_first not_second) (tidy.ring_has p q stone stone_q same_before))
   ]
     where
-      in_whole : t'.label p ≡ t.label a → (t.label p ≡ t.label a) ⊎ (t.label p ≡ t.label b) → IsOn t'.next (t'.size (t'.label p)) p q
+      in_whole : t'.label p ≡ t.label a → (t.label p ≡ t.label a) ⊎ (t.label p ≡ t.label b) → IsOnRing t'.next (t'.size (t'.label p)) p q
       in_whole is which =
-          let O : ℕ → Type 0 = λ k. IsOn t'.next k p q in
-          let p_on : IsOn t'.next whole a p = on_whole p stone which in
+          let O : ℕ → Type 0 = λ k. IsOnRing t'.next k p q in
+          let p_on : IsOnRing t'.next whole a p = on_whole p stone which in
           let q_which : (t.label q ≡ t.label a) ⊎ (t.label q ≡ t.label b) = elim (side_of n t t' a b q j stone_q) [
             | with_first q_first q_is ↦ inl q_first
             | with_second q_second q_is ↦ inr q_second

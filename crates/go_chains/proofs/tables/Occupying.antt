@@ -1,7 +1,7 @@
 -- Tables stay tidy when a point gets a stone.
 use Rattle.std.proofs.Common.{ℕ, ◌<◌, ◌≡◌, ◌≢◌, inl, inr, refl, sym, ap, ◌∙◌, subst, arith, List, [], ◌∷◌}
 use Rattle.std.proofs.lemmas.Bool.{cases_eq}
-use Rattle.go_chains.specs.Rings.{steps, IsRing, IsOn}
+use Rattle.go_chains.specs.Rings.{steps, IsRing, IsOnRing}
 use Rattle.go_chains.specs.inner.Tables.{Tables, IsStone, Links, IsJoined, Touches, IsTidy}
 use Rattle.go_chains.specs.inner.Steps.{IsOccupied}
 use Rattle.go_chains.proofs.tables.Rings.{IsRing-kept, IsOn-kept, IsOn-was}
@@ -44,7 +44,7 @@ module _ (n : ℕ) (adj : ℕ → ℕ → Type 0) (inside : (p q : ℕ) → adj 
   pub label_was : (q : ℕ) → IsStone n t q → t'.label q ≡ t.label q
   label_was q stone = o.labels q stone.0 (not_p q stone)
 
-  pub kept : (q : ℕ) → IsStone n t q → (r : ℕ) → IsOn t.next (t.size (t.label q)) q r → t'.next r ≡ t.next r
+  pub kept : (q : ℕ) → IsStone n t q → (r : ℕ) → IsOnRing t.next (t.size (t.label q)) q r → t'.next r ≡ t.next r
   kept q stone r on = let s = (tidy.on_ring q r stone on).0 in o.nexts r s.0 (not_p r s)
 
   pub size_was : (q : ℕ) → IsStone n t q → t'.size (t'.label q) ≡ t.size (t.label q)
@@ -83,12 +83,12 @@ module _ (n : ℕ) (adj : ℕ → ℕ → Type 0) (inside : (p q : ℕ) → adj 
         | before ne old ↦ subst R (sym (size_was q old)) (IsRing-kept t.next t'.next (t.size (t.label q)) q (tidy.ring q old) (kept q old))
       ]
 
-  pub on_ring' : (q r : ℕ) → IsStone n t' q → IsOn t'.next (t'.size (t'.label q)) q r → IsStone n t' r × (t'.label r ≡ t'.label q)
+  pub on_ring' : (q r : ℕ) → IsStone n t' q → IsOnRing t'.next (t'.size (t'.label q)) q r → IsStone n t' r × (t'.label r ≡ t'.label q)
   on_ring' q r stone on =
-      let O : ℕ → Type 0 = λ k. IsOn t'.next k q r in
+      let O : ℕ → Type 0 = λ k. IsOnRing t'.next k q r in
       elim (who q stone) [
         | placed e ↦
-            let at : IsOn t'.next 1 q r = subst O (size_p q e) on in
+            let at : IsOnRing t'.next 1 q r = subst O (size_p q e) on in
             let i = at.0 in let below : i < 1 = at.1 in
             let is : q ≡ r = ap (λ k. steps t'.next k q) (let z : 0 ≡ i = omega arith in z) ∙ at.2 in
             let S : ℕ → Type 0 = λ x. IsStone n t' x × (t'.label x ≡ t'.label q) in subst S is (stone, refl)
@@ -97,9 +97,9 @@ module _ (n : ℕ) (adj : ℕ → ℕ → Type 0) (inside : (p q : ℕ) → adj 
             (now r s.0, label_was r s.0 ∙ s.1 ∙ sym (label_was q old))
       ]
 
-  pub ring_has' : (q r : ℕ) → IsStone n t' q → IsStone n t' r → t'.label r ≡ t'.label q → IsOn t'.next (t'.size (t'.label q)) q r
+  pub ring_has' : (q r : ℕ) → IsStone n t' q → IsStone n t' r → t'.label r ≡ t'.label q → IsOnRing t'.next (t'.size (t'.label q)) q r
   ring_has' q r stone stone_r same =
-      let O : ℕ → Type 0 = λ k. IsOn t'.next k q r in
+      let O : ℕ → Type 0 = λ k. IsOnRing t'.next k q r in
       elim (who q stone) [
         | placed e ↦ subst O (sym (size_p q e)) (0, omega arith, e ∙ sym (only_p r stone_r (same ∙ ap t'.label e ∙ o.label_is)))
         | before ne old ↦ elim (who r stone_r) [

@@ -1,7 +1,7 @@
 -- A play over the tables: the stone placed and joined, the chains beside it captured, and its own taken off.
 use Rattle.std.proofs.Common.{ℕ, zero, suc, ◌<◌, ◌≡◌, ◌≢◌, ◌⊎◌, ◌↔◌, inl, inr, refl, sym, ap, ◌∙◌, arith, List, length, slice_index}
 use Rattle.std.proofs.lemmas.Bool.{cases_lt, cases_eq}
-use Rattle.go_chains.specs.inner.Tables.{Tables, IsDead, IsStone, IsTidy, IsWhole, IsWholeBut}
+use Rattle.go_chains.specs.inner.Tables.{Tables, IsDead, IsStone, IsTidy, AreChainsWhole, IsWholeBut}
 use Rattle.go_chains.specs.inner.Steps.{IsCapturing, IsCleared, IsConnectedTo, IsOccupied}
 use Rattle.go_chains.proofs.tables.Capturing.{IsCleared-captured, beside_or_alive, own_dead}
 use Rattle.go_chains.proofs.tables.Connecting.{IsWhole-connected}
@@ -22,7 +22,7 @@ dead_or_alive (suc n) t l = elim (cases_eq (t.lib l n) 1) [
 
 -- the stone is placed, and joined to its chains
 module _ (n : ℕ) (adj : ℕ → ℕ → Type 0) (flip : (p q : ℕ) → adj p q → adj q p) (t t1 t2 : Tables) (p c o : ℕ) (beside : List ℕ)
-    (whole : IsWhole n adj t) (two : (q : ℕ) → IsStone n t q → (t.colour q ≡ o) ⊎ (t.colour q ≡ c)) (near : (q : ℕ) → adj p q → (i : ℕ) × (i < length beside) × (slice_index beside i ≡ q))
+    (whole : AreChainsWhole n adj t) (two : (q : ℕ) → IsStone n t q → (t.colour q ≡ o) ⊎ (t.colour q ≡ c)) (near : (q : ℕ) → adj p q → (i : ℕ) × (i < length beside) × (slice_index beside i ≡ q))
     (placed : IsOccupied n adj t t1 p c) (joined : IsConnectedTo n t1 t2 p beside (length beside)) where
   was : (q : ℕ) → q ≢ p → IsStone n t1 q → IsStone n t q
   was q off stone = (stone.0, let e = placed.colours q stone.0 off in let h : 0 < t1.colour q = stone.1 in omega arith)
@@ -33,7 +33,7 @@ module _ (n : ℕ) (adj : ℕ → ℕ → Type 0) (flip : (p q : ℕ) → adj p 
       ∙ whole x y (was x x_off sx) (was y y_off sy) beside_x (sym (placed.colours x sx.0 x_off) ∙ same ∙ placed.colours y sy.0 y_off)
       ∙ sym (placed.labels y sy.0 y_off)
 
-  pub whole_joined : IsWhole n adj t2
+  pub whole_joined : AreChainsWhole n adj t2
   whole_joined = IsWhole-connected n adj flip t1 t2 p beside whole_but near joined
 
   pub colours_joined : (q : ℕ) → q < n → q ≢ p → t2.colour q ≡ t.colour q
@@ -54,7 +54,7 @@ module _ (n : ℕ) (adj : ℕ → ℕ → Type 0) (flip : (p q : ℕ) → adj p 
 module _ (n : ℕ) (adj : ℕ → ℕ → Type 0) (flip : (p q : ℕ) → adj p q → adj q p) (inside : (p q : ℕ) → adj p q → q < n) (t t2 t3 t4 : Tables) (p c o : ℕ)
     (own_some : 0 < c) (other_some : 0 < o) (differ : o ≢ c) (p_in : p < n) (empty : t.colour p ≡ 0)
     (tidy : IsTidy n adj t) (alive : (q : ℕ) → IsStone n t q → (x : ℕ) × (x < n) × (t.lib (t.label q) x ≡ 1))
-    (tidy2 : IsTidy n adj t2) (whole2 : IsWhole n adj t2) (colours2 : (q : ℕ) → q < n → q ≢ p → t2.colour q ≡ t.colour q) (placed2 : t2.colour p ≡ c)
+    (tidy2 : IsTidy n adj t2) (whole2 : AreChainsWhole n adj t2) (colours2 : (q : ℕ) → q < n → q ≢ p → t2.colour q ≡ t.colour q) (placed2 : t2.colour p ≡ c)
     (two2 : (q : ℕ) → IsStone n t2 q → (t2.colour q ≡ o) ⊎ (t2.colour q ≡ c))
     (captured : IsCapturing n adj t2 t3 o) (gone : (s : ℕ) → adj p s → t2.colour s ≡ o → IsDead n t2 (t2.label s) → t3.colour s ≡ 0)
     (cleared : IsCapturing n adj t3 t4 c) (own_gone : t3.colour p ≡ c → IsDead n t3 (t3.label p) → t4.colour p ≡ 0) where

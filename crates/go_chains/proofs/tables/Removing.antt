@@ -1,12 +1,12 @@
 -- Tables stay tidy when a chain is taken off.
 use Rattle.std.proofs.Common.{ℕ, ◌<◌, ◌≡◌, ◌≢◌, inl, inr, sym, ap, ◌∙◌, subst, arith, List, [], ◌∷◌}
 use Rattle.std.proofs.lemmas.Bool.{cases_eq}
-use Rattle.go_chains.specs.Rings.{IsRing, IsOn}
-use Rattle.go_chains.specs.inner.Tables.{Tables, IsStone, Links, IsTidy, IsWhole}
+use Rattle.go_chains.specs.Rings.{IsRing, IsOnRing}
+use Rattle.go_chains.specs.inner.Tables.{Tables, IsStone, Links, IsTidy, AreChainsWhole}
 use Rattle.go_chains.specs.inner.Steps.{IsRemoved}
 use Rattle.go_chains.proofs.tables.Rings.{IsRing-kept, IsOn-kept, IsOn-was}
 
-module _ (n : ℕ) (adj : ℕ → ℕ → Type 0) (flip : (p q : ℕ) → adj p q → adj q p) (inside : (p q : ℕ) → adj p q → q < n) (t t' : Tables) (r : ℕ) (tidy : IsTidy n adj t) (whole : IsWhole n adj t) (m : IsRemoved n adj t t' r) where
+module _ (n : ℕ) (adj : ℕ → ℕ → Type 0) (flip : (p q : ℕ) → adj p q → adj q p) (inside : (p q : ℕ) → adj p q → q < n) (t t' : Tables) (r : ℕ) (tidy : IsTidy n adj t) (whole : AreChainsWhole n adj t) (m : IsRemoved n adj t t' r) where
   -- what stands still stood before, with another label
   pub was : (q : ℕ) → IsStone n t' q → IsStone n t q × (t.label q ≢ t.label r)
   was q stone =
@@ -23,7 +23,7 @@ module _ (n : ℕ) (adj : ℕ → ℕ → Type 0) (flip : (p q : ℕ) → adj p 
   pub size_was : (q : ℕ) → IsStone n t q → t'.size (t'.label q) ≡ t.size (t.label q)
   size_was q stone = ap t'.size (m.labels q stone.0) ∙ m.sizes (t.label q) (tidy.head_in q stone)
 
-  pub kept : (q : ℕ) → IsStone n t q → (x : ℕ) → IsOn t.next (t.size (t.label q)) q x → t'.next x ≡ t.next x
+  pub kept : (q : ℕ) → IsStone n t q → (x : ℕ) → IsOnRing t.next (t.size (t.label q)) q x → t'.next x ≡ t.next x
   kept q stone x on = m.nexts x (tidy.on_ring q x stone on).0.0
 
   -- links over stones of a chain that is left
@@ -48,11 +48,11 @@ module _ (n : ℕ) (adj : ℕ → ℕ → Type 0) (flip : (p q : ℕ) → adj p 
     ring = λ q stone. let s = was q stone in
         let R : ℕ → Type 0 = λ k. IsRing t'.next k q in subst R (sym (size_was q s.0)) (IsRing-kept t.next t'.next (t.size (t.label q)) q (tidy.ring q s.0) (kept q s.0));
     on_ring = λ q x stone on. let s = was q stone in
-        let O : ℕ → Type 0 = λ k. IsOn t'.next k q x in
+        let O : ℕ → Type 0 = λ k. IsOnRing t'.next k q x in
         let y = tidy.on_ring q x s.0 (IsOn-was t.next t'.next (t.size (t.label q)) q x (kept q s.0) (subst O (size_was q s.0) on)) in
         (now x y.0 (λ e. s.1 (sym y.1 ∙ e)), m.labels x y.0.0 ∙ y.1 ∙ sym (m.labels q stone.0));
     ring_has = λ q x stone stone_x same. let s = was q stone in
-        let O : ℕ → Type 0 = λ k. IsOn t'.next k q x in
+        let O : ℕ → Type 0 = λ k. IsOnRing t'.next k q x in
         subst O (sym (size_was q s.0)) (IsOn-kept t.next t'.next (t.size (t.label q)) q x (kept q s.0)
         (tidy.ring_has q x s.0 (was x stone_x).0 (sym (m.labels x stone_x.0) ∙ same ∙ m.labels q stone.0)));
     lib_is = λ q x stone x_in one. let s = was q stone in
@@ -83,7 +83,7 @@ module _ (n : ℕ) (adj : ℕ → ℕ → Type 0) (flip : (p q : ℕ) → adj p 
         (via.0, Links-left q via.0 x s.0 s.1 via.1);
   }
 
-  pub IsWhole-removed : IsWhole n adj t'
+  pub IsWhole-removed : AreChainsWhole n adj t'
   IsWhole-removed p q stone stone_q beside same =
       let s = was p stone in let y = was q stone_q in
       m.labels p stone.0 ∙ whole p q s.0 y.0 beside (sym (m.colours p stone.0 (λ _. s.1)) ∙ same ∙ m.colours q stone_q.0 (λ _. y.1)) ∙ sym (m.labels q stone_q.0)

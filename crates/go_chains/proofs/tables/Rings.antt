@@ -2,7 +2,7 @@
 use Rattle.std.proofs.Common.{ℕ, ◌+◌, ◌-◌, ◌<◌, ◌≤◌, ◌≡◌, ◌≢◌, ◌⊎◌, inl, inr, zero, suc, refl, sym, ap, ◌∙◌, arith}
 use Rattle.std.proofs.Math.Nat.{add-suc}
 use Rattle.std.proofs.lemmas.Bool.{cases_lt, cases_eq}
-use Rattle.go_chains.specs.Rings.{steps, IsRing, IsOn}
+use Rattle.go_chains.specs.Rings.{steps, IsRing, IsOnRing}
 
 -- first i steps, then j
 pub steps-add : (next : ℕ → ℕ) (i j p : ℕ) → steps next (i + j) p ≡ steps next j (steps next i p)
@@ -14,7 +14,7 @@ pub steps_at : (next : ℕ → ℕ) (i j k p : ℕ) → k ≡ i + j → steps ne
 steps_at next i j k p e = ap (λ n. steps next n p) e ∙ steps-add next i j p
 
 -- a ring is one from each of its points
-pub IsRing-from : (next : ℕ → ℕ) (n p q : ℕ) → IsRing next n p → IsOn next n p q → IsRing next n q
+pub IsRing-from : (next : ℕ → ℕ) (n p q : ℕ) → IsRing next n p → IsOnRing next n p q → IsRing next n q
 IsRing-from next n p q ring on =
     let i = on.0 in
     let there : steps next i p ≡ q = on.2 in
@@ -29,7 +29,7 @@ IsRing-from next n p q ring on =
     }
 
 -- what is on the ring from p is on it from q
-pub IsOn-from : (next : ℕ → ℕ) (n p q r : ℕ) → IsRing next n p → IsOn next n p q → IsOn next n p r → IsOn next n q r
+pub IsOn-from : (next : ℕ → ℕ) (n p q r : ℕ) → IsRing next n p → IsOnRing next n p q → IsOnRing next n p r → IsOnRing next n q r
 IsOn-from next n p q r ring on_q on_r =
     let i = on_q.0 in let k = on_r.0 in
     let below : i < n = on_q.1 in let below_k : k < n = on_r.1 in
@@ -49,7 +49,7 @@ steps_agree next next' p n agree (suc i) below =
     ap next' (steps_agree next next' p n agree i (omega arith)) ∙ agree i (omega arith)
 
 -- a ring stays one where no `next` of its points changes
-pub IsRing-kept : (next next' : ℕ → ℕ) (n p : ℕ) → IsRing next n p → ((q : ℕ) → IsOn next n p q → next' q ≡ next q) → IsRing next' n p
+pub IsRing-kept : (next next' : ℕ → ℕ) (n p : ℕ) → IsRing next n p → ((q : ℕ) → IsOnRing next n p q → next' q ≡ next q) → IsRing next' n p
 IsRing-kept next next' n p ring agree =
     let same = steps_agree next next' p n (λ (i : ℕ) (below : i < n). agree (steps next i p) (i, below, refl)) in
     record {
@@ -58,12 +58,12 @@ IsRing-kept next next' n p ring agree =
       apart = λ i j below_i below_j e. ring.apart i j below_i below_j (sym (same i (omega arith)) ∙ e ∙ same j (omega arith));
     }
 
-pub IsOn-kept : (next next' : ℕ → ℕ) (n p q : ℕ) → ((r : ℕ) → IsOn next n p r → next' r ≡ next r) → IsOn next n p q → IsOn next' n p q
+pub IsOn-kept : (next next' : ℕ → ℕ) (n p q : ℕ) → ((r : ℕ) → IsOnRing next n p r → next' r ≡ next r) → IsOnRing next n p q → IsOnRing next' n p q
 IsOn-kept next next' n p q agree on =
     let same = steps_agree next next' p n (λ (i : ℕ) (below : i < n). agree (steps next i p) (i, below, refl)) in
     (on.0, on.1, same on.0 (let b : on.0 < n = on.1 in omega arith) ∙ on.2)
 
-pub IsOn-was : (next next' : ℕ → ℕ) (n p q : ℕ) → ((r : ℕ) → IsOn next n p r → next' r ≡ next r) → IsOn next' n p q → IsOn next n p q
+pub IsOn-was : (next next' : ℕ → ℕ) (n p q : ℕ) → ((r : ℕ) → IsOnRing next n p r → next' r ≡ next r) → IsOnRing next' n p q → IsOnRing next n p q
 IsOn-was next next' n p q agree on =
     let same = steps_agree next next' p n (λ (i : ℕ) (below : i < n). agree (steps next i p) (i, below, refl)) in
     (on.0, on.1, sym (same on.0 (let b : on.0 < n = on.1 in omega arith)) ∙ on.2)
@@ -72,10 +72,10 @@ IsOn-was next next' n p q agree on =
 pub record IsSplice (next next' : ℕ → ℕ) (m a n b : ℕ) : Type 0 where
   pub first : IsRing next m a
   pub second : IsRing next n b
-  pub disjoint : (q : ℕ) → IsOn next m a q → IsOn next n b q → ⊥
+  pub disjoint : (q : ℕ) → IsOnRing next m a q → IsOnRing next n b q → ⊥
   pub at_first : next' a ≡ next b
   pub at_second : next' b ≡ next a
-  pub others : (q : ℕ) → IsOn next m a q ⊎ IsOn next n b q → q ≢ a → q ≢ b → next' q ≡ next q
+  pub others : (q : ℕ) → IsOnRing next m a q ⊎ IsOnRing next n b q → q ≢ a → q ≢ b → next' q ≡ next q
 
 -- a point of the first ring after its start is neither of the two
 pub in_first : (next next' : ℕ → ℕ) (m a n b : ℕ) → IsSplice next next' m a n b → (k : ℕ) → 0 < k → k < m → next' (steps next k a) ≡ next (steps next k a)
@@ -156,13 +156,13 @@ IsRing-splice next next' m a n b s = record {
   ];
 }
 
-pub IsOn-splice : (next next' : ℕ → ℕ) (m a n b q : ℕ) → IsSplice next next' m a n b → IsOn next' (n + m) a q → IsOn next m a q ⊎ IsOn next n b q
+pub IsOn-splice : (next next' : ℕ → ℕ) (m a n b q : ℕ) → IsSplice next next' m a n b → IsOnRing next' (n + m) a q → IsOnRing next m a q ⊎ IsOnRing next n b q
 IsOn-splice next next' m a n b q s on = elim (stands_at next next' m a n b s on.0 on.1) [
   | in_the_first k below_k is first_k more_k some_k ↦ inl (k, below_k, sym is ∙ on.2)
   | in_the_second k below_k is at_k at_zero ↦ inr (k, below_k, sym is ∙ on.2)
 ]
 
-pub IsOn-splice_first : (next next' : ℕ → ℕ) (m a n b q : ℕ) → IsSplice next next' m a n b → IsOn next m a q → IsOn next' (n + m) a q
+pub IsOn-splice_first : (next next' : ℕ → ℕ) (m a n b q : ℕ) → IsSplice next next' m a n b → IsOnRing next m a q → IsOnRing next' (n + m) a q
 IsOn-splice_first next next' m a n b q s on =
     let k = on.0 in let below : k < m = on.1 in
     elim (cases_eq k 0) [
@@ -170,7 +170,7 @@ IsOn-splice_first next next' m a n b q s on =
       | inr more ↦ (n + k, omega arith, from_first next next' m a n b s k (omega arith) (omega arith) ∙ on.2)
     ]
 
-pub IsOn-splice_second : (next next' : ℕ → ℕ) (m a n b q : ℕ) → IsSplice next next' m a n b → IsOn next n b q → IsOn next' (n + m) a q
+pub IsOn-splice_second : (next next' : ℕ → ℕ) (m a n b q : ℕ) → IsSplice next next' m a n b → IsOnRing next n b q → IsOnRing next' (n + m) a q
 IsOn-splice_second next next' m a n b q s on =
     let k = on.0 in let below : k < n = on.1 in let some_first : 0 < m = s.first.some in
     elim (cases_eq k 0) [

@@ -1,11 +1,11 @@
 -- Tables whose neighbours of one colour are of one chain.
 use Rattle.std.proofs.Common.{ℕ, ◌<◌, ◌≡◌, refl, sym, ◌∙◌, subst, arith, List, [], ◌∷◌}
-use Rattle.go_chains.specs.inner.Tables.{Tables, IsStone, Links, IsTidy, IsWhole, ReachesEmpty}
+use Rattle.go_chains.specs.inner.Tables.{Tables, IsStone, Links, IsTidy, AreChainsWhole, ReachesEmpty}
 use Rattle.go_chains.specs.inner.Steps.{IsJoin}
 use Rattle.go_chains.proofs.tables.Joining.{side_of, with_first, with_second, aside}
 
 -- along links over stones the label stays
-pub label-linked : (n : ℕ) (adj : ℕ → ℕ → Type 0) (inside : (p q : ℕ) → adj p q → q < n) (t : Tables) → IsWhole n adj t → (p : ℕ) (via : List ℕ) (q : ℕ) → IsStone n t p
+pub label-linked : (n : ℕ) (adj : ℕ → ℕ → Type 0) (inside : (p q : ℕ) → adj p q → q < n) (t : Tables) → AreChainsWhole n adj t → (p : ℕ) (via : List ℕ) (q : ℕ) → IsStone n t p
     → Links adj t.colour p via q → IsStone n t q × (t.label p ≡ t.label q)
 label-linked n adj inside t whole p [] q stone links = let P : ℕ → Type 0 = λ x. IsStone n t x × (t.label p ≡ t.label x) in subst P links (stone, refl)
 label-linked n adj inside t whole p (x ∷ xs) q stone links =
@@ -15,7 +15,7 @@ label-linked n adj inside t whole p (x ∷ xs) q stone links =
     (rest.0, whole p x stone x_stone links.0 (sym same) ∙ rest.1)
 
 -- a stone reaches empty exactly where its label has a liberty
-pub lib-reaches : (n : ℕ) (adj : ℕ → ℕ → Type 0) (inside : (p q : ℕ) → adj p q → q < n) (t : Tables) → IsTidy n adj t → IsWhole n adj t → (p : ℕ) → IsStone n t p
+pub lib-reaches : (n : ℕ) (adj : ℕ → ℕ → Type 0) (inside : (p q : ℕ) → adj p q → q < n) (t : Tables) → IsTidy n adj t → AreChainsWhole n adj t → (p : ℕ) → IsStone n t p
     → ReachesEmpty n adj t.colour p → (x : ℕ) × (x < n) × (t.lib (t.label p) x ≡ 1)
 lib-reaches n adj inside t tidy whole p stone reach =
     let q = reach.0 in let x = reach.2 in

@@ -3,7 +3,7 @@ use Rattle.std.proofs.Common.{ℕ, List, ◌*◌, ◌≡◌, ◌<◌, ◌≤◌,
 use Rattle.go_board.specs.lemmas.Squares.{square-le}
 use Rattle.go_board.specs.Paths.{IsAdjacent}
 use Rattle.go_board.specs.declared.size.TheConstants.{MAX_LINES, MAX_POINTS}
-use Rattle.go_chains.specs.Cells.{chain_size, colour_of, tables_of}
+use Rattle.go_chains.specs.Cells.{chain_size, code_at, tables_of}
 use Rattle.go_chains.specs.Rings.{steps}
 use Rattle.go_chains.specs.inner.Tables.{IsStone, IsTidy, Tables}
 use Rattle.go_chains.proofs.tables.Tidy.{size-le}
@@ -23,8 +23,8 @@ module _ (n : ℕ) (adj : ℕ → ℕ → Type 0) (t : Tables) (small : n ≤ MA
 
 -- the chain of a stone that stayed fits too
 pub size_still : (n : ℕ) (old new : List ℕ) (p : ℕ) → n ≤ MAX_LINES → IsTidy (n * n) (IsAdjacent n) (tables_of new) → IsStone (n * n) (tables_of old) p
-    → ((q : ℕ) → q < n * n → colour_of new q ≡ colour_of old q) → chain_size new p ≤ MAX_POINTS
+    → ((q : ℕ) → q < n * n → code_at new q ≡ code_at old q) → chain_size new p ≤ MAX_POINTS
 size_still n old new p small tidy stone colours =
-    let e : colour_of new p ≡ colour_of old p = colours p stone.0 in
-    let some : 0 < colour_of old p = stone.1 in
+    let e : code_at new p ≡ code_at old p = colours p stone.0 in
+    let some : 0 < code_at old p = stone.1 in
     size_small n (IsAdjacent n) (tables_of new) small tidy p (stone.0, omega arith)

@@ -7,8 +7,8 @@ use Rattle.std.proofs.lemmas.List.{get_or-replicate}
 use Rattle.std.proofs.lemmas.Nat.Bits.{bit_at-lt, bit_at-zero, bit_at_clear_other, bit_at_clear_same}
 use Rattle.go_board.specs.declared.size.TheConstants.{MAX_POINTS}
 use Rattle.go_chains.specs.declared.cells.TheConstants.{LIBERTIES, WORDS}
-use Rattle.go_chains.specs.Cells.{IsWritten, colour_of, label_of, lib_of, word_of}
-use Rattle.go_chains.specs.inner.Writes.{IsDeprived, IsFilled, IsMarked, IsStoneBeside, MarksEmpty, mark_of}
+use Rattle.go_chains.specs.Cells.{IsWritten, code_at, label_of, lib_of, word_of}
+use Rattle.go_chains.specs.inner.Writes.{IsDeprived, IsFilled, IsMarked, IsStoneBeside, MarksEmpty, mask_bit}
 
 -- a bit that isn't set is 0
 pub unset : (n i : ℕ) → bit_at n i ≢ 1 → bit_at n i ≡ 0
@@ -60,7 +60,7 @@ IsDeprived_none old point of never = record { low = λ k below. refl; kept = λ 
 
 -- taken out of the liberties of the stone on one listed point more
 pub IsDeprived_more : (old mid new : List ℕ) (point : ℕ) (beside : List ℕ) (i : ℕ) → point < MAX_POINTS → slice_index beside i < MAX_POINTS → IsDeprived old mid point (IsStoneBeside old beside i)
-    → IsDeprived mid new point (λ l. (0 < colour_of mid (slice_index beside i)) × (label_of mid (slice_index beside i) ≡ l)) → IsDeprived old new point (IsStoneBeside old beside (i + 1))
+    → IsDeprived mid new point (λ l. (0 < code_at mid (slice_index beside i)) × (label_of mid (slice_index beside i) ≡ l)) → IsDeprived old new point (IsStoneBeside old beside (i + 1))
 IsDeprived_more old mid new point beside i point_in near_in so_far one = record {
   low = λ k below. one.low k below ∙ so_far.low k below;
   kept = λ l q l_in q_in off. one.kept l q l_in q_in off ∙ so_far.kept l q l_in q_in off;
@@ -73,10 +73,10 @@ IsDeprived_more old mid new point beside i point_in near_in so_far one = record 
         let below : j < i + 1 = of.1 in
         let e : j ≡ i = omega arith in
         let x = slice_index beside i in
-        let same : colour_of mid x ≡ colour_of old x = so_far.low x (omega arith) in
+        let same : code_at mid x ≡ code_at old x = so_far.low x (omega arith) in
         let label_same : label_of mid x ≡ label_of old x = so_far.low (MAX_POINTS + x) (omega arith) in
-        let some : 0 < colour_of old x = (let P : ℕ → Type 0 = λ k. 0 < colour_of old (slice_index beside k) in subst P e of.2) in
-        one.lost l l_in ((let h : 0 < colour_of mid x = omega arith in h), label_same ∙ ap (λ k. label_of old (slice_index beside k)) (sym e) ∙ of.3)
+        let some : 0 < code_at old x = (let P : ℕ → Type 0 = λ k. 0 < code_at old (slice_index beside k) in subst P e of.2) in
+        one.lost l l_in ((let h : 0 < code_at mid x = omega arith in h), label_same ∙ ap (λ k. label_of old (slice_index beside k)) (sym e) ∙ of.3)
   ];
   less = λ l q l_in q_in is. so_far.less l q l_in q_in (one.less l q l_in q_in is);
 }
@@ -98,7 +98,7 @@ IsFilled_more old mid new label words i value i_in so_far w value_is = record {
 pub MarksEmpty_none : (cells beside : List ℕ) → MarksEmpty cells (replicate WORDS 0) beside 0
 MarksEmpty_none cells beside = record {
   are = λ i below. absurd (omega arith);
-  only = λ q q_in one. absurd (let z : mark_of (replicate WORDS 0) q ≡ 0 = ap (λ x. bit_at x (q % 64)) (get_or-replicate WORDS (q / 64) 0 0 (omega arith)) ∙ bit_at-zero (q % 64) in omega arith);
+  only = λ q q_in one. absurd (let z : mask_bit (replicate WORDS 0) q ≡ 0 = ap (λ x. bit_at x (q % 64)) (get_or-replicate WORDS (q / 64) 0 0 (omega arith)) ∙ bit_at-zero (q % 64) in omega arith);
 }
 
 -- one listed point more is marked, if it is empty
@@ -106,10 +106,10 @@ pub MarksEmpty_more : (cells old new beside : List ℕ) (i : ℕ) → ((j : ℕ)
 MarksEmpty_more cells old new beside i inside so_far m = record {
   are = λ j below none. elim (cases_lt j i) [
     | inl before ↦ m.kept (slice_index beside j) (inside j (omega arith)) (so_far.are j before none)
-    | inr last ↦ let e : j ≡ i = omega arith in ap (λ k. mark_of new (slice_index beside k)) e ∙ m.given (ap (λ k. colour_of cells (slice_index beside k)) (sym e) ∙ none)
+    | inr last ↦ let e : j ≡ i = omega arith in ap (λ k. mask_bit new (slice_index beside k)) e ∙ m.given (ap (λ k. code_at cells (slice_index beside k)) (sym e) ∙ none)
   ];
   only = λ q q_in one. elim (m.was q q_in one) [
     | inl before ↦ let o = so_far.only q q_in before in ((o.0.0, (let h : o.0.0 < i = o.0.1 in omega arith), o.0.2), o.1)
-    | inr here ↦ ((i, omega arith, sym here.0), ap (colour_of cells) here.0 ∙ here.1)
+    | inr here ↦ ((i, omega arith, sym here.0), ap (code_at cells) here.0 ∙ here.1)
   ];
 }

@@ -9,7 +9,7 @@ use Rattle.go_chains.specs.declared.cells.TheConstants.{LABELS, LINKS, SIZES, LI
 use Rattle.go_chains.specs.Rings.{steps}
 use Rattle.go_chains.specs.inner.Tables.{IsStone, IsTidy}
 use Rattle.go_chains.specs.inner.Steps.{IsJoin}
-use Rattle.go_chains.specs.Cells.{IsWritten, colour_of, label_of, lib_of, next_of, size_of, tables_of, word_of}
+use Rattle.go_chains.specs.Cells.{IsWritten, code_at, label_of, lib_of, next_of, size_of, tables_of, word_of}
 use Rattle.go_chains.specs.inner.Writes.{IsMerged, IsRelabelled}
 
 -- the bit of either of two words
@@ -26,7 +26,7 @@ second_bit a b i one = bit_at_or a b i ∙ (let x : bit_at a i < 2 = bit_at-lt a
 
 module _ (n : ℕ) (adj : ℕ → ℕ → Type 0) (small : n ≤ MAX_POINTS) (c0 c1 c2 c3 c4 c5 : List ℕ) (first second keep gone kept stones first_next second_next : ℕ)
     (tidy : IsTidy n adj (tables_of c0)) (first_in : IsStone n (tables_of c0) first) (second_in : IsStone n (tables_of c0) second)
-    (same : colour_of c0 first ≡ colour_of c0 second) (apart : label_of c0 first ≢ label_of c0 second)
+    (same : code_at c0 first ≡ code_at c0 second) (apart : label_of c0 first ≢ label_of c0 second)
     (keep_is : keep ≡ label_of c0 first) (gone_is : gone ≡ label_of c0 second) (kept_is : kept ≡ size_of c0 keep) (stones_is : stones ≡ size_of c0 gone)
     (relabelled : IsRelabelled (next_of c0) c0 c1 second stones keep)
     (first_next_is : first_next ≡ next_of c1 first) (second_next_is : second_next ≡ next_of c1 second)

@@ -7,12 +7,12 @@ use Rattle.std.proofs.lemmas.Bool.{cases_eq}
 use Rattle.std.proofs.lemmas.List.{get_or-set_same, get_or-set_other}
 use Rattle.std.proofs.lemmas.Nat.Bits.{bit_at_set_same, bit_at_set_other}
 use Rattle.go_board.specs.declared.size.TheConstants.{MAX_POINTS}
-use Rattle.go_chains.specs.Cells.{colour_of}
-use Rattle.go_chains.specs.inner.Writes.{IsMarked, mark_of}
+use Rattle.go_chains.specs.Cells.{code_at}
+use Rattle.go_chains.specs.inner.Writes.{IsMarked, mask_bit}
 
-module _ (cells old new : List ℕ) (near : ℕ) (near_in : near < MAX_POINTS) (long : near / 64 < length old) (empty : colour_of cells near ≡ 0)
+module _ (cells old new : List ℕ) (near : ℕ) (near_in : near < MAX_POINTS) (long : near / 64 < length old) (empty : code_at cells near ≡ 0)
     (set_is : new ≡ slice_set old (near / 64) (bit_or (slice_index old (near / 64)) (1 * 2 ^ (near % 64) % 2 ^ 64))) where
-  other : (q : ℕ) → q ≢ near → mark_of new q ≡ mark_of old q
+  other : (q : ℕ) → q ≢ near → mask_bit new q ≡ mask_bit old q
   other q off = elim (cases_eq (q / 64) (near / 64)) [
     | inl same ↦
         let not_bit : q % 64 ≢ near % 64 = λ e. off (omega arith) in
@@ -21,13 +21,13 @@ module _ (cells old new : List ℕ) (near : ℕ) (near_in : near < MAX_POINTS) (
     | inr different ↦ ap (λ l. bit_at (slice_index l (q / 64)) (q % 64)) set_is ∙ ap (λ x. bit_at x (q % 64)) (get_or-set_other old (near / 64) (q / 64) (bit_or (slice_index old (near / 64)) (1 * 2 ^ (near % 64) % 2 ^ 64)) 0 different)
   ]
 
-  here : mark_of new near ≡ 1
+  here : mask_bit new near ≡ 1
   here = ap (λ l. bit_at (slice_index l (near / 64)) (near % 64)) set_is ∙ ap (λ x. bit_at x (near % 64)) (get_or-set_same old (near / 64) (bit_or (slice_index old (near / 64)) (1 * 2 ^ (near % 64) % 2 ^ 64)) 0 long)
       ∙ bit_at_set_same w64 (slice_index old (near / 64)) (near % 64) (omega arith)
 
   pub IsMarked-set : IsMarked cells old new near
   IsMarked-set = record {
-    kept = λ q q_in one. elim (cases_eq q near) [ inl at ↦ ap (mark_of new) at ∙ here | inr off ↦ other q off ∙ one ];
+    kept = λ q q_in one. elim (cases_eq q near) [ inl at ↦ ap (mask_bit new) at ∙ here | inr off ↦ other q off ∙ one ];
     given = λ _. here;
     was = λ q q_in one. elim (cases_eq q near) [ inl at ↦ inr (at, empty) | inr off ↦ inl (sym (other q off) ∙ one) ];
   }

@@ -8,13 +8,13 @@ use Rattle.go_chains.specs.declared.cells.TheConstants.{LABELS, LINKS, SIZES, LI
 use Rattle.go_chains.specs.inner.Beside.{AreBeside}
 use Rattle.go_chains.specs.inner.Tables.{IsStone, IsTidy}
 use Rattle.go_chains.specs.inner.Steps.{IsOccupied}
-use Rattle.go_chains.specs.Cells.{IsWritten, colour_of, label_of, lib_of, tables_of, word_of}
-use Rattle.go_chains.specs.inner.Writes.{IsDeprived, IsFilled, IsStoneBeside, MarksEmpty, mark_of}
+use Rattle.go_chains.specs.Cells.{IsWritten, code_at, label_of, lib_of, tables_of, word_of}
+use Rattle.go_chains.specs.inner.Writes.{IsDeprived, IsFilled, IsStoneBeside, MarksEmpty, mask_bit}
 use Rattle.go_chains.proofs.writes.Depriving.{unset}
 use Rattle.go_chains.proofs.writes.Neighbours.{flip}
 
 module _ (n : ℕ) (small : n * n ≤ MAX_POINTS) (c0 c1 c2 c3 c4 c5 c6 words beside : List ℕ) (p colour : ℕ)
-    (tidy : IsTidy (n * n) (IsAdjacent n) (tables_of c0)) (p_in : p < n * n) (empty : colour_of c0 p ≡ 0) (some : 0 < colour) (near : AreBeside n p beside)
+    (tidy : IsTidy (n * n) (IsAdjacent n) (tables_of c0)) (p_in : p < n * n) (empty : code_at c0 p ≡ 0) (some : 0 < colour) (near : AreBeside n p beside)
     (marks : MarksEmpty c0 words beside (length beside)) (deprived : IsDeprived c0 c1 p (IsStoneBeside c0 beside (length beside)))
     (coloured : IsWritten c1 c2 p colour) (labelled : IsWritten c2 c3 (LABELS + p) p) (linked : IsWritten c3 c4 (LINKS + p) p) (sized : IsWritten c4 c5 (SIZES + p) 1)
     (count : ℕ) (all : n * n ≤ 64 * count) (filled : IsFilled c5 c6 p words count) where
@@ -24,8 +24,8 @@ module _ (n : ℕ) (small : n * n ≤ MAX_POINTS) (c0 c1 c2 c3 c4 c5 c6 words be
   -- the label of a stone is a stone, so no empty point
   label_apart : (s : ℕ) → IsStone (n * n) (tables_of c0) s → label_of c0 s ≢ p
   label_apart s stone e =
-      let z : colour_of c0 s ≡ 0 = sym (tidy.head_colour s stone) ∙ ap (colour_of c0) e ∙ empty in
-      let h : 0 < colour_of c0 s = stone.1 in omega arith
+      let z : code_at c0 s ≡ 0 = sym (tidy.head_colour s stone) ∙ ap (code_at c0) e ∙ empty in
+      let h : 0 < code_at c0 s = stone.1 in omega arith
 
   word_kept : (l w : ℕ) → l < n * n → l ≢ p → w < WORDS → word_of c6 l w ≡ word_of c1 l w
   word_kept l w l_in off w_in =
@@ -38,7 +38,7 @@ module _ (n : ℕ) (small : n * n ≤ MAX_POINTS) (c0 c1 c2 c3 c4 c5 c6 words be
   lib_kept : (s q : ℕ) → IsStone (n * n) (tables_of c0) s → q < n * n → lib_of c6 (label_of c0 s) q ≡ lib_of c1 (label_of c0 s) q
   lib_kept s q stone q_in = ap (λ x. bit_at x (q % 64)) (word_kept (label_of c0 s) (q / 64) (tidy.head_in s stone) (label_apart s stone) (omega arith))
 
-  own_mark : (q : ℕ) → q < n * n → lib_of c6 p q ≡ mark_of words q
+  own_mark : (q : ℕ) → q < n * n → lib_of c6 p q ≡ mask_bit words q
   own_mark q q_in = ap (λ x. bit_at x (q % 64)) (filled.words_are (q / 64) (omega arith) (omega arith))
 
   lost : (s : ℕ) → IsStone (n * n) (tables_of c0) s → lib_of c1 (label_of c0 s) p ≡ 0
@@ -49,11 +49,11 @@ module _ (n : ℕ) (small : n * n ≤ MAX_POINTS) (c0 c1 c2 c3 c4 c5 c6 words be
         | inl one ↦
             let touch = (tidy.lib_is s p stone p_in one).1 in
             let at = near.all touch.0 (flip n touch.0 p touch.3) in
-            let stone_there : 0 < colour_of c0 touch.0 = touch.1.1 in
+            let stone_there : 0 < code_at c0 touch.0 = touch.1.1 in
             deprived.lost l (omega arith) (
               at.0,
               at.1,
-              (let P : ℕ → Type 0 = λ x. 0 < colour_of c0 x in subst P (sym at.2) stone_there),
+              (let P : ℕ → Type 0 = λ x. 0 < code_at c0 x in subst P (sym at.2) stone_there),
               ap (label_of c0) at.2 ∙ touch.2,
             )
         | inr not ↦ unset (word_of c1 l (p / 64)) (p % 64) (λ is. not (deprived.less l p (omega arith) (omega arith) is))
@@ -81,5 +81,5 @@ module _ (n : ℕ) (small : n * n ≤ MAX_POINTS) (c0 c1 c2 c3 c4 c5 c6 words be
         (o.1, (let A : ℕ → Type 0 = IsAdjacent n p in subst A o.0.2 (near.are o.0.0 o.0.1)));
     has_lib = λ q q_in none beside_p.
         let at = near.all q beside_p in
-        own_mark q q_in ∙ ap (mark_of words) (sym at.2) ∙ marks.are at.0 at.1 (ap (colour_of c0) at.2 ∙ none);
+        own_mark q q_in ∙ ap (mask_bit words) (sym at.2) ∙ marks.are at.0 at.1 (ap (code_at c0) at.2 ∙ none);
   }

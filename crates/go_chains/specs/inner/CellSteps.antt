@@ -2,9 +2,9 @@
 use Rattle.std.specs.Prelude.{ℕ, List, ◌≡◌, ◌≢◌, ◌<◌, ◌*◌, ◌⊎◌, length}
 use Rattle.go_board.specs.Paths.{IsAdjacent}
 use Rattle.go_board.specs.declared.size.TheConstants.{MAX_POINTS}
-use Rattle.go_chains.specs.Cells.{CellsValue, colour_of, label_of, next_of, tables_of, words_for}
+use Rattle.go_chains.specs.Cells.{CellsValue, code_at, label_of, next_of, tables_of, words_for}
 use Rattle.go_chains.specs.inner.Steps.{CountsTaken, IsCapturing, IsConnected, IsConnectedTo, IsJoin, IsOccupied, IsRemoved}
-use Rattle.go_chains.specs.inner.Tables.{IsDead, IsStone, IsTidy, IsWhole, Tables}
+use Rattle.go_chains.specs.inner.Tables.{IsDead, IsStone, IsTidy, AreChainsWhole, Tables}
 use Rattle.go_chains.specs.inner.Writes.{IsDeprived, IsFilled, IsGiven, IsGivenBeside, IsMerged, IsRelabelled, IsStoneBeside}
 
 -- the cells hold together
@@ -13,7 +13,7 @@ AreTidy n cells = IsTidy (n * n) (IsAdjacent n) (tables_of cells.numbers)
 
 -- neighbours of one colour are of one chain
 abbrev pub AreWhole : ℕ → CellsValue → Type 0
-AreWhole n cells = IsWhole (n * n) (IsAdjacent n) (tables_of cells.numbers)
+AreWhole n cells = AreChainsWhole (n * n) (IsAdjacent n) (tables_of cells.numbers)
 
 -- a stone stands at p
 abbrev pub HasStone : ℕ → CellsValue → ℕ → Type 0
@@ -21,7 +21,7 @@ HasStone n cells p = IsStone (n * n) (tables_of cells.numbers) p
 
 -- each stone has one of two colours
 abbrev pub HasTwoColours : ℕ → CellsValue → ℕ → ℕ → Type 0
-HasTwoColours n cells own other = (s : ℕ) → HasStone n cells s → (colour_of cells.numbers s ≡ own) ⊎ (colour_of cells.numbers s ≡ other)
+HasTwoColours n cells own other = (s : ℕ) → HasStone n cells s → (code_at cells.numbers s ≡ own) ⊎ (code_at cells.numbers s ≡ other)
 
 -- two numbers of colours, of which each stone has one
 pub record AreColours (n : ℕ) (cells : CellsValue) (own other : ℕ) : Type 0 where
@@ -32,11 +32,11 @@ pub record AreColours (n : ℕ) (cells : CellsValue) (own other : ℕ) : Type 0 
 
 -- where p has this colour its label names a point
 abbrev pub FitsWith : CellsValue → ℕ → ℕ → Type 0
-FitsWith cells colour p = colour_of cells.numbers p ≡ colour → label_of cells.numbers p < MAX_POINTS
+FitsWith cells colour p = code_at cells.numbers p ≡ colour → label_of cells.numbers p < MAX_POINTS
 
 -- where p has a stone its label names a point
 abbrev pub Fits : CellsValue → ℕ → Type 0
-Fits cells p = 0 < colour_of cells.numbers p → label_of cells.numbers p < MAX_POINTS
+Fits cells p = 0 < code_at cells.numbers p → label_of cells.numbers p < MAX_POINTS
 
 -- p gets a stone of a colour, which is a chain of its own
 abbrev pub Occupies : ℕ → CellsValue → CellsValue → ℕ → ℕ → Type 0
@@ -69,7 +69,7 @@ CapturesMore n old new own = (t : Tables) → IsTidy (n * n) (IsAdjacent n) t
 
 -- p is empty now, if it had a stone of a colour in a chain with no liberty
 abbrev pub TakesDead : ℕ → CellsValue → CellsValue → ℕ → ℕ → Type 0
-TakesDead n old new own p = colour_of old.numbers p ≡ own → IsDead (n * n) (tables_of old.numbers) (label_of old.numbers p) → colour_of new.numbers p ≡ 0
+TakesDead n old new own p = code_at old.numbers p ≡ own → IsDead (n * n) (tables_of old.numbers) (label_of old.numbers p) → code_at new.numbers p ≡ 0
 
 -- so many stones of a colour are taken off
 abbrev pub TakesStones : ℕ → CellsValue → CellsValue → ℕ → ℕ → Type 0
@@ -89,7 +89,7 @@ Fills n old new label words = IsFilled old.numbers new.numbers label words (word
 
 -- a point is no liberty any more of the stone at another, if one is there
 abbrev pub DeprivesAt : CellsValue → CellsValue → ℕ → ℕ → Type 0
-DeprivesAt old new point near = IsDeprived old.numbers new.numbers point (λ l. (0 < colour_of old.numbers near) × (label_of old.numbers near ≡ l))
+DeprivesAt old new point near = IsDeprived old.numbers new.numbers point (λ l. (0 < code_at old.numbers near) × (label_of old.numbers near ≡ l))
 
 -- a point is no liberty any more of the stones at the listed ones
 abbrev pub DeprivesAll : CellsValue → CellsValue → ℕ → List ℕ → Type 0
@@ -97,7 +97,7 @@ DeprivesAll old new point beside = IsDeprived old.numbers new.numbers point (IsS
 
 -- a point is a liberty too of the stone at another, if one of this colour is there
 abbrev pub GivesAt : CellsValue → CellsValue → ℕ → ℕ → ℕ → Type 0
-GivesAt old new point near colour = IsGiven old.numbers new.numbers point (λ l. (colour_of old.numbers near ≡ colour) × (label_of old.numbers near ≡ l))
+GivesAt old new point near colour = IsGiven old.numbers new.numbers point (λ l. (code_at old.numbers near ≡ colour) × (label_of old.numbers near ≡ l))
 
 -- a point is a liberty too of the stones of this colour at the listed ones
 abbrev pub GivesAll : CellsValue → CellsValue → ℕ → List ℕ → ℕ → Type 0

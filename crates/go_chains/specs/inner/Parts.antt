@@ -4,10 +4,11 @@ use Rattle.std.specs.List.{range_with_len}
 use Rattle.go_board.specs.declared.colour.Colour.{Colour}
 use Rattle.go_board.specs.declared.point.Point.{Point}
 use Rattle.go_board.specs.Points.{point_at}
+use Rattle.go_board.specs.Packs.{colour_coded}
 use Rattle.go_chains.specs.declared.chain_points.Part.{Part}
 use Rattle.go_chains.specs.declared.chain_points.Part.TheVariants.{Stones, Liberties}
-use Rattle.go_chains.specs.Cells.{colour_of, label_of, lib_of}
-use Rattle.go_chains.specs.Sound.{BoardValue, value_of}
+use Rattle.go_chains.specs.Cells.{code_at, label_of, lib_of}
+use Rattle.go_chains.specs.Sound.{BoardValue}
 
 -- a point of this colour and label is a stone with label l
 abbrev pub is_labelled : Option Colour → ℕ → ℕ → Bool
@@ -16,7 +17,7 @@ is_labelled (Some c) label l = nat_eq l label
 
 -- q holds a stone with label l
 abbrev pub has_label : List ℕ → ℕ → ℕ → Bool
-has_label cells l q = is_labelled (value_of (colour_of cells q)) (label_of cells q) l
+has_label cells l q = is_labelled (colour_coded (code_at cells q)) (label_of cells q) l
 
 -- q is in this part of the chain with label l
 abbrev pub is_in_part : List ℕ → Part → ℕ → ℕ → Bool

@@ -1,6 +1,6 @@
 -- What the steps of a play do to the tables.
 use Rattle.std.specs.Prelude.{ℕ, List, ◌≡◌, ◌≢◌, ◌≤◌, ◌<◌, ◌+◌, ◌⊎◌, ◌↔◌, AllPairs, Contains, length, slice_index}
-use Rattle.go_chains.specs.inner.Tables.{Tables, IsStone, Touches, IsTidy, IsWhole, IsDead, ReachesEmpty}
+use Rattle.go_chains.specs.inner.Tables.{Tables, IsStone, Touches, IsTidy, AreChainsWhole, IsDead, ReachesEmpty}
 
 -- the chain of b becomes part of the chain of a, which keeps its label
 pub record IsJoin (n : ℕ) (t t' : Tables) (a b : ℕ) : Type 0 where
@@ -61,7 +61,7 @@ pub record IsCleared (n : ℕ) (adj : ℕ → ℕ → Type 0) (f g : ℕ → ℕ
 -- some chains of colour o that had no liberty are taken off, and all else stands
 pub record IsCapturing (n : ℕ) (adj : ℕ → ℕ → Type 0) (t t' : Tables) (o : ℕ) : Type 0 where
   pub tidy : IsTidy n adj t'
-  pub whole : IsWhole n adj t'
+  pub whole : AreChainsWhole n adj t'
   pub labels : (x : ℕ) → x < n → t'.label x ≡ t.label x
   pub colours : (x : ℕ) → x < n → (t'.colour x ≡ t.colour x) ⊎ ((t'.colour x ≡ 0) × (t.colour x ≡ o) × IsDead n t (t.label x))
   pub together : (x y : ℕ) → IsStone n t x → IsStone n t y → t.label x ≡ t.label y → t'.colour x ≡ 0 → t'.colour y ≡ 0

@@ -1,6 +1,6 @@
 -- What the cells of a board say, and when that holds together.
 use Rattle.std.specs.Prelude.{ℕ, List, [], ◌∷◌, ◌≡◌, ◌≢◌, ◌<◌}
-use Rattle.go_chains.specs.Rings.{IsRing, IsOn}
+use Rattle.go_chains.specs.Rings.{IsRing, IsOnRing}
 
 -- what the cells of a board say: a colour is 0 for an empty point, and a liberty is 1
 pub record Tables : Type 0 where
@@ -33,15 +33,15 @@ pub record IsTidy (n : ℕ) (adj : ℕ → ℕ → Type 0) (t : Tables) : Type 0
   pub head_colour : (p : ℕ) → IsStone n t p → t.colour (t.label p) ≡ t.colour p
   pub head_label : (p : ℕ) → IsStone n t p → t.label (t.label p) ≡ t.label p
   pub ring : (p : ℕ) → IsStone n t p → IsRing t.next (t.size (t.label p)) p
-  pub on_ring : (p q : ℕ) → IsStone n t p → IsOn t.next (t.size (t.label p)) p q → IsStone n t q × (t.label q ≡ t.label p)
-  pub ring_has : (p q : ℕ) → IsStone n t p → IsStone n t q → t.label q ≡ t.label p → IsOn t.next (t.size (t.label p)) p q
+  pub on_ring : (p q : ℕ) → IsStone n t p → IsOnRing t.next (t.size (t.label p)) p q → IsStone n t q × (t.label q ≡ t.label p)
+  pub ring_has : (p q : ℕ) → IsStone n t p → IsStone n t q → t.label q ≡ t.label p → IsOnRing t.next (t.size (t.label p)) p q
   pub lib_is : (p q : ℕ) → IsStone n t p → q < n → t.lib (t.label p) q ≡ 1 → (t.colour q ≡ 0) × Touches n adj t (t.label p) q
   pub has_lib : (p q : ℕ) → IsStone n t p → q < n → t.colour q ≡ 0 → Touches n adj t (t.label p) q → t.lib (t.label p) q ≡ 1
   pub joined : (p q : ℕ) → IsStone n t p → IsStone n t q → t.label p ≡ t.label q → IsJoined adj t.colour p q
 
 -- neighbours of one colour are of one chain
-abbrev pub IsWhole : ℕ → (ℕ → ℕ → Type 0) → Tables → Type 0
-IsWhole n adj t = (p q : ℕ) → IsStone n t p → IsStone n t q → adj p q → t.colour p ≡ t.colour q → t.label p ≡ t.label q
+abbrev pub AreChainsWhole : ℕ → (ℕ → ℕ → Type 0) → Tables → Type 0
+AreChainsWhole n adj t = (p q : ℕ) → IsStone n t p → IsStone n t q → adj p q → t.colour p ≡ t.colour q → t.label p ≡ t.label q
 
 -- a path over points of p's colour leads to a point beside an empty one
 abbrev pub ReachesEmpty : ℕ → (ℕ → ℕ → Type 0) → (ℕ → ℕ) → ℕ → Type 0

@@ -6,7 +6,7 @@ use Rattle.go_board.specs.Paths.{IsAdjacent}
 use Rattle.go_board.specs.declared.size.TheConstants.{MAX_POINTS}
 use Rattle.go_chains.specs.declared.cells.TheConstants.{LABELS, LINKS, LIBERTIES, WORDS}
 use Rattle.go_chains.specs.Rings.{steps}
-use Rattle.go_chains.specs.Cells.{colour_of, label_of, word_of, lib_of}
+use Rattle.go_chains.specs.Cells.{code_at, label_of, word_of, lib_of}
 
 -- the first `count` points along `next` from a point have the new label, and nothing else is written
 pub record IsRelabelled (next : ℕ → ℕ) (old new : List ℕ) (from count to : ℕ) : Type 0 where
@@ -32,27 +32,27 @@ pub record IsGiven (old new : List ℕ) (point : ℕ) (to : ℕ → Type 0) : Ty
 -- one of the first so many listed points has this colour and the label
 abbrev pub IsGivenBeside : List ℕ → List ℕ → ℕ → ℕ → ℕ → Type 0
 IsGivenBeside cells beside colour upto l =
-    (i : ℕ) × (i < upto) × (colour_of cells (slice_index beside i) ≡ colour) × (label_of cells (slice_index beside i) ≡ l)
+    (i : ℕ) × (i < upto) × (code_at cells (slice_index beside i) ≡ colour) × (label_of cells (slice_index beside i) ≡ l)
 
 -- a stone is taken off, and its point is a liberty of the chains of another colour beside it
 pub record IsLifted (lines : ℕ) (old new : List ℕ) (point other : ℕ) : Type 0 where
-  pub at : colour_of new point ≡ 0
+  pub at : code_at new point ≡ 0
   pub low : (k : ℕ) → k < LIBERTIES → k ≢ point → slice_index new k ≡ slice_index old k
   pub kept : (l q : ℕ) → l < MAX_POINTS → q < MAX_POINTS → lib_of old l q ≡ 1 → lib_of new l q ≡ 1
-  pub given : (s : ℕ) → IsAdjacent lines point s → colour_of old s ≡ other → label_of old s < MAX_POINTS → lib_of new (label_of old s) point ≡ 1
+  pub given : (s : ℕ) → IsAdjacent lines point s → code_at old s ≡ other → label_of old s < MAX_POINTS → lib_of new (label_of old s) point ≡ 1
   pub was : (l q : ℕ) → l < MAX_POINTS → q < MAX_POINTS → lib_of new l q ≡ 1
-      → (lib_of old l q ≡ 1) ⊎ ((q ≡ point) × ((s : ℕ) × IsAdjacent lines point s × (colour_of old s ≡ other) × (label_of old s ≡ l)))
+      → (lib_of old l q ≡ 1) ⊎ ((q ≡ point) × ((s : ℕ) × IsAdjacent lines point s × (code_at old s ≡ other) × (label_of old s ≡ l)))
 
 -- the first `upto` stones along `next` from a stone are taken off
 pub record IsRingLifted (lines : ℕ) (next : ℕ → ℕ) (old new : List ℕ) (stone upto other : ℕ) : Type 0 where
-  pub on : (j : ℕ) → j < upto → colour_of new (steps next j stone) ≡ 0
-  pub off : (p : ℕ) → p < MAX_POINTS → ((j : ℕ) → j < upto → steps next j stone ≢ p) → colour_of new p ≡ colour_of old p
-  pub either : (p : ℕ) → p < MAX_POINTS → (colour_of new p ≡ 0) ⊎ (colour_of new p ≡ colour_of old p)
+  pub on : (j : ℕ) → j < upto → code_at new (steps next j stone) ≡ 0
+  pub off : (p : ℕ) → p < MAX_POINTS → ((j : ℕ) → j < upto → steps next j stone ≢ p) → code_at new p ≡ code_at old p
+  pub either : (p : ℕ) → p < MAX_POINTS → (code_at new p ≡ 0) ⊎ (code_at new p ≡ code_at old p)
   pub above : (k : ℕ) → LABELS ≤ k → k < LIBERTIES → slice_index new k ≡ slice_index old k
   pub kept : (l q : ℕ) → l < MAX_POINTS → q < MAX_POINTS → lib_of old l q ≡ 1 → lib_of new l q ≡ 1
-  pub given : (j s : ℕ) → j < upto → IsAdjacent lines (steps next j stone) s → colour_of old s ≡ other → label_of old s < MAX_POINTS → lib_of new (label_of old s) (steps next j stone) ≡ 1
+  pub given : (j s : ℕ) → j < upto → IsAdjacent lines (steps next j stone) s → code_at old s ≡ other → label_of old s < MAX_POINTS → lib_of new (label_of old s) (steps next j stone) ≡ 1
   pub was : (l q : ℕ) → l < MAX_POINTS → q < MAX_POINTS → lib_of new l q ≡ 1
-      → (lib_of old l q ≡ 1) ⊎ (((j : ℕ) × (j < upto) × (steps next j stone ≡ q)) × ((s : ℕ) × IsAdjacent lines q s × (colour_of old s ≡ other) × (label_of old s ≡ l)))
+      → (lib_of old l q ≡ 1) ⊎ (((j : ℕ) × (j < upto) × (steps next j stone ≡ q)) × ((s : ℕ) × IsAdjacent lines q s × (code_at old s ≡ other) × (label_of old s ≡ l)))
 
 -- one point is no liberty of these labels any more, and nothing else is written
 pub record IsDeprived (old new : List ℕ) (point : ℕ) (of : ℕ → Type 0) : Type 0 where
@@ -70,19 +70,19 @@ pub record IsFilled (old new : List ℕ) (label : ℕ) (words : List ℕ) (upto 
 -- one of the first so many listed points has a stone of the label
 abbrev pub IsStoneBeside : List ℕ → List ℕ → ℕ → ℕ → Type 0
 IsStoneBeside cells beside upto l =
-    (i : ℕ) × (i < upto) × (0 < colour_of cells (slice_index beside i)) × (label_of cells (slice_index beside i) ≡ l)
+    (i : ℕ) × (i < upto) × (0 < code_at cells (slice_index beside i)) × (label_of cells (slice_index beside i) ≡ l)
 
 -- the bit of a point in words of liberties
-abbrev pub mark_of : List ℕ → ℕ → ℕ
-mark_of words q = bit_at (slice_index words (q / 64)) (q % 64)
+abbrev pub mask_bit : List ℕ → ℕ → ℕ
+mask_bit words q = bit_at (slice_index words (q / 64)) (q % 64)
 
 -- one point is marked too, where it is empty
 pub record IsMarked (cells old new : List ℕ) (near : ℕ) : Type 0 where
-  pub kept : (q : ℕ) → q < MAX_POINTS → mark_of old q ≡ 1 → mark_of new q ≡ 1
-  pub given : colour_of cells near ≡ 0 → mark_of new near ≡ 1
-  pub was : (q : ℕ) → q < MAX_POINTS → mark_of new q ≡ 1 → (mark_of old q ≡ 1) ⊎ ((q ≡ near) × (colour_of cells near ≡ 0))
+  pub kept : (q : ℕ) → q < MAX_POINTS → mask_bit old q ≡ 1 → mask_bit new q ≡ 1
+  pub given : code_at cells near ≡ 0 → mask_bit new near ≡ 1
+  pub was : (q : ℕ) → q < MAX_POINTS → mask_bit new q ≡ 1 → (mask_bit old q ≡ 1) ⊎ ((q ≡ near) × (code_at cells near ≡ 0))
 
 -- the marked points are exactly the empty ones among the first so many listed
 pub record MarksEmpty (cells words beside : List ℕ) (upto : ℕ) : Type 0 where
-  pub are : (i : ℕ) → i < upto → colour_of cells (slice_index beside i) ≡ 0 → mark_of words (slice_index beside i) ≡ 1
-  pub only : (q : ℕ) → q < MAX_POINTS → mark_of words q ≡ 1 → ((i : ℕ) × (i < upto) × (slice_index beside i ≡ q)) × (colour_of cells q ≡ 0)
+  pub are : (i : ℕ) → i < upto → code_at cells (slice_index beside i) ≡ 0 → mask_bit words (slice_index beside i) ≡ 1
+  pub only : (q : ℕ) → q < MAX_POINTS → mask_bit words q ≡ 1 → ((i : ℕ) × (i < upto) × (slice_index beside i ≡ q)) × (code_at cells q ≡ 0)

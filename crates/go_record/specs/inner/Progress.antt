@@ -12,7 +12,7 @@ use Rattle.go_record.specs.declared.error.RecordError.TheVariants.{Memory}
 use Rattle.go_record.specs.declared.state.Left.{Left}
 use Rattle.go_record.specs.declared.state.Left.TheVariants.{All, Moves, Nothing}
 use Rattle.go_record.specs.declared.state.Walk.{Walk}
-use Rattle.go_record.specs.Games.{is_go, komi_in, lines_in, root_value}
+use Rattle.go_record.specs.Games.{is_go_value, komi_in, lines_in, value_at_root}
 use Rattle.go_record.specs.MainLine.{Event, before_move}
 use Rattle.go_record.specs.Walks.{Outcome, Plays, SetsUp}
 
@@ -38,33 +38,33 @@ abbrev pub GoesFrom : Walk → Option GameValue → List Event → Outcome → T
 GoesFrom w game events outcome = From w.grid.lines w.komi w.grid.colours w.turn game events outcome
 
 -- a walk, and the game that its moves are played on
-abbrev pub Place : Type 0
-Place = Walk × GameValue
+abbrev pub WalkedGame : Type 0
+WalkedGame = Walk × GameValue
 
 -- the game, once a move was met
-abbrev pub playing : Place → Option GameValue
+abbrev pub playing : WalkedGame → Option GameValue
 playing at = if at.0.is_playing then Some at.1 else None
 
 -- from here on these events come to the outcome
-abbrev pub Goes : Place → List Event → Outcome → Type 0
+abbrev pub Goes : WalkedGame → List Event → Outcome → Type 0
 Goes at events outcome = GoesFrom at.0 (playing at) (seen at.0.left events) outcome
 
 -- Between the two the walk passed these events.
-pub record Passes (old : Place) (events : List Event) (new : Place) : Type 0 where
+pub record Passes (old : WalkedGame) (events : List Event) (new : WalkedGame) : Type 0 where
   pub passed : (later : List Event) (outcome : Outcome) → Goes new later outcome → Goes old (events ++ later) outcome
 
 -- Among these events the walk ends with this refusal. Memory may run out anywhere.
-pub record Stops (old : Place) (events : List Event) (error : RecordError) : Type 0 where
+pub record Stops (old : WalkedGame) (events : List Event) (error : RecordError) : Type 0 where
   pub stopped : error ≢ Memory → (later : List Event) → Goes old (events ++ later) (Err error)
 
-abbrev pub Walked : {T : Type 0} → Result T RecordError → Place → List Event → Place → Type 0
+abbrev pub Walked : {T : Type 0} → Result T RecordError → WalkedGame → List Event → WalkedGame → Type 0
 Walked result old events new = MatchResult result (λ _. Passes old events new) (Stops old events)
 
 -- a record is of a game of Go on so many lines with this komi
 pub record Says (c : Trees) (n : ℕ) (komi : ℤ) : Type 0 where
-  pub go : is_go (root_value (codes "GM") c) ≡ true
-  pub size : lines_in (root_value (codes "SZ") c) ≡ Some n
-  pub komi_said : komi_in (root_value (codes "KM") c) ≡ Some komi
+  pub go : is_go_value (value_at_root (codes "GM") c) ≡ true
+  pub size : lines_in (value_at_root (codes "SZ") c) ≡ Some n
+  pub komi_said : komi_in (value_at_root (codes "KM") c) ≡ Some komi
 
 -- what a walk looks at that ends before the move of a number
 abbrev pub left_by : Option ℕ → Left

@@ -11,16 +11,16 @@ use Rattle.go_game.specs.Standings.{Standing}
 use Rattle.go_record.specs.Records.{colour_letter, point_value, points_coloured, vertex_value}
 
 -- size and komi
-abbrev pub setting_text : Standing → List ℕ
-setting_text s = codes "(;GM[1]FF[4]SZ[" ++ (decimal s.lines ++ (codes "]KM[" ++ hundredths_word s.komi))
+abbrev pub opening_text : Standing → List ℕ
+opening_text s = codes "(;GM[1]FF[4]SZ[" ++ (decimal s.lines ++ (codes "]KM[" ++ hundredths_word s.komi))
 
 -- the colour to move first
-abbrev pub turn_text : Standing → List ℕ
-turn_text s = codes "]PL[" ++ (colour_letter s.first ++ codes "]")
+abbrev pub first_turn_text : Standing → List ℕ
+first_turn_text s = codes "]PL[" ++ (colour_letter s.first ++ codes "]")
 
 -- a point between brackets
-abbrev pub stone_text : ℕ → ℕ → List ℕ
-stone_text n k = 91 ∷ (point_value n (point_at n k) ++ codes "]")
+abbrev pub point_text : ℕ → ℕ → List ℕ
+point_text n k = 91 ∷ (point_value n (point_at n k) ++ codes "]")
 
 -- the points of a colour among the first ones of the board
 abbrev pub coloured_within : Colouring → Colour → ℕ → List ℕ
@@ -29,7 +29,7 @@ coloured_within g c count = filter (λ k. has_colour g k (Some c)) (range_with_l
 -- stones behind the name of their property, which isn't there where there is none
 abbrev pub named_stones : List ℕ → ℕ → List ℕ → List ℕ
 named_stones name n [] = []
-named_stones name n (k ∷ ks) = name ++ flat_map (stone_text n) (k ∷ ks)
+named_stones name n (k ∷ ks) = name ++ flat_map (point_text n) (k ∷ ks)
 
 abbrev pub stones_text : Standing → List ℕ → Colour → List ℕ
 stones_text s name c = named_stones name s.lines (points_coloured s.lines s.start c)

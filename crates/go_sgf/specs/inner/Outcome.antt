@@ -1,17 +1,17 @@
 -- What comes of reading a tree: what is left after it, or its first fault. It serves the contracts of private functions alone.
 use Rattle.std.specs.Prelude.{◌≡◌, ℕ, suc, ◌-◌, ◌≤◌, ◌==◌, if◌then◌else◌, List, [], ◌∷◌, length, Option, Some, None, Result, Ok, Err}
-use Rattle.go_sgf.specs.Spelling.{after_space}
-use Rattle.go_sgf.specs.Stands.{State, Place, step, closed}
+use Rattle.go_sgf.specs.Spelling.{without_space}
+use Rattle.go_sgf.specs.Stands.{State, StateAt, step, closed}
 use Rattle.go_sgf.specs.declared.error.SgfError.{SgfError}
 use Rattle.go_sgf.specs.declared.error.SgfError.TheVariants as error
 use Rattle.go_sgf.specs.declared.fault.Fault.{Fault}
 use Rattle.go_sgf.specs.declared.fault.Fault.TheVariants.{Memory, End, Unexpected, TooDeep}
 
 -- what comes of a step: what is left where the tree is whole, a fault, or what goes on
-abbrev pub outcome_on : ℕ → Option Place → ℕ → List ℕ → (Place → Result (List ℕ) Fault) → Result (List ℕ) Fault
+abbrev pub outcome_on : ℕ → Option StateAt → ℕ → List ℕ → (StateAt → Result (List ℕ) Fault) → Result (List ℕ) Fault
 outcome_on limit None left cs later = Err (Unexpected left)
 outcome_on limit (Some p) left cs later =
-    if p.1 == suc limit then Err (TooDeep left) else (if p.1 == 0 then Ok (after_space cs) else later p)
+    if p.1 == suc limit then Err (TooDeep left) else (if p.1 == 0 then Ok (without_space cs) else later p)
 
 -- From a state on: what is left after the whole tree and white space, or the first fault, by how many bytes are left there.
 unfoldable pub outcome : ℕ → State → ℕ → List ℕ → Result (List ℕ) Fault
@@ -47,8 +47,8 @@ left_of (Unexpected n) = n
 left_of (TooDeep n) = n
 
 -- the answer for a fault in a source of this length
-abbrev pub place_of : ℕ → Fault → SgfError
-place_of len Memory = error.Memory
-place_of len End = error.EndInside len
-place_of len (Unexpected left) = error.Unexpected (len - left)
-place_of len (TooDeep left) = error.TooDeep (len - left)
+abbrev pub error_at : ℕ → Fault → SgfError
+error_at len Memory = error.Memory
+error_at len End = error.EndInside len
+error_at len (Unexpected left) = error.Unexpected (len - left)
+error_at len (TooDeep left) = error.TooDeep (len - left)

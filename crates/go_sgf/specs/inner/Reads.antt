@@ -2,13 +2,13 @@
 use Rattle.std.specs.Prelude.{◌≢◌, ◌≤◌, ◌+◌, ◌==◌, ◌||◌, not, Bool, false, ℕ, List, [], ◌∷◌, ◌++◌, map}
 use Rattle.std.specs.List.{flat_map, AllByRecursion}
 use Rattle.go_sgf.specs.Record.{Property, Trees, IsValue, IsProperty, AreTrees, depth}
-use Rattle.go_sgf.specs.Spelling.{is_space, closing, value, SpellsParts, property_parts, node_parts, parts}
+use Rattle.go_sgf.specs.Spelling.{is_space, closing, value_part, SpellsParts, property_parts, node_parts, parts}
 use Rattle.go_sgf.specs.declared.limits.TheConstants.{MAX_DEPTH}
 
 pub record ReadsValues (b : List ℕ) (vs : List (List ℕ)) (rest : List ℕ) : Type 0 where
   pub some : vs ≢ []
   pub inside : AllByRecursion IsValue vs
-  pub spelling : SpellsParts b (map value vs) rest
+  pub spelling : SpellsParts b (map value_part vs) rest
 
 pub record ReadsProperty (b : List ℕ) (p : Property) (rest : List ℕ) : Type 0 where
   pub fit : IsProperty p

@@ -2,22 +2,22 @@
 use Rattle.std.specs.Prelude.{◌≡◌, ℕ, List, [], ◌++◌, map}
 use Rattle.std.specs.List.{flat_map}
 use Rattle.go_sgf.specs.Record.{Property, plain_property}
-use Rattle.go_sgf.specs.Spelling.{Part, joined, node_parts, property_parts, text, tree_text, value}
+use Rattle.go_sgf.specs.Spelling.{Part, text_of_parts, node_parts, property_parts, text, tree_text, value_part}
 use Rattle.go_sgf.specs.PartsIn.{nodes_at, parts_in, properties_at, values_at}
 use Rattle.go_sgf.specs.declared.record.Tree.{Tree}
 use Rattle.go_sgf.specs.View.{tree_of}
 
--- a value between its brackets
+-- a value_part between its brackets
 abbrev pub value_text : List ℕ → List ℕ
-value_text v = text (value v)
+value_text v = text (value_part v)
 
 -- a property with its plain name
 abbrev pub property_text : Property → List ℕ
-property_text p = joined (property_parts (plain_property p))
+property_text p = text_of_parts (property_parts (plain_property p))
 
 -- a node with plain names
 abbrev pub node_text : List Property → List ℕ
-node_text ps = joined (node_parts (map plain_property ps))
+node_text ps = text_of_parts (node_parts (map plain_property ps))
 
 -- a tree with plain names
 abbrev pub text_of : {A : Type 0} → Tree A → List ℕ
@@ -37,5 +37,5 @@ pub record Stays (b rest : List ℕ) : Type 0 where
 pub record StayValues (b rest : List ℕ) : Type 0 where
   pub values : List (List ℕ)
   pub whole : b ≡ flat_map value_text values ++ rest
-  pub parts : parts_in b ≡ map value values ++ parts_in rest
+  pub parts : parts_in b ≡ map value_part values ++ parts_in rest
   pub stopped : values_at (parts_in rest) ≡ []

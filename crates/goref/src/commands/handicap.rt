@@ -2,7 +2,7 @@
 ghost use Rattle.std.specs.Prelude.{◌≡◌, ◌<◌, ◌*◌, All, IfErr, Ok, OnErr, OnOk, if◌then◌else◌, length, slice_get};
 ghost use Rattle.std.specs.Option.{option_and_then};
 ghost use Rattle.go_board.specs.Points.{IsOn};
-ghost use Rattle.go_game.specs.Standings.{is_vacant};
+ghost use Rattle.go_game.specs.Standings.{is_vacant_standing};
 ghost use Rattle.goref.specs.Decisions.{MayDecide};
 ghost use Rattle.goref.specs.Handicap.{decided_fixed, decided_free, decided_handicap, decided_stones, with_stones};
 ghost use Rattle.goref_lines.specs.Stones.{stones_listed};
@@ -76,7 +76,7 @@ pub fn decide_stones<A: Allocator + Copy>(
 }
 
 fn decide_bad_list<A: Allocator + Copy>(game: &Game<A>) -> Decision
-    ensures { result ≡ Decision.Refused (if is_vacant game.now.standing then Refusal.BadVertexList
+    ensures { result ≡ Decision.Refused (if is_vacant_standing game.now.standing then Refusal.BadVertexList
         else Refusal.BoardNotEmpty) }
 {
     if game.is_vacant() {

@@ -6,7 +6,7 @@ ghost use Rattle.go_board.specs.Pens.{Writes};
 ghost use Rattle.go_record.specs.Records.{record_body};
 ghost use Rattle.goref.specs.Commands.{command_of};
 ghost use Rattle.goref.specs.Contents.{content_of};
-ghost use Rattle.goref.specs.Record.{DecidesBytes, DecidesContent, DecidesLoad, Loads, LoadsNone, load_of, of_record, of_sgf};
+ghost use Rattle.goref.specs.Record.{DecidesBytes, DecidesContent, DecidesLoad, Loads, LoadsNone, load_of, load_error_of, of_sgf};
 ghost use Rattle.goref.specs.declared.command.Command.{Command};
 ghost use Rattle.goref_results.specs.Results.{result_text};
 
@@ -141,7 +141,7 @@ impl From<SgfError> for LoadError {
 }
 
 impl From<RecordError> for LoadError {
-    ghost from_gives = { λ why error. error ≡ of_record why };
+    ghost from_gives = { λ why error. error ≡ load_error_of why };
 
     fn from(why: RecordError) -> LoadError {
         match why {

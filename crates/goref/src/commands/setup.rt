@@ -1,7 +1,7 @@
 //! boardsize, clear_board, komi and goref-superko: what is set before a game.
 ghost use Rattle.std.specs.Prelude.{◌≡◌, slice_get};
 ghost use Rattle.std.specs.Option.{option_and_then};
-ghost use Rattle.go_sgf.specs.Numbers.{hundredths_of};
+ghost use Rattle.go_sgf.specs.Numbers.{hundredths_by};
 ghost use Rattle.goref.specs.Decisions.{comes_to};
 ghost use Rattle.goref.specs.Setup.{decided_komi, decided_size, decided_superko, rule_of};
 ghost use Rattle.goref.specs.Starts.{emptied};
@@ -42,7 +42,7 @@ pub fn decide_clear<A: Allocator + Copy>(game: &mut Game<A>) -> Decision
 pub fn decide_komi<A: Allocator + Copy>(game: &mut Game<A>, request: &Request) -> Decision
     ensures { record { decision = result; standing = game.new.standing }
         ≡ decided_komi game.old.standing
-        (option_and_then hundredths_of (slice_get request.now.arguments 0)) }
+        (option_and_then hundredths_by (slice_get request.now.arguments 0)) }
 {
     match komi_argument(request, 0) {
         None => Decision::Refused(Refusal::SyntaxError),

@@ -1,7 +1,7 @@
 -- The words in which the private functions of a line say how it grows.
 use Rattle.std.specs.Prelude.{◌≡◌, ℕ, nat_lt, ◌&&◌, not, Bool, true, if◌then◌else◌, List, [], ◌∷◌, Option, Some, None, take, length}
 use Rattle.std.specs.List.{list_all}
-use Rattle.goref_lines.specs.Kept.{is_control, is_hash, is_space, spaced}
+use Rattle.goref_lines.specs.Kept.{is_control_byte, is_hash, is_plain_space, spaced}
 use Rattle.goref_lines.specs.declared.line.TheConstants.{LINE_LIMIT}
 
 -- the front of a text that is kept, and whether the text is longer
@@ -14,11 +14,11 @@ abbrev pub with_space : Bool → List ℕ → List ℕ
 with_space has_space word = if has_space then 32 ∷ word else word
 
 -- a byte of a word: neither a control, nor the sign of a comment, nor a space
-abbrev pub is_of_word : ℕ → Bool
-is_of_word b = not (is_control b) && (not (is_hash b) && not (is_space (spaced b)))
+abbrev pub is_word_byte : ℕ → Bool
+is_word_byte b = not (is_control_byte b) && (not (is_hash b) && not (is_plain_space (spaced b)))
 
 abbrev pub AreOfWord : List ℕ → Type 0
-AreOfWord bytes = list_all is_of_word bytes ≡ true
+AreOfWord bytes = list_all is_word_byte bytes ≡ true
 
 abbrev pub last_of : List ℕ → Option ℕ
 last_of [] = None
@@ -28,4 +28,4 @@ last_of (b ∷ c ∷ bytes) = last_of (c ∷ bytes)
 -- whether a space stands last behind more bytes: their last says it, where there is one
 abbrev pub space_after : Bool → Option ℕ → Bool
 space_after has_space None = has_space
-space_after has_space (Some b) = is_space (spaced b)
+space_after has_space (Some b) = is_plain_space (spaced b)

@@ -6,7 +6,7 @@ use Rattle.go_board.specs.declared.vertex.Vertex.{Vertex}
 use Rattle.go_board.specs.Points.{IsOn, number_of}
 use Rattle.goref_lines.specs.declared.stones.ListError.{ListError}
 use Rattle.goref_lines.specs.declared.stones.ListError.TheVariants.{Malformed, Bad}
-use Rattle.goref_lines.specs.Stones.{are_distinct, points_in, stones_of}
+use Rattle.goref_lines.specs.Stones.{are_distinct, points_on, stones_of}
 
 -- the points of a list as far as it is read, on a board of so many lines, or none where the list is
 -- bad already
@@ -21,17 +21,17 @@ pub record AreApart (n : ℕ) (points : List Point) : Type 0 where
   pub distinct : are_distinct (map (number_of n) points) ≡ true
 
 -- a point stands nowhere among points, and one more is left behind it
-abbrev pub can_follow : ℕ → List Point → Point → Bool
-can_follow n points p =
+abbrev pub may_follow : ℕ → List Point → Point → Bool
+may_follow n points p =
     nat_lt (length points + 1) (n * n) && not (list_any (λ q. number_of n q == number_of n p) points)
 
 -- what a list comes to that began with these points, or is bad already, and goes on with these
 -- vertices
 abbrev pub comes_from : ℕ → Option (List Point) → List Vertex → Result (List Point) ListError
 comes_from n None vertices = Err Bad
-comes_from n (Some points) vertices = stones_of n (option_map (λ more. points ++ more) (points_in n vertices))
+comes_from n (Some points) vertices = stones_of n (option_map (λ more. points ++ more) (points_on n vertices))
 
 -- what a list comes to of which so much is gathered, and whose other words spell these vertices
-abbrev pub comes_to : Gathered → Option (List Vertex) → Result (List Point) ListError
-comes_to g None = Err Malformed
-comes_to g (Some vertices) = comes_from g.lines g.points vertices
+abbrev pub gathers : Gathered → Option (List Vertex) → Result (List Point) ListError
+gathers g None = Err Malformed
+gathers g (Some vertices) = comes_from g.lines g.points vertices

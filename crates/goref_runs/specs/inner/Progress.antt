@@ -11,7 +11,7 @@ use Rattle.goref.specs.Contents.{Content}
 use Rattle.goref_runs.specs.Shelves.{Pair, then_pairs}
 use Rattle.goref.specs.Answers.{wanted}
 use Rattle.goref.specs.Replies.{Answered}
-use Rattle.goref_runs.specs.Conversation.{Asks, Conversation, Converses, BreaksOff}
+use Rattle.goref_runs.specs.Conversation.{AsksShelf, Conversation, Converses, BreaksOff}
 
 -- whatever follows from the standing now, all of it is one session from the first standing
 pub record Reaches (s : Standing) (lines : List (List ℕ)) (asked : List Pair) (text : List ℕ) (now : Standing) : Type 0 where
@@ -37,14 +37,14 @@ Proceeds (Err e) s read line now given given' taken taken' = (more : List ℕ) �
 pub record Responds (old new : Standing) (line : Kept) (result : Result Flow WriteFault) (given given' : Option (List Pair)) (taken taken' : Option (List ℕ)) : Type 0 where
   pub content : Content
   pub asked : List Pair
-  pub asks : Asks (wanted line) content asked
+  pub asks : AsksShelf (wanted line) content asked
   pub tells : given' ≡ then_pairs given asked
   pub answered : Answered old new line content result taken taken'
 
 -- what was fetched for a line
 pub record Fetches (line : Kept) (content : Content) (given given' : Option (List Pair)) : Type 0 where
   pub asked : List Pair
-  pub asks : Asks (wanted line) content asked
+  pub asks : AsksShelf (wanted line) content asked
   pub tells : given' ≡ then_pairs given asked
 
 -- a run whose input ended behind these bytes: all lines were answered, or it broke off by a fault

@@ -1,9 +1,9 @@
 use Rattle.std.proofs.Common.{◌≡◌, ◌<◌, ◌+◌, ℕ, length}
-use Rattle.go_chains.specs.Cells.{colour_of}
+use Rattle.go_chains.specs.Cells.{code_at}
 use Rattle.go_chains.proofs.board.empty_points.Given as goal
 
 abbrev pub invariant-loop-number : goal.invariant-loop-number
 invariant-loop-number l = record {
-  empty : (p : ℕ) → p < l.number → colour_of l.cells.numbers p ≡ 0;
+  empty : (p : ℕ) → p < l.number → code_at l.cells.numbers p ≡ 0;
   writes : length l.cells.trace ≡ length l.fn.cells.trace + l.number;
 }

@@ -1,7 +1,7 @@
 use Rattle.std.proofs.Common.{arith, ◌≡◌, ◌*◌, ℕ, subst, inl, inr, slice_index}
 use Rattle.std.proofs.lemmas.Bool.{cases_lt}
 use Rattle.go_board.specs.Paths.{IsAdjacent}
-use Rattle.go_chains.specs.Cells.{colour_of, label_of, tables_of}
+use Rattle.go_chains.specs.Cells.{code_at, label_of, tables_of}
 use Rattle.go_chains.specs.inner.Tables.{IsDead}
 use Rattle.go_chains.proofs.tables.Capturing.{IsCapturing_none}
 use Rattle.go_chains.proofs.writes.Editing.{Edited_then}
@@ -41,7 +41,7 @@ loop-near-preserved g c =
             | inl before ↦ stays_empty (n * n) (IsAdjacent n) (tables_of mid) (tables_of new) own point after point_in (inv.gone x before is dead)
             | inr last ↦
                 let e : i ≡ x = omega arith in
-                let P : ℕ → Type 0 = λ y. colour_of mid (slice_index c.args.beside.now y) ≡ own → IsDead (n * n) (tables_of mid) (label_of mid (slice_index c.args.beside.now y)) → colour_of new (slice_index c.args.beside.now y) ≡ 0 in
+                let P : ℕ → Type 0 = λ y. code_at mid (slice_index c.args.beside.now y) ≡ own → IsDead (n * n) (tables_of mid) (label_of mid (slice_index c.args.beside.now y)) → code_at new (slice_index c.args.beside.now y) ≡ 0 in
                 still_dead (n * n) (IsAdjacent n) (tables_of old) (tables_of mid) (tables_of new) own point c.requires.colours.own_some inv.capturing after point_in is dead (subst P e one.gone)
           ];
       stones = counts_then (n * n) (IsAdjacent n) (tables_of old) (tables_of mid) (tables_of new) own j k c.requires.colours.own_some inv.capturing after inv.stones one.stones;

@@ -2,7 +2,7 @@ use Rattle.std.proofs.Common.{◌≡◌, ◌<◌, ◌≤◌, ◌+◌, ◌*◌, �
 use Rattle.go_board.specs.Paths.{IsAdjacent}
 use Rattle.go_board.specs.declared.size.TheConstants.{MAX_POINTS}
 use Rattle.go_chains.specs.declared.cells.TheConstants.{WORDS}
-use Rattle.go_chains.specs.Cells.{colour_of, label_of, tables_of}
+use Rattle.go_chains.specs.Cells.{code_at, label_of, tables_of}
 use Rattle.go_chains.specs.inner.Edits.{Edited}
 use Rattle.go_chains.specs.inner.Steps.{CountsTaken, IsCapturing}
 use Rattle.go_chains.specs.inner.Tables.{IsDead}
@@ -14,7 +14,7 @@ invariant-loop-near g l =
     let old = l.fn.cells.numbers in
     record {
       capturing : IsCapturing (n * n) (IsAdjacent n) (tables_of old) (tables_of l.cells.numbers) l.fn.own;
-      gone : (i : ℕ) → i < l.near-index → colour_of old (slice_index l.fn.beside i) ≡ l.fn.own → IsDead (n * n) (tables_of old) (label_of old (slice_index l.fn.beside i)) → colour_of l.cells.numbers (slice_index l.fn.beside i) ≡ 0;
+      gone : (i : ℕ) → i < l.near-index → code_at old (slice_index l.fn.beside i) ≡ l.fn.own → IsDead (n * n) (tables_of old) (label_of old (slice_index l.fn.beside i)) → code_at l.cells.numbers (slice_index l.fn.beside i) ≡ 0;
       stones : CountsTaken (n * n) (tables_of old) (tables_of l.cells.numbers) l.fn.own l.taken;
       few : l.taken ≤ l.near-index * MAX_POINTS;
       edited : Edited l.fn.cells l.cells l.fn.changes l.changes l.fn.meter l.meter (5 * l.taken) (l.near-index * (WORDS + 5) + 18 * l.taken);

@@ -1,6 +1,6 @@
 use Rattle.std.proofs.Common.{arith, ◌≡◌, ◌*◌, ℕ, sym, ◌∙◌, subst}
 use Rattle.go_board.specs.Paths.{IsAdjacent}
-use Rattle.go_chains.specs.Cells.{colour_of, tables_of}
+use Rattle.go_chains.specs.Cells.{code_at, tables_of}
 use Rattle.go_chains.specs.inner.Steps.{CountsTaken}
 use Rattle.go_chains.specs.inner.Tables.{IsDead, IsStone}
 use Rattle.go_chains.proofs.tables.Capturing.{IsCapturing_more}
@@ -14,7 +14,7 @@ pub is_dead-requires : goal.is_dead-requires
 is_dead-requires g c =
     let n = c.args.size in
     let old = c.args.cells.now.numbers in
-    let is : colour_of old c.args.near ≡ c.args.own = sym c.get.ensures.value ∙ c.if-get-own.false in
+    let is : code_at old c.args.near ≡ c.args.own = sym c.get.ensures.value ∙ c.if-get-own.false in
     let some = c.requires.colours.own_some in
     let stone : IsStone (n * n) (tables_of old) c.args.near = (c.requires.near, omega arith) in
     let h = label_small n (IsAdjacent n) (tables_of old) (omega arith) c.requires.tidy c.args.near stone in
@@ -36,7 +36,7 @@ pub returns-clause-capturing : goal.returns-clause-capturing
 returns-clause-capturing g c t tidy capturing =
     let n = c.args.size in
     let old = c.args.cells.now.numbers in
-    let is : colour_of old c.args.near ≡ c.args.own = sym c.get.ensures.value ∙ c.if-get-own.false in
+    let is : code_at old c.args.near ≡ c.args.own = sym c.get.ensures.value ∙ c.if-get-own.false in
     let D : ℕ → Type 0 = λ l. IsDead (n * n) (tables_of old) l in
     IsCapturing_more (n * n) (IsAdjacent n) (flip n) (inside n) t (tables_of old) (tables_of c.take_off.new.cells.numbers) c.args.own c.args.near tidy capturing c.take_off.ensures.removed is c.requires.colours.own_some
     (subst D c.get-label.ensures.value (c.is_dead.ensures.dead.0 c.if-not-is_dead.false))
@@ -45,7 +45,7 @@ pub returns-clause-stones : goal.returns-clause-stones
 returns-clause-stones g c =
     let n = c.args.size in
     let old = c.args.cells.now.numbers in
-    let is : colour_of old c.args.near ≡ c.args.own = sym c.get.ensures.value ∙ c.if-get-own.false in
+    let is : code_at old c.args.near ≡ c.args.own = sym c.get.ensures.value ∙ c.if-get-own.false in
     let P : ℕ → Type 0 = λ k. CountsTaken (n * n) (tables_of old) (tables_of c.take_off.new.cells.numbers) c.args.own k in
     subst P (sym c.take_off.ensures.stones) (counts_ring (n * n) (IsAdjacent n) (tables_of old) (tables_of c.take_off.new.cells.numbers) c.args.near c.args.own c.requires.tidy c.take_off.ensures.removed is c.requires.colours.own_some)
 

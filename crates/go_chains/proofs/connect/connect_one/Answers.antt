@@ -1,7 +1,7 @@
 use Rattle.std.proofs.Common.{arith, ◌≡◌, ◌<◌, ◌≤◌, ◌*◌, ℕ, ap, sym, ◌∙◌, List}
 use Rattle.go_board.specs.Paths.{IsAdjacent}
 use Rattle.go_board.specs.declared.size.TheConstants.{MAX_LINES, MAX_POINTS}
-use Rattle.go_chains.specs.Cells.{chain_size, colour_of, label_of, size_of, tables_of}
+use Rattle.go_chains.specs.Cells.{chain_size, code_at, label_of, size_of, tables_of}
 use Rattle.go_chains.specs.inner.Tables.{IsStone, IsTidy}
 use Rattle.go_chains.proofs.tables.Connecting.{IsConnected-first, IsConnected-second, beside_stone, grown-second}
 use Rattle.go_chains.proofs.writes.Editing.{Edited_none, Edited_within}
@@ -11,7 +11,7 @@ use Rattle.go_chains.proofs.writes.Bounds.{label_small, size_small}
 use Rattle.go_chains.proofs.connect.connect_one.Goals as goal
 
 near_small : (n : ℕ) (cells : List ℕ) (point near a b : ℕ) → n ≤ MAX_LINES → IsTidy (n * n) (IsAdjacent n) (tables_of cells) → IsStone (n * n) (tables_of cells) point → IsAdjacent n point near
-    → a ≡ colour_of cells near → b ≡ colour_of cells point → a ≡ b
+    → a ≡ code_at cells near → b ≡ code_at cells point → a ≡ b
     → IsStone (n * n) (tables_of cells) near × (label_of cells near < MAX_POINTS) × (size_of cells (label_of cells near) ≤ MAX_POINTS) × (label_of cells point < MAX_POINTS) × (size_of cells (label_of cells point) ≤ MAX_POINTS)
 near_small n cells point near a b small tidy stone beside a_is b_is same =
     let s = beside_stone (n * n) (tables_of cells) point near stone beside.1 (sym a_is ∙ same ∙ b_is) in (

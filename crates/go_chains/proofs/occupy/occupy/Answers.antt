@@ -3,7 +3,7 @@ use Rattle.go_board.specs.lemmas.Squares.{square-le}
 use Rattle.std.proofs.lemmas.List.{get_or_default}
 use Rattle.go_board.specs.Paths.{IsAdjacent}
 use Rattle.go_board.specs.declared.size.TheConstants.{MAX_POINTS}
-use Rattle.go_chains.specs.Cells.{colour_of, label_of, tables_of, words_for}
+use Rattle.go_chains.specs.Cells.{code_at, label_of, tables_of, words_for}
 use Rattle.go_chains.proofs.writes.Occupying.{IsOccupied_written}
 use Rattle.go_chains.proofs.writes.Editing.{Edited_next, Edited_within}
 use Rattle.go_chains.proofs.writes.Bounds.{label_small}
@@ -13,7 +13,7 @@ pub deprive-requires-clause-labels : goal.deprive-requires-clause-labels
 deprive-requires-clause-labels g c k d below =
     let n = c.args.size in
     let same = get_or_default c.args.beside.now k d 0 below in
-    let P : ℕ → Type 0 = λ x. 0 < colour_of c.args.cells.now.numbers x → label_of c.args.cells.now.numbers x < MAX_POINTS in
+    let P : ℕ → Type 0 = λ x. 0 < code_at c.args.cells.now.numbers x → label_of c.args.cells.now.numbers x < MAX_POINTS in
     subst P (sym same) (λ some. label_small n (IsAdjacent n) (tables_of c.args.cells.now.numbers) (omega arith) c.requires.tidy (slice_index c.args.beside.now k)
     ((c.requires.beside.are k below).1, some))
 

@@ -1,7 +1,7 @@
 use Rattle.std.proofs.Common.{arith, ◌*◌, inl, inr, refl, sym}
 use Rattle.go_board.specs.Paths.{IsAdjacent}
 use Rattle.go_chains.specs.Cells.{tables_of}
-use Rattle.go_chains.specs.Playing.{stones_beside, stones_taken}
+use Rattle.go_chains.specs.Playing.{stones_beside, stones_captured}
 use Rattle.go_chains.specs.Sound.{colouring_of}
 use Rattle.go_chains.proofs.rules.Sound.{tidy-kept}
 use Rattle.go_chains.proofs.writes.Editing.{Edited_next, Edited_within}
@@ -17,7 +17,7 @@ occupy-requires-clause-tidy g c = tidy-kept c.args.size c.args.cells.now.numbers
 pub connect-requires-clause-tidy : goal.connect-requires-clause-tidy
 connect-requires-clause-tidy g c =
     let n = c.args.size in
-    IsTidy-occupied (n * n) (IsAdjacent n) (inside n) (apart n) (tables_of c.args.cells.now.numbers) (tables_of c.occupy.new.cells.numbers) c.args.point c.code_of-own.result
+    IsTidy-occupied (n * n) (IsAdjacent n) (inside n) (apart n) (tables_of c.args.cells.now.numbers) (tables_of c.occupy.new.cells.numbers) c.args.point c.code-own.result
     (tidy-kept n c.args.cells.now.numbers c.requires.kept) c.occupy.ensures.occupied
 
 pub capture-theirs-requires-clause-whole : goal.capture-theirs-requires-clause-whole
@@ -25,10 +25,10 @@ capture-theirs-requires-clause-whole g c =
     let n = c.args.size in
     let old = c.args.cells.now.numbers in
     let p = c.args.point in
-    let own = c.code_of-own.result in
-    let theirs = c.code_of-other.result in
+    let own = c.code-own.result in
+    let theirs = c.code-other.result in
     let beside = c.args.near.now in
-    let b = begins n old p c.args.colour c.other.result own theirs c.requires.kept c.requires.point c.requires.empty c.code_of-own.ensures.value c.code_of-own.ensures.range c.other.ensures c.code_of-other.ensures.value c.code_of-other.ensures.range in
+    let b = begins n old p c.args.colour c.other.result own theirs c.requires.kept c.requires.point c.requires.empty c.code-own.ensures.value c.code-own.ensures.range c.other.ensures c.code-other.ensures.value c.code-other.ensures.range in
     let j = joins n old c.occupy.new.cells.numbers c.connect.new.cells.numbers p own beside beside c.requires.near refl c.occupy.ensures.occupied c.connect.ensures.connected c.connect.ensures.tidy in
     whole_of n old c.occupy.new.cells.numbers c.connect.new.cells.numbers p c.args.colour own theirs beside b j
 
@@ -37,10 +37,10 @@ capture-theirs-requires-clause-colours g c =
     let n = c.args.size in
     let old = c.args.cells.now.numbers in
     let p = c.args.point in
-    let own = c.code_of-own.result in
-    let theirs = c.code_of-other.result in
+    let own = c.code-own.result in
+    let theirs = c.code-other.result in
     let beside = c.args.near.now in
-    let b = begins n old p c.args.colour c.other.result own theirs c.requires.kept c.requires.point c.requires.empty c.code_of-own.ensures.value c.code_of-own.ensures.range c.other.ensures c.code_of-other.ensures.value c.code_of-other.ensures.range in
+    let b = begins n old p c.args.colour c.other.result own theirs c.requires.kept c.requires.point c.requires.empty c.code-own.ensures.value c.code-own.ensures.range c.other.ensures c.code-other.ensures.value c.code-other.ensures.range in
     let j = joins n old c.occupy.new.cells.numbers c.connect.new.cells.numbers p own beside beside c.requires.near refl c.occupy.ensures.occupied c.connect.ensures.connected c.connect.ensures.tidy in
     record {
       own_some = b.theirs_range.0;
@@ -54,10 +54,10 @@ take_one-taken-requires-clause-colours g c =
     let n = c.args.size in
     let old = c.args.cells.now.numbers in
     let p = c.args.point in
-    let own = c.code_of-own.result in
-    let theirs = c.code_of-other.result in
+    let own = c.code-own.result in
+    let theirs = c.code-other.result in
     let beside = c.args.near.now in
-    let b = begins n old p c.args.colour c.other.result own theirs c.requires.kept c.requires.point c.requires.empty c.code_of-own.ensures.value c.code_of-own.ensures.range c.other.ensures c.code_of-other.ensures.value c.code_of-other.ensures.range in
+    let b = begins n old p c.args.colour c.other.result own theirs c.requires.kept c.requires.point c.requires.empty c.code-own.ensures.value c.code-own.ensures.range c.other.ensures c.code-other.ensures.value c.code-other.ensures.range in
     let j = joins n old c.occupy.new.cells.numbers c.connect.new.cells.numbers p own beside beside c.requires.near refl c.occupy.ensures.occupied c.connect.ensures.connected c.connect.ensures.tidy in
     record {
       own_some = b.own_range.0;
@@ -74,10 +74,10 @@ returns-clause-kept g c =
     let n = c.args.size in
     let old = c.args.cells.now.numbers in
     let p = c.args.point in
-    let own = c.code_of-own.result in
-    let theirs = c.code_of-other.result in
+    let own = c.code-own.result in
+    let theirs = c.code-other.result in
     let beside = c.args.near.now in
-    let b = begins n old p c.args.colour c.other.result own theirs c.requires.kept c.requires.point c.requires.empty c.code_of-own.ensures.value c.code_of-own.ensures.range c.other.ensures c.code_of-other.ensures.value c.code_of-other.ensures.range in
+    let b = begins n old p c.args.colour c.other.result own theirs c.requires.kept c.requires.point c.requires.empty c.code-own.ensures.value c.code-own.ensures.range c.other.ensures c.code-other.ensures.value c.code-other.ensures.range in
     let j = joins n old c.occupy.new.cells.numbers c.connect.new.cells.numbers p own beside beside c.requires.near refl c.occupy.ensures.occupied c.connect.ensures.connected c.connect.ensures.tidy in
     let t = takes n c.connect.new.cells.numbers c.capture-theirs.new.cells.numbers c.take_one-taken.new.cells.numbers p own theirs beside c.capture-theirs.ensures.capturing c.capture-theirs.ensures.gone c.take_one-taken.ensures.capturing c.take_one-taken.ensures.gone in
     kept_end n old c.occupy.new.cells.numbers c.connect.new.cells.numbers c.capture-theirs.new.cells.numbers c.take_one-taken.new.cells.numbers p c.args.colour own theirs beside b j t
@@ -87,10 +87,10 @@ returns-clause-colours g c =
     let n = c.args.size in
     let old = c.args.cells.now.numbers in
     let p = c.args.point in
-    let own = c.code_of-own.result in
-    let theirs = c.code_of-other.result in
+    let own = c.code-own.result in
+    let theirs = c.code-other.result in
     let beside = c.args.near.now in
-    let b = begins n old p c.args.colour c.other.result own theirs c.requires.kept c.requires.point c.requires.empty c.code_of-own.ensures.value c.code_of-own.ensures.range c.other.ensures c.code_of-other.ensures.value c.code_of-other.ensures.range in
+    let b = begins n old p c.args.colour c.other.result own theirs c.requires.kept c.requires.point c.requires.empty c.code-own.ensures.value c.code-own.ensures.range c.other.ensures c.code-other.ensures.value c.code-other.ensures.range in
     let j = joins n old c.occupy.new.cells.numbers c.connect.new.cells.numbers p own beside beside c.requires.near refl c.occupy.ensures.occupied c.connect.ensures.connected c.connect.ensures.tidy in
     let t = takes n c.connect.new.cells.numbers c.capture-theirs.new.cells.numbers c.take_one-taken.new.cells.numbers p own theirs beside c.capture-theirs.ensures.capturing c.capture-theirs.ensures.gone c.take_one-taken.ensures.capturing c.take_one-taken.ensures.gone in
     moved_end n old c.occupy.new.cells.numbers c.connect.new.cells.numbers c.capture-theirs.new.cells.numbers c.take_one-taken.new.cells.numbers p c.args.colour own theirs beside b j t c.reaches_by_a_path.ensures
@@ -100,10 +100,10 @@ returns-clause-theirs g c =
     let n = c.args.size in
     let old = c.args.cells.now.numbers in
     let p = c.args.point in
-    let own = c.code_of-own.result in
-    let theirs = c.code_of-other.result in
+    let own = c.code-own.result in
+    let theirs = c.code-other.result in
     let beside = c.args.near.now in
-    let b = begins n old p c.args.colour c.other.result own theirs c.requires.kept c.requires.point c.requires.empty c.code_of-own.ensures.value c.code_of-own.ensures.range c.other.ensures c.code_of-other.ensures.value c.code_of-other.ensures.range in
+    let b = begins n old p c.args.colour c.other.result own theirs c.requires.kept c.requires.point c.requires.empty c.code-own.ensures.value c.code-own.ensures.range c.other.ensures c.code-other.ensures.value c.code-other.ensures.range in
     let j = joins n old c.occupy.new.cells.numbers c.connect.new.cells.numbers p own beside beside c.requires.near refl c.occupy.ensures.occupied c.connect.ensures.connected c.connect.ensures.tidy in
     let t = takes n c.connect.new.cells.numbers c.capture-theirs.new.cells.numbers c.take_one-taken.new.cells.numbers p own theirs beside c.capture-theirs.ensures.capturing c.capture-theirs.ensures.gone c.take_one-taken.ensures.capturing c.take_one-taken.ensures.gone in
     theirs_end n old c.occupy.new.cells.numbers c.connect.new.cells.numbers c.capture-theirs.new.cells.numbers c.take_one-taken.new.cells.numbers p c.args.colour own theirs beside b j t c.capture-theirs.result c.capture-theirs.ensures.stones
@@ -113,10 +113,10 @@ returns-clause-own g c =
     let n = c.args.size in
     let old = c.args.cells.now.numbers in
     let p = c.args.point in
-    let own = c.code_of-own.result in
-    let theirs = c.code_of-other.result in
+    let own = c.code-own.result in
+    let theirs = c.code-other.result in
     let beside = c.args.near.now in
-    let b = begins n old p c.args.colour c.other.result own theirs c.requires.kept c.requires.point c.requires.empty c.code_of-own.ensures.value c.code_of-own.ensures.range c.other.ensures c.code_of-other.ensures.value c.code_of-other.ensures.range in
+    let b = begins n old p c.args.colour c.other.result own theirs c.requires.kept c.requires.point c.requires.empty c.code-own.ensures.value c.code-own.ensures.range c.other.ensures c.code-other.ensures.value c.code-other.ensures.range in
     let j = joins n old c.occupy.new.cells.numbers c.connect.new.cells.numbers p own beside beside c.requires.near refl c.occupy.ensures.occupied c.connect.ensures.connected c.connect.ensures.tidy in
     let t = takes n c.connect.new.cells.numbers c.capture-theirs.new.cells.numbers c.take_one-taken.new.cells.numbers p own theirs beside c.capture-theirs.ensures.capturing c.capture-theirs.ensures.gone c.take_one-taken.ensures.capturing c.take_one-taken.ensures.gone in
     own_end n old c.occupy.new.cells.numbers c.connect.new.cells.numbers c.capture-theirs.new.cells.numbers c.take_one-taken.new.cells.numbers p c.args.colour own theirs beside b j t c.take_one-taken.result c.take_one-taken.ensures.stones
@@ -126,14 +126,14 @@ returns-clause-edited g c =
     let n = c.args.size in
     let old = c.args.cells.now.numbers in
     let p = c.args.point in
-    let own = c.code_of-own.result in
-    let theirs = c.code_of-other.result in
+    let own = c.code-own.result in
+    let theirs = c.code-other.result in
     let beside = c.args.near.now in
-    let b = begins n old p c.args.colour c.other.result own theirs c.requires.kept c.requires.point c.requires.empty c.code_of-own.ensures.value c.code_of-own.ensures.range c.other.ensures c.code_of-other.ensures.value c.code_of-other.ensures.range in
+    let b = begins n old p c.args.colour c.other.result own theirs c.requires.kept c.requires.point c.requires.empty c.code-own.ensures.value c.code-own.ensures.range c.other.ensures c.code-other.ensures.value c.code-other.ensures.range in
     let j = joins n old c.occupy.new.cells.numbers c.connect.new.cells.numbers p own beside beside c.requires.near refl c.occupy.ensures.occupied c.connect.ensures.connected c.connect.ensures.tidy in
     let t = takes n c.connect.new.cells.numbers c.capture-theirs.new.cells.numbers c.take_one-taken.new.cells.numbers p own theirs beside c.capture-theirs.ensures.capturing c.capture-theirs.ensures.gone c.take_one-taken.ensures.capturing c.take_one-taken.ensures.gone in
     let m = stones_beside n (colouring_of n old) c.args.colour p in
-    let taken = stones_taken n (colouring_of n old) c.args.colour p in
+    let taken = stones_captured n (colouring_of n old) c.args.colour p in
     let joined = size_then n old c.occupy.new.cells.numbers c.connect.new.cells.numbers p c.args.colour own theirs beside b j c.joined_by_a_path.ensures in
     let captured = size_end n old c.occupy.new.cells.numbers c.connect.new.cells.numbers c.capture-theirs.new.cells.numbers c.take_one-taken.new.cells.numbers p c.args.colour own theirs beside b j t c.joined_by_a_path.ensures in
     let taken_is = taken_end n old c.occupy.new.cells.numbers c.connect.new.cells.numbers c.capture-theirs.new.cells.numbers c.take_one-taken.new.cells.numbers p c.args.colour own theirs beside b j t c.reaches_by_a_path.ensures c.capture-theirs.result (theirs_end n old c.occupy.new.cells.numbers c.connect.new.cells.numbers c.capture-theirs.new.cells.numbers c.take_one-taken.new.cells.numbers p c.args.colour own theirs beside b j t c.capture-theirs.result c.capture-theirs.ensures.stones) in

@@ -3,7 +3,7 @@ use Rattle.std.specs.Prelude.{Err}
 use Rattle.std.proofs.lemmas.Result.{err_from_is_err_and}
 use Rattle.go_sgf.specs.View.{tree_of}
 use Rattle.go_record.specs.MainLine.{Event, events_from, main_line}
-use Rattle.go_record.specs.inner.Progress.{Goes, Place, line_from}
+use Rattle.go_record.specs.inner.Progress.{Goes, WalkedGame, line_from}
 use Rattle.go_record.proofs.Lines.{first_line, line_split}
 use Rattle.go_record.proofs.Walking.{walked_stops}
 use Rattle.go_record.proofs.replaying.pass_line.Goals as goal
@@ -12,7 +12,7 @@ pub returns-in_err-count : goal.returns-in_err-count
 returns-in_err-count g c =
     let p = err_from_is_err_and c.from_residual.result c.from_residual.ensures.1 in
     let e = c.in_err-count.field-0.0 in
-    let w : Place = (c.loop-current.walk, c.loop-current.game) in
+    let w : WalkedGame = (c.loop-current.walk, c.loop-current.game) in
     let count = c.loop-current.count in
     let nodes = c.nodes.result in
     let rest = main_line (tree_of c.in-Some.tree.now).1 in
@@ -26,7 +26,7 @@ returns-in_err-count g c =
 
 pub loop-current-preserved : goal.loop-current-preserved
 loop-current-preserved g c = λ later outcome h.
-    let w : Place = (c.loop-current.walk, c.loop-current.game) in
+    let w : WalkedGame = (c.loop-current.walk, c.loop-current.game) in
     let count = c.loop-current.count in
     let nodes = c.nodes.result in
     let rest = main_line (line_from c.first-current-in-Some.result) in

@@ -1,5 +1,5 @@
-use Rattle.go_sgf.proofs.Fronted.{cooked_by_front as law}
+use Rattle.go_sgf.proofs.Fronted.{cooked_by_front}
 use Rattle.go_sgf.proofs.laws.cooked_by_front.Goals as goal
 
 pub returns : goal.returns
-returns c = law
+returns c = cooked_by_front

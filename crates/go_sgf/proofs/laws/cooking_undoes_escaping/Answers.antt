@@ -1,5 +1,5 @@
-use Rattle.go_sgf.proofs.Fronted.{cooking_undoes_escaping as law}
+use Rattle.go_sgf.proofs.Fronted.{cooking_undoes_escaping}
 use Rattle.go_sgf.proofs.laws.cooking_undoes_escaping.Goals as goal
 
 pub returns : goal.returns
-returns c = law
+returns c = cooking_undoes_escaping

@@ -1,5 +1,5 @@
 use Rattle.std.proofs.Common.{◌∷◌, ◌++◌, [], ap, sym, ◌∙◌}
-use Rattle.go_sgf.specs.Spelling.{begins_with}
+use Rattle.go_sgf.specs.Spelling.{is_first}
 use Rattle.go_sgf.proofs.PartsIn.{no_value}
 use Rattle.go_sgf.proofs.Staying.{value_stays}
 use Rattle.go_sgf.proofs.verbatim.values.Goals as goal
@@ -20,5 +20,5 @@ returns-else-begins_with c =
       values = i.0;
       whole = i.1;
       parts = i.2;
-      stopped = no_value c.loop-inside.rest.now (ap (begins_with 91) (sym c.after_space.ensures) ∙ sym c.begins_with.ensures ∙ c.if-begins_with.false);
+      stopped = no_value c.loop-inside.rest.now (ap (is_first 91) (sym c.after_space.ensures) ∙ sym c.begins_with.ensures ∙ c.if-begins_with.false);
     }

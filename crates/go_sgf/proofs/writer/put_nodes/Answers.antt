@@ -4,7 +4,7 @@ use Rattle.std.specs.List.{filter, flat_map}
 use Rattle.go_board.specs.Pens.{Writes}
 use Rattle.go_board.specs.lemmas.Writing.{writes_writes}
 use Rattle.go_sgf.specs.PartsIn.{nodes_at, parts_in, properties_at, values_at}
-use Rattle.go_sgf.specs.Record.{is_upper}
+use Rattle.go_sgf.specs.Record.{is_upper_byte}
 use Rattle.go_sgf.specs.inner.Texts.{node_text, parts_text, property_text, value_text}
 use Rattle.go_sgf.proofs.PartsIn.{name_first, no_property}
 use Rattle.go_sgf.proofs.Staying.{name_text, nothing_left}
@@ -32,7 +32,7 @@ loop-rest-preserved g c =
     let w = c.put_verbatim-rest-in-loop-rest.ensures in
     let name = c.letters.result.0.now in
     let behind = c.letters.result.1.now in
-    let one = filter is_upper name ++ flat_map value_text (values_at (parts_in behind)) in
+    let one = filter is_upper_byte name ++ flat_map value_text (values_at (parts_in behind)) in
     let text : parts_text (parts_in c.loop-rest.rest.now) ≡ one ++ parts_text (parts_in behind) =
     ap parts_text (name_first c.loop-rest.rest.now name behind c.letters.ensures.whole c.letters.ensures.letters (sym c.loop-rest-test.ensures) c.letters.ensures.stopped)
     ∙ name_text name (parts_in behind) in

@@ -3,7 +3,7 @@ use Rattle.std.specs.List.{flat_map}
 use Rattle.go_board.specs.Pens.{Writes}
 use Rattle.go_sgf.specs.PartsIn.{nodes_at, parts_in, values_at}
 use Rattle.go_sgf.specs.inner.Reads.{begins_space}
-use Rattle.go_sgf.specs.Spelling.{begins_with}
+use Rattle.go_sgf.specs.Spelling.{is_first}
 use Rattle.go_sgf.specs.inner.Texts.{node_text, parts_text}
 use Rattle.go_sgf.proofs.writer.put_nodes.Given as goal
 
@@ -14,7 +14,7 @@ invariant-loop-rest g l = record {
       × (flat_map node_text (nodes_at (parts_in l.text)) ≡ more ++ parts_text (parts_in l.rest));
   trimmed : begins_space l.rest ≡ false;
   values : values_at (parts_in l.rest) ≡ [];
-  node : begins_with 59 l.rest ≡ false;
+  node : is_first 59 l.rest ≡ false;
 }
 
 abbrev pub decreases-loop-rest : goal.decreases-loop-rest

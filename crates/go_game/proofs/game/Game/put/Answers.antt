@@ -9,7 +9,7 @@ use Rattle.go_chains.specs.Playing.{most_of}
 use Rattle.go_game.specs.Counts.{IsLogged, most_for}
 use Rattle.go_game.specs.inner.Held.{made_of}
 use Rattle.go_game.specs.Playing.{stones_taken}
-use Rattle.go_game.specs.Standings.{GameValue, IsLegal, Repeats, board_of, mover_by}
+use Rattle.go_game.specs.Standings.{GameValue, IsLegal, IsRepeat, board_of, mover_by}
 use Rattle.go_game.proofs.Counting.{logged_put, seen, twice}
 use Rattle.go_game.proofs.Keeping.{some_of}
 use Rattle.go_game.proofs.Played.{room_held}
@@ -47,7 +47,7 @@ returns-in-Err-clause-occupied g c =
 
 pub returns-in-Err-clause-repeats : goal.returns-in-Err-clause-repeats
 returns-in-Err-clause-repeats g c k e =
-    subst (λ (v : GameValue). Repeats v.standing c.args.colour (At c.args.p) k) c.self.view_is
+    subst (λ (v : GameValue). IsRepeat v.standing c.args.colour (At c.args.p) k) c.self.view_is
     (repeats_put c.self.inside.superko c.self.inside.start c.self.inside.komi c.self.inside.first c.self.inside.steps.items c.self.inside.board c.self.inside.log c.self.inside.history c.self.inside.prisoners.black c.self.inside.prisoners.white c.self.invariant c.args.colour c.args.p c.play.new.self c.in-Ok.ensures.moved c.key-key.result (ap bytes_of c.key-key.ensures.pack ∙ c.pack.ensures) (c.key-key.ensures.mover ∙ ap (mover_by c.self.inside.superko) c.other.ensures) k (c.in-Err.ensures.repeats k (same_error c.in-Err.error _ e)))
 
 pub returns-in-Ok-note-clause-legal : goal.returns-in-Ok-note-clause-legal
