@@ -2,7 +2,6 @@
 use Rattle.std.specs.Prelude.{ℕ, List, ◌≡◌, ◌≢◌, ◌+◌, ◌-◌, ◌*◌, ◌/◌, ◌%◌, slice_index}
 use Rattle.std.specs.Int.{bit_at}
 use Rattle.go_chains.specs.declared.cells.TheConstants.{LABELS, LINKS, SIZES, LIBERTIES, WORDS}
-use Rattle.go_chains.specs.inner.Tables.{Tables}
 use Rattle.go_chains.specs.declared.change.Change.{Change}
 
 -- what contracts see of cells: their numbers, and all writes to them
@@ -40,15 +39,6 @@ words_for points = (points + 63) / 64
 
 abbrev pub lib_of : List ℕ → ℕ → ℕ → ℕ
 lib_of cells l q = bit_at (word_of cells l (q / 64)) (q % 64)
-
-abbrev pub tables_of : List ℕ → Tables
-tables_of cells = record {
-  colour = code_at cells;
-  label = label_of cells;
-  next = next_of cells;
-  size = size_of cells;
-  lib = lib_of cells;
-}
 
 -- one cell is written
 pub record IsWritten (old new : List ℕ) (place value : ℕ) : Type 0 where

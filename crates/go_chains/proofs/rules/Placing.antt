@@ -10,11 +10,11 @@ use Rattle.go_board.specs.Paths.{IsAdjacent}
 use Rattle.go_board.specs.Reaching.{cleared, moved, vanished}
 use Rattle.go_board.specs.Packs.{code_of, colour_coded}
 use Rattle.go_chains.specs.inner.Beside.{AreBeside}
-use Rattle.go_chains.specs.Cells.{code_at, label_of, size_of, tables_of}
+use Rattle.go_chains.specs.Cells.{code_at, label_of, size_of}
 use Rattle.go_chains.specs.Playing.{stones_beside, stones_captured}
 use Rattle.go_chains.specs.Sound.{IsKept, colouring_of}
 use Rattle.go_chains.specs.inner.Steps.{CountsTaken, IsCapturing, IsCleared, IsConnectedTo, IsOccupied}
-use Rattle.go_chains.specs.inner.Tables.{IsDead, IsStone, IsTidy, AreChainsWhole, Tables}
+use Rattle.go_chains.specs.inner.Tables.{IsDead, IsStone, IsTidy, AreChainsWhole, Tables, tables_of}
 use Rattle.go_chains.proofs.rules.Sound.{IsKept-tidy, alive-kept, tidy-kept, whole-kept}
 use Rattle.go_chains.proofs.tables.Capturing.{IsCapturing_none}
 use Rattle.go_chains.proofs.rules.Playing.{cleared_is, placed_is}

@@ -12,8 +12,8 @@ use Rattle.go_board.specs.Colours.{Colouring, colour_at}
 use Rattle.go_board.specs.Paths.{IsAdjacent, Joined, Leads}
 use Rattle.go_board.specs.Packs.{colour_coded}
 use Rattle.go_chains.specs.Rings.{steps, ring_from, IsOnRing}
-use Rattle.go_chains.specs.inner.Tables.{IsStone, Links, IsJoined, IsTidy, AreChainsWhole}
-use Rattle.go_chains.specs.Cells.{code_at, label_of, next_of, size_of, lib_of, tables_of}
+use Rattle.go_chains.specs.inner.Tables.{IsStone, Links, IsJoined, IsTidy, AreChainsWhole, tables_of}
+use Rattle.go_chains.specs.Cells.{code_at, label_of, next_of, size_of, lib_of}
 use Rattle.go_chains.specs.Sound.{IsChainLiberty, IsKept, IsSound, IsStoneOf, colouring_of}
 use Rattle.go_chains.proofs.tables.Whole.{label-linked}
 

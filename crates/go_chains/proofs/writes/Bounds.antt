@@ -3,9 +3,9 @@ use Rattle.std.proofs.Common.{ℕ, List, ◌*◌, ◌≡◌, ◌<◌, ◌≤◌,
 use Rattle.go_board.specs.lemmas.Squares.{square-le}
 use Rattle.go_board.specs.Paths.{IsAdjacent}
 use Rattle.go_board.specs.declared.size.TheConstants.{MAX_LINES, MAX_POINTS}
-use Rattle.go_chains.specs.Cells.{chain_size, code_at, tables_of}
+use Rattle.go_chains.specs.Cells.{chain_size, code_at}
 use Rattle.go_chains.specs.Rings.{steps}
-use Rattle.go_chains.specs.inner.Tables.{IsStone, IsTidy, Tables}
+use Rattle.go_chains.specs.inner.Tables.{IsStone, IsTidy, Tables, tables_of}
 use Rattle.go_chains.proofs.tables.Tidy.{size-le}
 
 module _ (n : ℕ) (adj : ℕ → ℕ → Type 0) (t : Tables) (small : n ≤ MAX_LINES) (tidy : IsTidy (n * n) adj t) (p : ℕ) (stone : IsStone (n * n) t p) where

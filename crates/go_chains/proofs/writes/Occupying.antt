@@ -6,9 +6,9 @@ use Rattle.go_board.specs.Paths.{IsAdjacent}
 use Rattle.go_board.specs.declared.size.TheConstants.{MAX_POINTS}
 use Rattle.go_chains.specs.declared.cells.TheConstants.{LABELS, LINKS, SIZES, LIBERTIES, WORDS}
 use Rattle.go_chains.specs.inner.Beside.{AreBeside}
-use Rattle.go_chains.specs.inner.Tables.{IsStone, IsTidy}
+use Rattle.go_chains.specs.inner.Tables.{IsStone, IsTidy, tables_of}
 use Rattle.go_chains.specs.inner.Steps.{IsOccupied}
-use Rattle.go_chains.specs.Cells.{IsWritten, code_at, label_of, lib_of, tables_of, word_of}
+use Rattle.go_chains.specs.Cells.{IsWritten, code_at, label_of, lib_of, word_of}
 use Rattle.go_chains.specs.inner.Writes.{IsDeprived, IsFilled, IsStoneBeside, MarksEmpty, mask_bit}
 use Rattle.go_chains.proofs.writes.Depriving.{unset}
 use Rattle.go_chains.proofs.writes.Neighbours.{flip}

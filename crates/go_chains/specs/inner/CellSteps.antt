@@ -2,9 +2,9 @@
 use Rattle.std.specs.Prelude.{ℕ, List, ◌≡◌, ◌≢◌, ◌<◌, ◌*◌, ◌⊎◌, length}
 use Rattle.go_board.specs.Paths.{IsAdjacent}
 use Rattle.go_board.specs.declared.size.TheConstants.{MAX_POINTS}
-use Rattle.go_chains.specs.Cells.{CellsValue, code_at, label_of, next_of, tables_of, words_for}
+use Rattle.go_chains.specs.Cells.{CellsValue, code_at, label_of, next_of, words_for}
 use Rattle.go_chains.specs.inner.Steps.{CountsTaken, IsCapturing, IsConnected, IsConnectedTo, IsJoin, IsOccupied, IsRemoved}
-use Rattle.go_chains.specs.inner.Tables.{IsDead, IsStone, IsTidy, AreChainsWhole, Tables}
+use Rattle.go_chains.specs.inner.Tables.{IsDead, IsStone, IsTidy, AreChainsWhole, Tables, tables_of}
 use Rattle.go_chains.specs.inner.Writes.{IsDeprived, IsFilled, IsGiven, IsGivenBeside, IsMerged, IsRelabelled, IsStoneBeside}
 
 -- the cells hold together

@@ -1,5 +1,6 @@
 -- What the cells of a board say, and when that holds together.
 use Rattle.std.specs.Prelude.{ℕ, List, [], ◌∷◌, ◌≡◌, ◌≢◌, ◌<◌}
+use Rattle.go_chains.specs.Cells.{code_at, label_of, lib_of, next_of, size_of}
 use Rattle.go_chains.specs.Rings.{IsRing, IsOnRing}
 
 -- what the cells of a board say: a colour is 0 for an empty point, and a liberty is 1
@@ -9,6 +10,16 @@ pub record Tables : Type 0 where
   pub next : ℕ → ℕ
   pub size : ℕ → ℕ
   pub lib : ℕ → ℕ → ℕ
+
+-- the tables that cells are
+abbrev pub tables_of : List ℕ → Tables
+tables_of cells = record {
+  colour = code_at cells;
+  label = label_of cells;
+  next = next_of cells;
+  size = size_of cells;
+  lib = lib_of cells;
+}
 
 -- a stone on one of the first n points
 abbrev pub IsStone : ℕ → Tables → ℕ → Type 0

@@ -1,8 +1,8 @@
 use Rattle.std.proofs.Common.{arith, ◌≡◌, ◌*◌, ℕ, subst, inl, inr, slice_index}
 use Rattle.std.proofs.lemmas.Bool.{cases_lt}
 use Rattle.go_board.specs.Paths.{IsAdjacent}
-use Rattle.go_chains.specs.Cells.{code_at, label_of, tables_of}
-use Rattle.go_chains.specs.inner.Tables.{IsDead}
+use Rattle.go_chains.specs.Cells.{code_at, label_of}
+use Rattle.go_chains.specs.inner.Tables.{IsDead, tables_of}
 use Rattle.go_chains.proofs.tables.Capturing.{IsCapturing_none}
 use Rattle.go_chains.proofs.writes.Editing.{Edited_then}
 use Rattle.go_chains.proofs.tables.Taking.{counts_then, stays_empty, still_dead, still_two}

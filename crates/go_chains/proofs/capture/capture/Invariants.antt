@@ -2,10 +2,10 @@ use Rattle.std.proofs.Common.{◌≡◌, ◌<◌, ◌≤◌, ◌+◌, ◌*◌, �
 use Rattle.go_board.specs.Paths.{IsAdjacent}
 use Rattle.go_board.specs.declared.size.TheConstants.{MAX_POINTS}
 use Rattle.go_chains.specs.declared.cells.TheConstants.{WORDS}
-use Rattle.go_chains.specs.Cells.{code_at, label_of, tables_of}
+use Rattle.go_chains.specs.Cells.{code_at, label_of}
 use Rattle.go_chains.specs.inner.Edits.{Edited}
 use Rattle.go_chains.specs.inner.Steps.{CountsTaken, IsCapturing}
-use Rattle.go_chains.specs.inner.Tables.{IsDead}
+use Rattle.go_chains.specs.inner.Tables.{IsDead, tables_of}
 use Rattle.go_chains.proofs.capture.capture.Given as goal
 
 abbrev pub invariant-loop-near : goal.invariant-loop-near

@@ -1,8 +1,8 @@
 use Rattle.std.proofs.Common.{arith, ◌≡◌, ◌*◌, ℕ, sym, ◌∙◌, subst}
 use Rattle.go_board.specs.Paths.{IsAdjacent}
-use Rattle.go_chains.specs.Cells.{code_at, tables_of}
+use Rattle.go_chains.specs.Cells.{code_at}
 use Rattle.go_chains.specs.inner.Steps.{CountsTaken}
-use Rattle.go_chains.specs.inner.Tables.{IsDead, IsStone}
+use Rattle.go_chains.specs.inner.Tables.{IsDead, IsStone, tables_of}
 use Rattle.go_chains.proofs.tables.Capturing.{IsCapturing_more}
 use Rattle.go_chains.proofs.writes.Editing.{Edited_none}
 use Rattle.go_chains.proofs.writes.Neighbours.{flip, inside}

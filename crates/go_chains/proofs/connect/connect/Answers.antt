@@ -1,5 +1,5 @@
 use Rattle.std.proofs.Common.{arith, ◌*◌, slice_index, refl}
-use Rattle.go_chains.specs.Cells.{tables_of}
+use Rattle.go_chains.specs.inner.Tables.{tables_of}
 use Rattle.go_chains.proofs.tables.Connecting.{IsConnectedTo_more}
 use Rattle.go_chains.proofs.writes.Editing.{Edited_then}
 use Rattle.go_chains.proofs.writes.Bounds.{size_still}

@@ -1,10 +1,10 @@
 use Rattle.std.proofs.Common.{◌+◌, ◌*◌}
 use Rattle.go_board.specs.Paths.{IsAdjacent}
 use Rattle.go_chains.specs.declared.cells.TheConstants.{WORDS}
-use Rattle.go_chains.specs.Cells.{growth, tables_of}
+use Rattle.go_chains.specs.Cells.{growth}
 use Rattle.go_chains.specs.inner.Edits.{Edited}
 use Rattle.go_chains.specs.inner.Steps.{IsConnectedTo}
-use Rattle.go_chains.specs.inner.Tables.{IsTidy}
+use Rattle.go_chains.specs.inner.Tables.{IsTidy, tables_of}
 use Rattle.go_chains.proofs.connect.connect.Given as goal
 
 abbrev pub invariant-loop-near : goal.invariant-loop-near

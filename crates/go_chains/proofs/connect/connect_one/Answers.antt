@@ -1,8 +1,8 @@
 use Rattle.std.proofs.Common.{arith, ◌≡◌, ◌<◌, ◌≤◌, ◌*◌, ℕ, ap, sym, ◌∙◌, List}
 use Rattle.go_board.specs.Paths.{IsAdjacent}
 use Rattle.go_board.specs.declared.size.TheConstants.{MAX_LINES, MAX_POINTS}
-use Rattle.go_chains.specs.Cells.{chain_size, code_at, label_of, size_of, tables_of}
-use Rattle.go_chains.specs.inner.Tables.{IsStone, IsTidy}
+use Rattle.go_chains.specs.Cells.{chain_size, code_at, label_of, size_of}
+use Rattle.go_chains.specs.inner.Tables.{IsStone, IsTidy, tables_of}
 use Rattle.go_chains.proofs.tables.Connecting.{IsConnected-first, IsConnected-second, beside_stone, grown-second}
 use Rattle.go_chains.proofs.writes.Editing.{Edited_none, Edited_within}
 use Rattle.go_chains.proofs.tables.Joining.{IsTidy-join}

@@ -2,7 +2,8 @@ use Rattle.std.proofs.Common.{arith, ◌≡◌, ◌+◌, ℕ, ap, sym, ◌∙◌
 use Rattle.go_board.specs.lemmas.Squares.{square-le}
 use Rattle.go_board.specs.Paths.{IsAdjacent}
 use Rattle.go_chains.specs.declared.cells.TheConstants.{LINKS}
-use Rattle.go_chains.specs.Cells.{label_of, next_of, size_of, tables_of}
+use Rattle.go_chains.specs.Cells.{label_of, next_of, size_of}
+use Rattle.go_chains.specs.inner.Tables.{tables_of}
 use Rattle.go_chains.specs.inner.Writes.{IsRingLifted}
 use Rattle.go_chains.proofs.writes.Lifting.{IsRemoved_ring, IsRingLifted_more, is_next, ring_point}
 use Rattle.go_chains.proofs.writes.Editing.{Edited_then}

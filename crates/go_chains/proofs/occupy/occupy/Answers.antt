@@ -3,7 +3,8 @@ use Rattle.go_board.specs.lemmas.Squares.{square-le}
 use Rattle.std.proofs.lemmas.List.{get_or_default}
 use Rattle.go_board.specs.Paths.{IsAdjacent}
 use Rattle.go_board.specs.declared.size.TheConstants.{MAX_POINTS}
-use Rattle.go_chains.specs.Cells.{code_at, label_of, tables_of, words_for}
+use Rattle.go_chains.specs.Cells.{code_at, label_of, words_for}
+use Rattle.go_chains.specs.inner.Tables.{tables_of}
 use Rattle.go_chains.proofs.writes.Occupying.{IsOccupied_written}
 use Rattle.go_chains.proofs.writes.Editing.{Edited_next, Edited_within}
 use Rattle.go_chains.proofs.writes.Bounds.{label_small}

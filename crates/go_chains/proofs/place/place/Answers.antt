@@ -1,6 +1,6 @@
 use Rattle.std.proofs.Common.{arith, ◌*◌, inl, inr, refl, sym}
 use Rattle.go_board.specs.Paths.{IsAdjacent}
-use Rattle.go_chains.specs.Cells.{tables_of}
+use Rattle.go_chains.specs.inner.Tables.{tables_of}
 use Rattle.go_chains.specs.Playing.{stones_beside, stones_captured}
 use Rattle.go_chains.specs.Sound.{colouring_of}
 use Rattle.go_chains.proofs.rules.Sound.{tidy-kept}
