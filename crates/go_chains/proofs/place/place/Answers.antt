@@ -1,4 +1,4 @@
-use Rattle.std.proofs.Common.{arith, ◌*◌, inl, inr, refl, sym}
+use Rattle.std.proofs.Common.{arith, ◌*◌, inl, inr, sym}
 use Rattle.go_board.specs.Paths.{IsAdjacent}
 use Rattle.go_chains.specs.inner.Tables.{tables_of}
 use Rattle.go_chains.specs.Playing.{stones_beside, stones_captured}
@@ -22,48 +22,31 @@ connect-requires-clause-tidy g c =
 
 pub capture-theirs-requires-clause-whole : goal.capture-theirs-requires-clause-whole
 capture-theirs-requires-clause-whole g c =
-    let n = c.args.size in
-    let old = c.args.cells.now.numbers in
-    let p = c.args.point in
-    let own = c.code-own.result in
-    let theirs = c.code-other.result in
-    let beside = c.args.near.now in
-    let b = begins n old p c.args.colour c.other.result own theirs c.requires.kept c.requires.point c.requires.empty c.code-own.ensures.value c.code-own.ensures.range c.other.ensures c.code-other.ensures.value c.code-other.ensures.range in
-    let j = joins n old c.occupy.new.cells.numbers c.connect.new.cells.numbers p own beside beside c.requires.near refl c.occupy.ensures.occupied c.connect.ensures.connected c.connect.ensures.tidy in
-    whole_of n old c.occupy.new.cells.numbers c.connect.new.cells.numbers p c.args.colour own theirs beside b j
+    let b = begins c.requires.kept c.requires.point c.requires.empty c.code-own.ensures.value c.code-own.ensures.range c.other.ensures c.code-other.ensures.value c.code-other.ensures.range in
+    let j = joins c.requires.near c.occupy.ensures.occupied c.connect.ensures.connected c.connect.ensures.tidy in
+    whole_of b j
 
 pub capture-theirs-requires-clause-colours : goal.capture-theirs-requires-clause-colours
 capture-theirs-requires-clause-colours g c =
-    let n = c.args.size in
-    let old = c.args.cells.now.numbers in
-    let p = c.args.point in
-    let own = c.code-own.result in
-    let theirs = c.code-other.result in
-    let beside = c.args.near.now in
-    let b = begins n old p c.args.colour c.other.result own theirs c.requires.kept c.requires.point c.requires.empty c.code-own.ensures.value c.code-own.ensures.range c.other.ensures c.code-other.ensures.value c.code-other.ensures.range in
-    let j = joins n old c.occupy.new.cells.numbers c.connect.new.cells.numbers p own beside beside c.requires.near refl c.occupy.ensures.occupied c.connect.ensures.connected c.connect.ensures.tidy in
+    let b = begins c.requires.kept c.requires.point c.requires.empty c.code-own.ensures.value c.code-own.ensures.range c.other.ensures c.code-other.ensures.value c.code-other.ensures.range in
+    let j = joins c.requires.near c.occupy.ensures.occupied c.connect.ensures.connected c.connect.ensures.tidy in
     record {
       own_some = b.theirs_range.0;
       other_some = b.own_range.0;
-      apart = differ n old p c.args.colour own theirs b;
-      two = two_then n old c.occupy.new.cells.numbers c.connect.new.cells.numbers p c.args.colour own theirs beside b j;
+      apart = differ b;
+      two = two_then b j;
     }
 
 pub take_one-taken-requires-clause-colours : goal.take_one-taken-requires-clause-colours
 take_one-taken-requires-clause-colours g c =
+    let b = begins c.requires.kept c.requires.point c.requires.empty c.code-own.ensures.value c.code-own.ensures.range c.other.ensures c.code-other.ensures.value c.code-other.ensures.range in
+    let j = joins c.requires.near c.occupy.ensures.occupied c.connect.ensures.connected c.connect.ensures.tidy in
     let n = c.args.size in
-    let old = c.args.cells.now.numbers in
-    let p = c.args.point in
-    let own = c.code-own.result in
-    let theirs = c.code-other.result in
-    let beside = c.args.near.now in
-    let b = begins n old p c.args.colour c.other.result own theirs c.requires.kept c.requires.point c.requires.empty c.code-own.ensures.value c.code-own.ensures.range c.other.ensures c.code-other.ensures.value c.code-other.ensures.range in
-    let j = joins n old c.occupy.new.cells.numbers c.connect.new.cells.numbers p own beside beside c.requires.near refl c.occupy.ensures.occupied c.connect.ensures.connected c.connect.ensures.tidy in
     record {
       own_some = b.own_range.0;
       other_some = b.theirs_range.0;
-      apart = λ same. differ n old p c.args.colour own theirs b (sym same);
-      two = (λ s stone. elim (still_two (n * n) (IsAdjacent n) (tables_of c.connect.new.cells.numbers) (tables_of c.capture-theirs.new.cells.numbers) theirs own c.capture-theirs.ensures.capturing (two_then n old c.occupy.new.cells.numbers c.connect.new.cells.numbers p c.args.colour own theirs beside b j) s stone) [
+      apart = λ same. differ b (sym same);
+      two = (λ s stone. elim (still_two (n * n) (IsAdjacent n) (tables_of c.connect.new.cells.numbers) (tables_of c.capture-theirs.new.cells.numbers) c.code-other.result c.code-own.result c.capture-theirs.ensures.capturing (two_then b j) s stone) [
         | inl is ↦ inr is
         | inr is ↦ inl is
       ]);
@@ -71,72 +54,44 @@ take_one-taken-requires-clause-colours g c =
 
 pub returns-clause-kept : goal.returns-clause-kept
 returns-clause-kept g c =
-    let n = c.args.size in
-    let old = c.args.cells.now.numbers in
-    let p = c.args.point in
-    let own = c.code-own.result in
-    let theirs = c.code-other.result in
-    let beside = c.args.near.now in
-    let b = begins n old p c.args.colour c.other.result own theirs c.requires.kept c.requires.point c.requires.empty c.code-own.ensures.value c.code-own.ensures.range c.other.ensures c.code-other.ensures.value c.code-other.ensures.range in
-    let j = joins n old c.occupy.new.cells.numbers c.connect.new.cells.numbers p own beside beside c.requires.near refl c.occupy.ensures.occupied c.connect.ensures.connected c.connect.ensures.tidy in
-    let t = takes n c.connect.new.cells.numbers c.capture-theirs.new.cells.numbers c.take_one-taken.new.cells.numbers p own theirs beside c.capture-theirs.ensures.capturing c.capture-theirs.ensures.gone c.take_one-taken.ensures.capturing c.take_one-taken.ensures.gone in
-    kept_end n old c.occupy.new.cells.numbers c.connect.new.cells.numbers c.capture-theirs.new.cells.numbers c.take_one-taken.new.cells.numbers p c.args.colour own theirs beside b j t
+    let b = begins c.requires.kept c.requires.point c.requires.empty c.code-own.ensures.value c.code-own.ensures.range c.other.ensures c.code-other.ensures.value c.code-other.ensures.range in
+    let j = joins c.requires.near c.occupy.ensures.occupied c.connect.ensures.connected c.connect.ensures.tidy in
+    let t = takes c.capture-theirs.ensures.capturing c.capture-theirs.ensures.gone c.take_one-taken.ensures.capturing c.take_one-taken.ensures.gone in
+    kept_end b j t
 
 pub returns-clause-colours : goal.returns-clause-colours
 returns-clause-colours g c =
-    let n = c.args.size in
-    let old = c.args.cells.now.numbers in
-    let p = c.args.point in
-    let own = c.code-own.result in
-    let theirs = c.code-other.result in
-    let beside = c.args.near.now in
-    let b = begins n old p c.args.colour c.other.result own theirs c.requires.kept c.requires.point c.requires.empty c.code-own.ensures.value c.code-own.ensures.range c.other.ensures c.code-other.ensures.value c.code-other.ensures.range in
-    let j = joins n old c.occupy.new.cells.numbers c.connect.new.cells.numbers p own beside beside c.requires.near refl c.occupy.ensures.occupied c.connect.ensures.connected c.connect.ensures.tidy in
-    let t = takes n c.connect.new.cells.numbers c.capture-theirs.new.cells.numbers c.take_one-taken.new.cells.numbers p own theirs beside c.capture-theirs.ensures.capturing c.capture-theirs.ensures.gone c.take_one-taken.ensures.capturing c.take_one-taken.ensures.gone in
-    moved_end n old c.occupy.new.cells.numbers c.connect.new.cells.numbers c.capture-theirs.new.cells.numbers c.take_one-taken.new.cells.numbers p c.args.colour own theirs beside b j t c.reaches_by_a_path.ensures
+    let b = begins c.requires.kept c.requires.point c.requires.empty c.code-own.ensures.value c.code-own.ensures.range c.other.ensures c.code-other.ensures.value c.code-other.ensures.range in
+    let j = joins c.requires.near c.occupy.ensures.occupied c.connect.ensures.connected c.connect.ensures.tidy in
+    let t = takes c.capture-theirs.ensures.capturing c.capture-theirs.ensures.gone c.take_one-taken.ensures.capturing c.take_one-taken.ensures.gone in
+    moved_end b j t c.reaches_by_a_path.ensures
 
 pub returns-clause-theirs : goal.returns-clause-theirs
 returns-clause-theirs g c =
-    let n = c.args.size in
-    let old = c.args.cells.now.numbers in
-    let p = c.args.point in
-    let own = c.code-own.result in
-    let theirs = c.code-other.result in
-    let beside = c.args.near.now in
-    let b = begins n old p c.args.colour c.other.result own theirs c.requires.kept c.requires.point c.requires.empty c.code-own.ensures.value c.code-own.ensures.range c.other.ensures c.code-other.ensures.value c.code-other.ensures.range in
-    let j = joins n old c.occupy.new.cells.numbers c.connect.new.cells.numbers p own beside beside c.requires.near refl c.occupy.ensures.occupied c.connect.ensures.connected c.connect.ensures.tidy in
-    let t = takes n c.connect.new.cells.numbers c.capture-theirs.new.cells.numbers c.take_one-taken.new.cells.numbers p own theirs beside c.capture-theirs.ensures.capturing c.capture-theirs.ensures.gone c.take_one-taken.ensures.capturing c.take_one-taken.ensures.gone in
-    theirs_end n old c.occupy.new.cells.numbers c.connect.new.cells.numbers c.capture-theirs.new.cells.numbers c.take_one-taken.new.cells.numbers p c.args.colour own theirs beside b j t c.capture-theirs.result c.capture-theirs.ensures.stones
+    let b = begins c.requires.kept c.requires.point c.requires.empty c.code-own.ensures.value c.code-own.ensures.range c.other.ensures c.code-other.ensures.value c.code-other.ensures.range in
+    let j = joins c.requires.near c.occupy.ensures.occupied c.connect.ensures.connected c.connect.ensures.tidy in
+    let t = takes c.capture-theirs.ensures.capturing c.capture-theirs.ensures.gone c.take_one-taken.ensures.capturing c.take_one-taken.ensures.gone in
+    theirs_end b j t c.capture-theirs.result c.capture-theirs.ensures.stones
 
 pub returns-clause-own : goal.returns-clause-own
 returns-clause-own g c =
-    let n = c.args.size in
-    let old = c.args.cells.now.numbers in
-    let p = c.args.point in
-    let own = c.code-own.result in
-    let theirs = c.code-other.result in
-    let beside = c.args.near.now in
-    let b = begins n old p c.args.colour c.other.result own theirs c.requires.kept c.requires.point c.requires.empty c.code-own.ensures.value c.code-own.ensures.range c.other.ensures c.code-other.ensures.value c.code-other.ensures.range in
-    let j = joins n old c.occupy.new.cells.numbers c.connect.new.cells.numbers p own beside beside c.requires.near refl c.occupy.ensures.occupied c.connect.ensures.connected c.connect.ensures.tidy in
-    let t = takes n c.connect.new.cells.numbers c.capture-theirs.new.cells.numbers c.take_one-taken.new.cells.numbers p own theirs beside c.capture-theirs.ensures.capturing c.capture-theirs.ensures.gone c.take_one-taken.ensures.capturing c.take_one-taken.ensures.gone in
-    own_end n old c.occupy.new.cells.numbers c.connect.new.cells.numbers c.capture-theirs.new.cells.numbers c.take_one-taken.new.cells.numbers p c.args.colour own theirs beside b j t c.take_one-taken.result c.take_one-taken.ensures.stones
+    let b = begins c.requires.kept c.requires.point c.requires.empty c.code-own.ensures.value c.code-own.ensures.range c.other.ensures c.code-other.ensures.value c.code-other.ensures.range in
+    let j = joins c.requires.near c.occupy.ensures.occupied c.connect.ensures.connected c.connect.ensures.tidy in
+    let t = takes c.capture-theirs.ensures.capturing c.capture-theirs.ensures.gone c.take_one-taken.ensures.capturing c.take_one-taken.ensures.gone in
+    own_end b j t c.take_one-taken.result c.take_one-taken.ensures.stones
 
 pub returns-clause-edited : goal.returns-clause-edited
 returns-clause-edited g c =
+    let b = begins c.requires.kept c.requires.point c.requires.empty c.code-own.ensures.value c.code-own.ensures.range c.other.ensures c.code-other.ensures.value c.code-other.ensures.range in
+    let j = joins c.requires.near c.occupy.ensures.occupied c.connect.ensures.connected c.connect.ensures.tidy in
+    let t = takes c.capture-theirs.ensures.capturing c.capture-theirs.ensures.gone c.take_one-taken.ensures.capturing c.take_one-taken.ensures.gone in
     let n = c.args.size in
-    let old = c.args.cells.now.numbers in
-    let p = c.args.point in
-    let own = c.code-own.result in
-    let theirs = c.code-other.result in
-    let beside = c.args.near.now in
-    let b = begins n old p c.args.colour c.other.result own theirs c.requires.kept c.requires.point c.requires.empty c.code-own.ensures.value c.code-own.ensures.range c.other.ensures c.code-other.ensures.value c.code-other.ensures.range in
-    let j = joins n old c.occupy.new.cells.numbers c.connect.new.cells.numbers p own beside beside c.requires.near refl c.occupy.ensures.occupied c.connect.ensures.connected c.connect.ensures.tidy in
-    let t = takes n c.connect.new.cells.numbers c.capture-theirs.new.cells.numbers c.take_one-taken.new.cells.numbers p own theirs beside c.capture-theirs.ensures.capturing c.capture-theirs.ensures.gone c.take_one-taken.ensures.capturing c.take_one-taken.ensures.gone in
-    let m = stones_beside n (colouring_of n old) c.args.colour p in
-    let taken = stones_captured n (colouring_of n old) c.args.colour p in
-    let joined = size_then n old c.occupy.new.cells.numbers c.connect.new.cells.numbers p c.args.colour own theirs beside b j c.joined_by_a_path.ensures in
-    let captured = size_end n old c.occupy.new.cells.numbers c.connect.new.cells.numbers c.capture-theirs.new.cells.numbers c.take_one-taken.new.cells.numbers p c.args.colour own theirs beside b j t c.joined_by_a_path.ensures in
-    let taken_is = taken_end n old c.occupy.new.cells.numbers c.connect.new.cells.numbers c.capture-theirs.new.cells.numbers c.take_one-taken.new.cells.numbers p c.args.colour own theirs beside b j t c.reaches_by_a_path.ensures c.capture-theirs.result (theirs_end n old c.occupy.new.cells.numbers c.connect.new.cells.numbers c.capture-theirs.new.cells.numbers c.take_one-taken.new.cells.numbers p c.args.colour own theirs beside b j t c.capture-theirs.result c.capture-theirs.ensures.stones) in
+    let old = colouring_of n c.args.cells.now.numbers in
+    let m = stones_beside n old c.args.colour c.args.point in
+    let taken = stones_captured n old c.args.colour c.args.point in
+    let joined = size_then b j c.joined_by_a_path.ensures in
+    let captured = size_end b j t c.joined_by_a_path.ensures in
+    let taken_is = taken_end b j t c.reaches_by_a_path.ensures c.capture-theirs.result (theirs_end b j t c.capture-theirs.result c.capture-theirs.ensures.stones) in
     let bound = c.take_one-taken.ensures.bound in
     let one = Edited_next c.occupy.ensures.edited c.connect.ensures.edited (omega arith) in
     let two = Edited_next one c.capture-theirs.ensures.edited (omega arith) in
