@@ -5,9 +5,11 @@ ghost use Rattle.clap.specs.Matches.{found_of};
 ghost use Rattle.clap.specs.Simple.{app_of, subcommand_rows_of};
 ghost use Rattle.clap.specs.Values.{kind_of};
 ghost use Rattle.clap.specs.Walk.{Row, Text, one_of, rows_of, rule_of};
+ghost use Rattle.clap.specs.declared.builder.command.Command.TheViews.{out-Command};
 ghost use Rattle.clap.specs.declared.error.kind.ErrorKind.{ErrorKind};
 ghost use Rattle.goref_words.specs.Words.{Asks, HasSize, IsPlainMatch, IsPlainUse, IsSize};
-ghost use Rattle.goref_words.specs.Words.{Means, program, size_option, texts_of};
+ghost use Rattle.goref_words.specs.Words.{Means, gtp_command, judge_command, program, size_option};
+ghost use Rattle.goref_words.specs.Words.{texts_of, tidy_command};
 
 use clap::error::ErrorKind;
 use clap::{Arg, ArgMatches, Command, Error, value_parser};
@@ -45,23 +47,42 @@ pub fn task_of<'a>(alloc: Global, words: &'a [&'a str]) -> Result<Task, Error>
 fn program_command<'a>(alloc: Global) -> Result<Command<'a>, AllocError>
     ensures { IfOk result (λ c. app_of c ≡ program) }
 {
-    let gtp = Command::new(alloc, "gtp")
-        .about("Answers the commands of the Go Text Protocol, version 2")
-        .after_help("Example: goref gtp --size 9")
-        .arg(size_argument(alloc))?;
-    let judge = Command::new(alloc, "judge")
-        .about("Replays a record in SGF, and writes its score and whether it states that score")
-        .after_help("Example: goref judge < game.sgf");
-    let tidy = Command::new(alloc, "tidy")
-        .about("Reads a record in SGF, and writes it in its one canonical spelling")
-        .after_help("Example: goref tidy < game.sgf");
+    let gtp = gtp_subcommand(alloc)?;
     Command::new(alloc, "goref")
         .version("1.0")
         .about("A Go engine and referee for the Tromp-Taylor rules")
         .subcommand_required(true)
         .subcommand(gtp)?
-        .subcommand(judge)?
-        .subcommand(tidy)
+        .subcommand(judge_subcommand(alloc))?
+        .subcommand(tidy_subcommand(alloc))
+}
+
+fn gtp_subcommand<'a>(alloc: Global) -> Result<Command<'a>, AllocError>
+    ensures command { IfOk result (λ c. app_of c ≡ gtp_command) }
+    ensures local { IfOk result (λ c. (out-Command c).has_globals ≡ false) }
+{
+    Command::new(alloc, "gtp")
+        .about("Answers the commands of the Go Text Protocol, version 2")
+        .after_help("Example: goref gtp --size 9")
+        .arg(size_argument(alloc))
+}
+
+fn judge_subcommand<'a>(alloc: Global) -> Command<'a>
+    ensures command { app_of result ≡ judge_command }
+    ensures local { (out-Command result).has_globals ≡ false }
+{
+    Command::new(alloc, "judge")
+        .about("Replays a record in SGF, and writes its score and whether it states that score")
+        .after_help("Example: goref judge < game.sgf")
+}
+
+fn tidy_subcommand<'a>(alloc: Global) -> Command<'a>
+    ensures command { app_of result ≡ tidy_command }
+    ensures local { (out-Command result).has_globals ≡ false }
+{
+    Command::new(alloc, "tidy")
+        .about("Reads a record in SGF, and writes it in its one canonical spelling")
+        .after_help("Example: goref tidy < game.sgf")
 }
 
 /// The option `--size`.
