@@ -8,6 +8,7 @@ use crate::rows::{
     KO_AFTER_PASSES, LOAD, PRINTED, REPETITION, Row,
 };
 use go_board::Size;
+use goref::Session;
 use goref_runs::run_within;
 use std::alloc::Global;
 use std::cell::Cell;
@@ -25,8 +26,8 @@ fn meets_request(rt: &impl Abort, alloc: Global, row: Row, number: u64) -> bool 
     let mut reader = Resending::new(row.script, &asks_again);
     let mut writer = Sifting::new(alloc, &asks_again);
     let mut shelf = OneFile::named(b"f", &failing, Gift::Bytes(HANDICAP_GAME));
-    let size = Size::new(19).expect(rt, "a size");
-    let end = run_within(READS, &failing, size, &mut reader, &mut writer, &mut shelf);
+    let mut session = Session::new(&failing, Size::new(19).expect(rt, "a size"));
+    let end = run_within(READS, &mut session, &mut reader, &mut writer, &mut shelf);
     assert!(rt; end == Ok(()), "request {number}");
     assert!(rt; writer.kept() == row.answers, "request {number}");
     let is_met = !failing.waits();

@@ -250,7 +250,8 @@ fn ends_within(
     reader: &mut Reader<'_>,
     writer: &mut Writer<Global>,
 ) -> Result<(), RunError> {
-    run_within(limit, alloc, usual(rt), reader, writer, &mut NoFiles)
+    let mut session = Session::new(alloc, usual(rt));
+    run_within(limit, &mut session, reader, writer, &mut NoFiles)
 }
 
 /// Asserts how a run of `undo`, one byte at a time, ends within so many reads.
