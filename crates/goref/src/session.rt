@@ -86,13 +86,13 @@ impl<A: Allocator + Copy> Session<A> {
             return (id_of_cut(text), Decision::Refused(Refusal::LineTooLong));
         }
         let request = Request::of(text);
-        let decision = self.decide(&request, fetched);
+        let decision = self.decide(&request, &fetched);
         (request.id(), decision)
     }
 
     /// Decides on the command that is asked for.
-    fn decide(&mut self, request: &Request, fetched: Fetched<A>) -> Decision
-        ensures { Decides self.old request.now (content_of fetched)
+    fn decide(&mut self, request: &Request, fetched: &Fetched<A>) -> Decision
+        ensures { Decides self.old request.now (content_of fetched.now)
             (record { decision = result; standing = self.new }) }
     {
         let alloc = self.alloc;

@@ -1,5 +1,6 @@
 //! What each task does on its streams.
 use crate::ends::Fault;
+use go_board::{Sink, Source};
 use goref_runs::{Shelf, run};
 use goref_streams::{Input, Output};
 use goref_tools::{judge_run, tidy_run};
@@ -16,12 +17,27 @@ pub fn obeyed<A: Allocator + Copy, R: Read + Drop, W: Write + Drop, S: Shelf<A>>
     output: W,
     shelf: &mut S,
 ) -> Result<(), Fault> {
-    let mut input = Input::new(input);
-    let mut output = Output::new(output);
+    done(
+        alloc,
+        task,
+        &mut Input::new(input),
+        &mut Output::new(output),
+        shelf,
+    )
+}
+
+/// Does a task on devices.
+fn done<A: Allocator + Copy, R: Source, W: Sink, S: Shelf<A>>(
+    alloc: A,
+    task: Task,
+    input: &mut R,
+    output: &mut W,
+    shelf: &mut S,
+) -> Result<(), Fault> {
     match task {
-        Task::Gtp(size) => run(alloc, size, &mut input, &mut output, shelf)?,
-        Task::Judge => judge_run(alloc, &mut input, &mut output)?,
-        Task::Tidy => tidy_run(alloc, &mut input, &mut output)?,
+        Task::Gtp(size) => run(alloc, size, input, output, shelf)?,
+        Task::Judge => judge_run(alloc, input, output)?,
+        Task::Tidy => tidy_run(alloc, input, output)?,
     }
     Ok(())
 }

@@ -54,9 +54,9 @@ pub fn decide_load<A: Allocator + Copy>(
     spare: &mut Game<A>,
     alloc: A,
     request: &Request,
-    fetched: Fetched<A>,
+    fetched: &Fetched<A>,
 ) -> Decision
-    ensures { DecidesLoad game.old.standing (load_of request.now.arguments) (content_of fetched)
+    ensures { DecidesLoad game.old.standing (load_of request.now.arguments) (content_of fetched.now)
         (record { decision = result; standing = game.new.standing }) }
 {
     match load_asked(request) {
@@ -69,10 +69,10 @@ fn decide_fetched<A: Allocator + Copy>(
     game: &mut Game<A>,
     spare: &mut Game<A>,
     alloc: A,
-    fetched: Fetched<A>,
+    fetched: &Fetched<A>,
     number: Option<u32>,
 ) -> Decision
-    ensures { DecidesContent game.old.standing (content_of fetched) number
+    ensures { DecidesContent game.old.standing (content_of fetched.now) number
         (record { decision = result; standing = game.new.standing }) }
 {
     match fetched {
