@@ -13,8 +13,9 @@ use go_sgf::{Collection, cook_simple, hundredths_of, trim};
 use std::alloc::{AllocError, Allocator};
 
 /// The verdict on a record: its game's moves and margin, and whether that is the margin that its RE
-/// states. `0` and `Draw` state none, `B+` and `W+` before a number with at most two decimals that
-/// much, and anything else states nothing. It refuses what [`replay`] without a number refuses.
+/// states. `0` and `Draw` state an even score, `B+` and `W+` before a number with at most two
+/// decimals that margin, and anything else states none. It refuses what [`replay`] without a number
+/// refuses.
 pub fn judge<A: Allocator + Copy>(
     alloc: A,
     collection: &Collection<'_, A>,
@@ -23,8 +24,8 @@ pub fn judge<A: Allocator + Copy>(
     ensures err { IfErr result
         (λ e. e ≢ Memory → IsGameOf (collection_of collection.now) None (Err e)) }
 {
-    let game = replay(alloc, collection, None)?;
     let stated = margin_stated(alloc, collection)?;
+    let game = replay(alloc, collection, None)?;
     let margin = game.margin();
     Ok(Verdict {
         moves: game.move_count(),
