@@ -1,4 +1,5 @@
 //! When the tools stop reading, and what they pass on.
+use crate::tools::Tool;
 use go_sgf::SgfError;
 use goref_tools::{ToolError, judge_run, read_input, tidy_run};
 use std::alloc::{Allocator, Global};
@@ -9,24 +10,6 @@ use test_allocator::Failing;
 use test_devices::{HoldingWriter, Reader, Writer};
 
 const SAMPLE: &[u8] = b"(;GM[1]SZ[9]KM[6.5]RE[B+74.5];B[ee])";
-
-/// One of the tools.
-#[derive(Clone, Copy)]
-enum Tool {
-    Tidy,
-    Judge,
-}
-
-impl Tool {
-    /// How a run ends.
-    fn ends(self, alloc: Global, reader: &mut Reader<'_>) -> Result<(), ToolError> {
-        let mut writer = Writer::new(alloc);
-        match self {
-            Tool::Tidy => tidy_run(alloc, reader, &mut writer),
-            Tool::Judge => judge_run(alloc, reader, &mut writer),
-        }
-    }
-}
 
 /// Asserts how both tools end on what is read in pieces of this length at most, and how often they
 /// met the end of it.
@@ -40,7 +23,7 @@ fn meet_ends(
 ) {
     for tool in [Tool::Tidy, Tool::Judge] {
         let mut reader = Reader::new(source).in_pieces_of(most);
-        assert!(rt; tool.ends(alloc, &mut reader) == end);
+        assert!(rt; tool.run(alloc, &mut reader, &mut Writer::new(alloc)) == end);
         assert!(rt; reader.end_count() == count);
     }
 }
@@ -77,7 +60,8 @@ fn a_longer_input_is_not(rt: HostRuntime) -> Result<(), Fail> {
 fn nothing_is_read_behind_a_fault(rt: HostRuntime) {
     for tool in [Tool::Tidy, Tool::Judge] {
         let mut reader = Reader::new(SAMPLE).in_pieces_of(5).failing_at(3);
-        assert!(rt; tool.ends(rt.alloc(), &mut reader) == Err(ToolError::Read));
+        let end = tool.run(rt.alloc(), &mut reader, &mut Writer::new(rt.alloc()));
+        assert!(rt; end == Err(ToolError::Read));
         assert!(rt; reader.pull_count() == 3);
     }
 }

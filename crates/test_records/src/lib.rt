@@ -13,3 +13,5 @@ mod records;
 mod replays;
 #[cfg(test)]
 mod tidying;
+#[cfg(test)]
+mod tools;

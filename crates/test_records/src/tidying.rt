@@ -1,56 +1,22 @@
+use crate::tools::{Tool, told};
 use go_sgf::SgfError;
-use goref_tools::{ToolError, tidy_run};
-use std::alloc::{AllocError, Allocator, Global};
+use goref_tools::ToolError;
+use std::alloc::{AllocError, Global};
 use std::process::Abort;
-use test_allocator::Failing;
 use test_devices::{Reader, Writer};
 
 const SAMPLE: &[u8] = b"x(;GM[1] FF[4] ;B[aa](;W[bb])(;W[cc]C[a\\]b]))";
 
 const TIDY: &[u8] = b"(;GM[1]FF[4];B[aa](;W[bb])(;W[cc]C[a\\]b]))\n";
 
-/// Tidies what is read, and writes it.
-fn tidying<A: Allocator + Copy>(
-    alloc: A,
-    reader: &mut Reader<'_>,
-    writer: &mut Writer<Global>,
-) -> Result<(), ToolError> {
-    tidy_run(alloc, reader, writer)
-}
-
-/// Asserts what a record is written as, however it is read and written, with one flush.
+/// Asserts what a record is written as.
 pub(crate) fn tidied(rt: &impl Abort, alloc: Global, source: &[u8], text: &[u8]) {
-    for (most, least) in [(1, 4_096), (2, 1), (7, 3), (4_096, 7)] {
-        tidied_in_pieces(rt, alloc, source, most, least, text);
-    }
+    Tool::Tidy.writes(rt, alloc, source, text);
 }
 
-/// Asserts what a record is written as that is read and written in pieces of these lengths.
-fn tidied_in_pieces(
-    rt: &impl Abort,
-    alloc: Global,
-    source: &[u8],
-    most: usize,
-    least: usize,
-    text: &[u8],
-) {
-    let mut reader = Reader::new(source).in_pieces_of(most);
-    let mut writer = Writer::new(alloc).in_pieces_of(least);
-    assert!(rt; tidying(alloc, &mut reader, &mut writer).is_ok());
-    assert!(rt; writer.bytes() == text);
-    assert!(rt; writer.flush_count() == 1);
-}
-
-/// Asserts why nothing is written of what is read.
-fn fails(rt: &impl Abort, alloc: Global, mut reader: Reader<'_>, fault: ToolError) {
-    let mut writer = Writer::new(alloc);
-    assert!(rt; tidying(alloc, &mut reader, &mut writer) == Err(fault));
-    assert!(rt; writer.put_count() == 0 && writer.flush_count() == 0);
-}
-
-/// Asserts what a source is refused with, and that nothing is written of it.
+/// Asserts what a source is refused with.
 fn refused(rt: &impl Abort, alloc: Global, source: &[u8], why: SgfError) {
-    fails(rt, alloc, Reader::new(source), ToolError::Sgf(why));
+    Tool::Tidy.fails(rt, alloc, Reader::new(source), ToolError::Sgf(why));
 }
 
 #[test]
@@ -82,7 +48,7 @@ fn tree_behind(alloc: Global, spaces: usize) -> Result<Vec<u8>, AllocError> {
 fn tree_alone(rt: &impl Abort, alloc: Global, spaces: usize) {
     let source = tree_behind(alloc, spaces).expect(rt, "memory");
     let mut writer = Writer::new(alloc);
-    let end = tidying(alloc, &mut Reader::new(source.as_slice()), &mut writer);
+    let end = Tool::Tidy.run(alloc, &mut Reader::new(source.as_slice()), &mut writer);
     assert!(rt; end == Ok(()));
     assert!(rt; writer.bytes() == b"(;)\n".as_slice());
 }
@@ -97,7 +63,7 @@ fn too_long(rt: &impl Abort, alloc: Global, spaces: usize) {
 fn pulls_of_too_long(rt: &impl Abort, alloc: Global, spaces: usize) -> u64 {
     let source = tree_behind(alloc, spaces).expect(rt, "memory");
     let mut reader = Reader::new(source.as_slice()).in_pieces_of(4_096);
-    let end = tidying(alloc, &mut reader, &mut Writer::new(alloc));
+    let end = Tool::Tidy.run(alloc, &mut reader, &mut Writer::new(alloc));
     assert!(rt; end == Err(ToolError::Sgf(SgfError::TooLong)));
     reader.pull_count()
 }
@@ -110,66 +76,15 @@ fn records_at_the_limit(rt: HostRuntime) {
     assert!(rt; pulls_of_too_long(&rt, alloc, 16_785_408) == 4_097);
 }
 
-/// Asserts that a run fails at its writer, which takes so many bytes of the record.
-fn takes(rt: &impl Abort, alloc: Global, mut writer: Writer<Global>, count: u64) {
-    let end = tidying(alloc, &mut Reader::new(SAMPLE), &mut writer);
-    assert!(rt; end == Err(ToolError::Write));
-    assert!(rt; TIDY.starts_with(writer.bytes()));
-    assert!(rt; writer.bytes().len() as u64 == count);
-}
-
 #[test]
 fn failing_devices(rt: HostRuntime) {
-    let alloc = rt.alloc();
-    for pull in 1..=46u64 {
-        let reader = Reader::new(SAMPLE).in_pieces_of(1).failing_at(pull);
-        fails(&rt, alloc, reader, ToolError::Read);
-    }
-    for put in 1..=TIDY.len() as u64 {
-        let failing = Writer::new(alloc).in_pieces_of(1).failing_at_put(put);
-        takes(&rt, alloc, failing, put - 1);
-        let stalling = Writer::new(alloc).in_pieces_of(1).stalling_at_put(put);
-        takes(&rt, alloc, stalling, put - 1);
-    }
-    let unflushed = Writer::new(alloc).failing_at_flush(1);
-    takes(&rt, alloc, unflushed, TIDY.len() as u64);
-}
-
-/// Whether a record is tidied with this allocator; that memory was wanted and nothing was written,
-/// if not.
-fn tidies<A: Allocator + Copy>(rt: &impl Abort, alloc: A, ample: Global) -> bool {
-    let mut writer = Writer::new(ample);
-    let result = tidying(alloc, &mut Reader::new(SAMPLE), &mut writer);
-    if result.is_ok() {
-        assert!(rt; writer.bytes() == TIDY);
-    } else {
-        assert!(rt; result == Err(ToolError::Memory));
-        assert!(rt; writer.put_count() == 0 && writer.flush_count() == 0);
-    }
-    result.is_ok()
+    Tool::Tidy.meets_faults(&rt, rt.alloc(), SAMPLE, TIDY);
 }
 
 #[test]
 fn each_request_for_memory_refused(rt: HostRuntime) {
-    let alloc = rt.alloc();
-    let mut requests = 0;
-    for number in 1..100u64 {
-        let failing = Failing::new(alloc, number);
-        let done = tidies(&rt, &failing, alloc);
-        assert!(rt; done == failing.waits(), "request {number}");
-        if done {
-            requests = number - 1;
-            break;
-        }
-    }
+    let requests = Tool::Tidy.requests(&rt, rt.alloc(), SAMPLE, TIDY);
     assert!(rt; requests > 2 && requests < 50, "{requests} requests");
-}
-
-/// Asserts the text of a fault, and its exit status.
-pub(crate) fn told(rt: &impl Abort, alloc: Global, fault: ToolError, text: &str, status: u8) {
-    let words = format!(in alloc; "{fault}").expect(rt, "a text");
-    assert!(rt; words.as_str() == text, "{words}");
-    assert!(rt; fault.status() == status);
 }
 
 #[test]
