@@ -42,8 +42,6 @@ mod log;
 mod masks;
 mod occupy;
 mod place;
-#[cfg(test)]
-mod tests;
 mod trace;
 
 pub use board::Board;

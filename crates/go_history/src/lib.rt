@@ -17,8 +17,6 @@
 
 mod history;
 mod key;
-#[cfg(test)]
-mod tests;
 
 pub use history::History;
 pub use key::Key;

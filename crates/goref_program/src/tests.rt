@@ -1,3 +1,6 @@
+mod streams;
+mod words;
+
 use crate::ends::{Fault, explained, told};
 use crate::files::NamedFiles;
 use crate::tasks::obeyed;

@@ -191,6 +191,3 @@ fn passed_on<W: Write>(stream: &mut W, bytes: &[u8]) -> io::Result<()>
     stream.write_all(bytes)?;
     stream.flush()
 }
-
-#[cfg(test)]
-mod tests;

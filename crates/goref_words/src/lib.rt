@@ -4,6 +4,3 @@
 mod task;
 
 pub use task::{Task, task_of};
-
-#[cfg(test)]
-mod tests;

@@ -1,5 +1,5 @@
-//! Tests of boards and games, through public calls: worked examples, drawn games beside the plain
-//! body, and memory that runs out.
+//! Tests of boards, chain tables, histories and games, through public calls: worked examples, drawn
+//! games beside the plain body, and memory that runs out.
 #![tactic(auto)]
 
 #[cfg(test)]
@@ -13,6 +13,8 @@ mod drawn;
 #[cfg(test)]
 mod games;
 #[cfg(test)]
+mod histories;
+#[cfg(test)]
 mod packs;
 #[cfg(test)]
 mod plain_game;
@@ -20,6 +22,8 @@ mod plain_game;
 mod refused;
 #[cfg(test)]
 mod situations;
+#[cfg(test)]
+mod tables;
 #[cfg(test)]
 mod turns;
 #[cfg(test)]

@@ -1,5 +1,5 @@
-use crate::{History, Key};
 use go_board::{Colour, Grid, Packed, Point, Size};
+use go_history::{History, Key};
 use std::alloc::{AllocError, Global};
 use std::process::Abort;
 use std::test::Fail;

@@ -1,8 +1,8 @@
 ghost use Rattle.std.specs.Prelude.{◌≡◌};
 ghost use Rattle.go_board.specs.Points.{IsOn};
 
-use crate::{Board, ChainPoints, Log, PlaceError};
 use go_board::{Colour, Meter, Point, Size, Taken, Vertex, read_vertex};
+use go_chains::{Board, ChainPoints, Log, PlaceError};
 use std::alloc::Allocator;
 use std::process::Abort;
 

@@ -1,5 +1,5 @@
-use crate::{Input, Output};
 use go_board::{Failed, Sink, Source, send};
+use goref_streams::{Input, Output};
 use std::alloc::{AllocError, Global};
 use std::io::{self, ErrorKind, Read, Write};
 use std::test::Fail;
