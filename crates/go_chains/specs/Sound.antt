@@ -57,7 +57,7 @@ abbrev pub IsChainLiberty : ℕ → Colouring → ℕ → ℕ → Type 0
 IsChainLiberty n g p q = (colour_at g q ≡ None) × ((s : ℕ) × Joined n g p s × IsAdjacent n s q)
 
 -- the cells are sound for a colouring of a board of n lines
-pub record IsSound (n : ℕ) (g : Colouring) (cells : List ℕ) : Type 0 where
+pub record AreSound (n : ℕ) (g : Colouring) (cells : List ℕ) : Type 0 where
   pub colours : (p : ℕ) → p < n * n → colour_at g p ≡ colour_coded (code_at cells p)
   pub coded : (p : ℕ) → p < n * n → code_at cells p < 3
   pub alive : (p : ℕ) → IsStoneOf g p → Reaches n g p None
@@ -70,5 +70,5 @@ pub record IsSound (n : ℕ) (g : Colouring) (cells : List ℕ) : Type 0 where
 -- the cells are sound for the colouring that they say, and each chain's label is one of its stones
 pub record IsKept (n : ℕ) (cells : List ℕ) : Type 0 where
   pub small : n ≤ MAX_LINES
-  pub sound : IsSound n (colouring_of n cells) cells
+  pub sound : AreSound n (colouring_of n cells) cells
   pub heads : (p : ℕ) → IsStoneOf (colouring_of n cells) p → Joined n (colouring_of n cells) p (label_of cells p)

@@ -5,7 +5,7 @@ ghost use Rattle.go_chains.specs.declared.cells.TheConstants.{WORDS};
 ghost use Rattle.go_chains.specs.inner.Beside.{AreBeside};
 ghost use Rattle.go_chains.specs.Cells.{code_at};
 ghost use Rattle.go_chains.specs.inner.Edits.{Edited};
-ghost use Rattle.go_chains.specs.inner.Writes.{IsDeprived, IsMarked, MarksEmpty};
+ghost use Rattle.go_chains.specs.inner.Writes.{IsDeprived, MarksOne, MarksEmpty};
 ghost use Rattle.go_chains.specs.inner.CellSteps.{AreTidy, DeprivesAll, DeprivesAt, Fills, Fits, Occupies};
 
 use crate::cells::{Cells, LABELS, LINKS, SIZES, WORDS, word_place, words_of};
@@ -21,7 +21,7 @@ type Words = [u64; WORDS];
 fn mark_empty(cells: &Cells, meter: &mut Meter, near: usize, words: &mut Words)
     requires near { near < MAX_POINTS }
     requires words { length words.old ≡ WORDS }
-    ensures marked { IsMarked cells.now.numbers words.old words.new near }
+    ensures marked { MarksOne cells.now.numbers words.old words.new near }
     ensures words { length words.new ≡ WORDS }
     ensures count { meter.new ≡ meter.old + 1 }
 {

@@ -8,7 +8,7 @@ use Rattle.goref_runs.specs.Shelves.{Pair}
 use Rattle.goref.specs.Answers.{Said, Reply, wanted}
 use Rattle.goref.specs.Laws.{SomeReply}
 use Rattle.goref_runs.specs.Conversation.{AsksShelf, Conversation, ends, quits, goes_on}
-use Rattle.goref_runs.specs.inner.Progress.{Reaches}
+use Rattle.goref_runs.specs.inner.Progress.{GetsTo}
 
 -- the same session, told in other words
 pub retold : {s : Standing} {lines lines' : List (List ℕ)} {asked asked' : List Pair} {text text' : List ℕ} →
@@ -47,14 +47,14 @@ some_conversation law (line ∷ lines) s =
     (f.1 ++ c.0, reply.text ++ c.1, c.2)
 
 -- before the first line
-pub reaches_first : (s : Standing) → Reaches s [] [] [] s
+pub reaches_first : (s : Standing) → GetsTo s [] [] [] s
 reaches_first s = record { on = λ more later rest c. c }
 
 -- a line that was answered, with the session going on
-pub reaches_next : {s now : Standing} {lines : List (List ℕ)} {asked : List Pair} {text : List ℕ} → Reaches s lines asked text now →
+pub reaches_next : {s now : Standing} {lines : List (List ℕ)} {asked : List Pair} {text : List ℕ} → GetsTo s lines asked text now →
     (line : List ℕ) (content : Content) (asked' : List Pair) (reply : Said) →
     AsksShelf (wanted (kept line)) content asked' → Reply now (kept line) content reply → reply.ends ≡ false →
-    Reaches s (lines ++ line ∷ []) (asked ++ asked') (text ++ reply.text) reply.standing
+    GetsTo s (lines ++ line ∷ []) (asked ++ asked') (text ++ reply.text) reply.standing
 reaches_next {s} {now} {lines} {asked} {text} r line content asked' reply asks is e = record {
   on = λ more later rest c.
       retold (sym (append_assoc lines (line ∷ []) more)) (sym (append_assoc asked asked' later)) (sym (append_assoc text reply.text rest))

@@ -15,7 +15,7 @@ use Rattle.goref.specs.Answers.{Said, Reply, wanted}
 use Rattle.goref.specs.Laws.{SomeReply}
 use Rattle.goref.specs.Replies.{flow_of}
 use Rattle.goref_runs.specs.Conversation.{AsksShelf, Conversation, ends, quits, goes_on, Converses, BreaksOff}
-use Rattle.goref_runs.specs.inner.Progress.{Reaches, Progress, Proceeds, Responds, Finishes}
+use Rattle.goref_runs.specs.inner.Progress.{GetsTo, Progress, Proceeds, Responds, Finishes}
 use Rattle.goref_runs.proofs.Lines.{complete_lines-nil, unfinished_line-nil, complete_lines_more, unfinished_line_more, complete_lines_end, unfinished_line_end, lines_later, Later}
 use Rattle.goref_runs.proofs.Conversations.{retold, some_more, some_conversation, reaches_first, reaches_next}
 
@@ -46,7 +46,7 @@ pub begins : (s : Standing) (given : Option (List Pair)) (taken : Option (List �
 begins s given taken = record {
   asked = [];
   text = [];
-  reaches = let P : List (List ℕ) → Type 0 = λ ls. Reaches s ls [] [] s in subst P (sym complete_lines-nil) (reaches_first s);
+  reaches = let P : List (List ℕ) → Type 0 = λ ls. GetsTo s ls [] [] s in subst P (sym complete_lines-nil) (reaches_first s);
   keeps = ap kept (sym unfinished_line-nil);
   tells = sym (then_pairs-nil given);
   took = sym (then_bytes-nil taken);
@@ -65,7 +65,7 @@ module _ {s now : Standing} {read : List ℕ} {line : Kept} {given given' : Opti
   reads_on part h = record {
     asked = p.asked;
     text = p.text;
-    reaches = let P : List (List ℕ) → Type 0 = λ ls. Reaches s ls p.asked p.text now in subst P (sym (complete_lines_more read part h)) p.reaches;
+    reaches = let P : List (List ℕ) → Type 0 = λ ls. GetsTo s ls p.asked p.text now in subst P (sym (complete_lines_more read part h)) p.reaches;
     keeps = ap kept (sym (unfinished_line_more read part h));
     tells = p.tells;
     took = p.took;
@@ -107,8 +107,8 @@ module _ {s now : Standing} {read : List ℕ} {line : Kept} {given given' : Opti
     asked = p.asked ++ r.asked;
     text = p.text ++ r.answered.reply.text;
     reaches =
-        let P : List (List ℕ) → Type 0 = λ ls. Reaches s ls (p.asked ++ r.asked) (p.text ++ r.answered.reply.text) new in
-        let Q : Standing → Type 0 = λ x. Reaches s (complete_lines read ++ (unfinished_line read ++ part) ∷ []) (p.asked ++ r.asked) (p.text ++ r.answered.reply.text) x in
+        let P : List (List ℕ) → Type 0 = λ ls. GetsTo s ls (p.asked ++ r.asked) (p.text ++ r.answered.reply.text) new in
+        let Q : Standing → Type 0 = λ x. GetsTo s (complete_lines read ++ (unfinished_line read ++ part) ∷ []) (p.asked ++ r.asked) (p.text ++ r.answered.reply.text) x in
         subst P (sym (complete_lines_end read part n)) (subst Q (sym r.answered.stands)
         (reaches_next p.reaches (unfinished_line read ++ part) r.content r.asked r.answered.reply r.asks r.answered.is_reply (goes r.answered.reply.ends r.answered.sent.0)));
     keeps = ap kept (sym (unfinished_line_end read part));

@@ -13,7 +13,7 @@ use Rattle.go_chains.specs.inner.Beside.{AreBeside}
 use Rattle.go_chains.specs.Cells.{code_at, label_of, size_of}
 use Rattle.go_chains.specs.Playing.{stones_beside, stones_captured}
 use Rattle.go_chains.specs.Sound.{IsKept, colouring_of}
-use Rattle.go_chains.specs.inner.Steps.{CountsTaken, IsCapturing, IsCleared, IsConnectedTo, IsOccupied}
+use Rattle.go_chains.specs.inner.Steps.{CountsTaken, IsCapturing, IsCleared, IsConnectedTo, IsPlaced}
 use Rattle.go_chains.specs.inner.Tables.{IsDead, IsStone, IsTidy, AreChainsWhole, Tables, tables_of}
 use Rattle.go_chains.proofs.rules.Sound.{IsKept-tidy, alive-kept, tidy-kept, whole-kept}
 use Rattle.go_chains.proofs.tables.Capturing.{IsCapturing_none}
@@ -35,7 +35,7 @@ pub record Begins (n : ℕ) (old : List ℕ) (p : ℕ) (c : Colour) (own theirs 
 -- the stone is placed, and joined to its chains
 pub record Joins (n : ℕ) (old placed joined : List ℕ) (p own : ℕ) (beside : List ℕ) : Type 0 where
   pub near : AreBeside n p beside
-  pub occupied : IsOccupied (n * n) (IsAdjacent n) (tables_of old) (tables_of placed) p own
+  pub occupied : IsPlaced (n * n) (IsAdjacent n) (tables_of old) (tables_of placed) p own
   pub connected : IsConnectedTo (n * n) (tables_of placed) (tables_of joined) p beside (length beside)
   pub tidy : IsTidy (n * n) (IsAdjacent n) (tables_of joined)
 
@@ -196,7 +196,7 @@ module _ {n : ℕ} {old : List ℕ} {p : ℕ} {c o : Colour} {own theirs : ℕ} 
   }
 
 module _ {n : ℕ} {old placed joined : List ℕ} {p own : ℕ} {beside : List ℕ} where
-  pub joins : AreBeside n p beside → IsOccupied (n * n) (IsAdjacent n) (tables_of old) (tables_of placed) p own
+  pub joins : AreBeside n p beside → IsPlaced (n * n) (IsAdjacent n) (tables_of old) (tables_of placed) p own
       → IsConnectedTo (n * n) (tables_of placed) (tables_of joined) p beside (length beside) → IsTidy (n * n) (IsAdjacent n) (tables_of joined) → Joins n old placed joined p own beside
   joins near occupied connected tidy = record {
     near = near;

@@ -14,7 +14,7 @@ use Rattle.go_board.specs.Packs.{colour_coded}
 use Rattle.go_chains.specs.Rings.{steps, ring_from, IsOnRing}
 use Rattle.go_chains.specs.inner.Tables.{IsStone, Links, IsJoined, IsTidy, AreChainsWhole, tables_of}
 use Rattle.go_chains.specs.Cells.{code_at, label_of, next_of, size_of, lib_of}
-use Rattle.go_chains.specs.Sound.{IsChainLiberty, IsKept, IsSound, IsStoneOf, colouring_of}
+use Rattle.go_chains.specs.Sound.{IsChainLiberty, IsKept, AreSound, IsStoneOf, colouring_of}
 use Rattle.go_chains.proofs.tables.Whole.{label-linked}
 
 pub length-ring_from : (next : ℕ → ℕ) (n p : ℕ) → length (ring_from next n p) ≡ n
@@ -144,7 +144,7 @@ module _ (n : ℕ) (g : Colouring) (cells : List ℕ) (inside_g : (p : ℕ) (c :
 
 -- sound cells whose chains' labels are stones of them are tidy
 module _ (n : ℕ) (g : Colouring) (cells : List ℕ) (inside_g : (p : ℕ) (c : Colour) → colour_at g p ≡ Some c → p < n * n)
-    (sound : IsSound n g cells) (heads : (p : ℕ) → IsStoneOf g p → Joined n g p (label_of cells p)) where
+    (sound : AreSound n g cells) (heads : (p : ℕ) → IsStoneOf g p → Joined n g p (label_of cells p)) where
   stone : (p : ℕ) → IsStone (n * n) (tables_of cells) p → IsStoneOf g p
   stone = of_stone n g cells inside_g sound.colours sound.coded
 
@@ -211,8 +211,8 @@ module _ (n : ℕ) (g : Colouring) (cells : List ℕ) (inside_g : (p : ℕ) (c :
       let l = tidy.lib_is p q s q_in one in
       (of_empty n g cells inside_g colours coded q q_in l.0, (l.1.0, label_chain p l.1.0 s l.1.1 (sym l.1.2), l.1.3))
 
-  pub IsSound-tidy : IsSound n g cells
-  IsSound-tidy = record {
+  pub AreSound-tidy : AreSound n g cells
+  AreSound-tidy = record {
     colours = colours;
     coded = coded;
     alive = λ p is.
@@ -280,6 +280,6 @@ IsKept-tidy n cells small coded tidy whole living =
     let g = colouring_of n cells in
     record {
       small = small;
-      sound = IsSound-tidy n g cells (colouring-inside n cells) (colouring-at n cells) coded tidy whole living;
+      sound = AreSound-tidy n g cells (colouring-inside n cells) (colouring-at n cells) coded tidy whole living;
       heads = heads-tidy n g cells (colouring-inside n cells) (colouring-at n cells) coded tidy whole living;
     }

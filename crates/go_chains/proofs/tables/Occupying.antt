@@ -3,7 +3,7 @@ use Rattle.std.proofs.Common.{ℕ, ◌<◌, ◌≡◌, ◌≢◌, inl, inr, refl
 use Rattle.std.proofs.lemmas.Bool.{cases_eq}
 use Rattle.go_chains.specs.Rings.{steps, IsRing, IsOnRing}
 use Rattle.go_chains.specs.inner.Tables.{Tables, IsStone, Links, IsJoined, Touches, IsTidy}
-use Rattle.go_chains.specs.inner.Steps.{IsOccupied}
+use Rattle.go_chains.specs.inner.Steps.{IsPlaced}
 use Rattle.go_chains.proofs.tables.Rings.{IsRing-kept, IsOn-kept, IsOn-was}
 
 -- links over stones, by colours that are the same at stones
@@ -20,7 +20,7 @@ pub data Who (n : ℕ) (t : Tables) (p q : ℕ) : Type 0 where
   placed : q ≡ p → Who n t p q
   before : q ≢ p → IsStone n t q → Who n t p q
 
-module _ (n : ℕ) (adj : ℕ → ℕ → Type 0) (inside : (p q : ℕ) → adj p q → q < n) (irreflexive : (p : ℕ) → adj p p → ⊥) (t t' : Tables) (p c : ℕ) (tidy : IsTidy n adj t) (o : IsOccupied n adj t t' p c) where
+module _ (n : ℕ) (adj : ℕ → ℕ → Type 0) (inside : (p q : ℕ) → adj p q → q < n) (irreflexive : (p : ℕ) → adj p p → ⊥) (t t' : Tables) (p c : ℕ) (tidy : IsTidy n adj t) (o : IsPlaced n adj t t' p c) where
   pub who : (q : ℕ) → IsStone n t' q → Who n t p q
   who q stone = elim (cases_eq q p) [
     | inl new ↦ placed new

@@ -2,7 +2,7 @@
 use Rattle.std.proofs.Common.{ℕ, zero, suc, ◌<◌, ◌≡◌, ◌≢◌, ◌⊎◌, ◌↔◌, inl, inr, refl, sym, ap, ◌∙◌, arith, List, length, slice_index}
 use Rattle.std.proofs.lemmas.Bool.{cases_lt, cases_eq}
 use Rattle.go_chains.specs.inner.Tables.{Tables, IsDead, IsStone, IsTidy, AreChainsWhole, IsWholeBut}
-use Rattle.go_chains.specs.inner.Steps.{IsCapturing, IsCleared, IsConnectedTo, IsOccupied}
+use Rattle.go_chains.specs.inner.Steps.{IsCapturing, IsCleared, IsConnectedTo, IsPlaced}
 use Rattle.go_chains.proofs.tables.Capturing.{IsCleared-captured, beside_or_alive, own_dead}
 use Rattle.go_chains.proofs.tables.Connecting.{IsWhole-connected}
 
@@ -23,7 +23,7 @@ dead_or_alive (suc n) t l = elim (cases_eq (t.lib l n) 1) [
 -- the stone is placed, and joined to its chains
 module _ (n : ℕ) (adj : ℕ → ℕ → Type 0) (flip : (p q : ℕ) → adj p q → adj q p) (t t1 t2 : Tables) (p c o : ℕ) (beside : List ℕ)
     (whole : AreChainsWhole n adj t) (two : (q : ℕ) → IsStone n t q → (t.colour q ≡ o) ⊎ (t.colour q ≡ c)) (near : (q : ℕ) → adj p q → (i : ℕ) × (i < length beside) × (slice_index beside i ≡ q))
-    (placed : IsOccupied n adj t t1 p c) (joined : IsConnectedTo n t1 t2 p beside (length beside)) where
+    (placed : IsPlaced n adj t t1 p c) (joined : IsConnectedTo n t1 t2 p beside (length beside)) where
   was : (q : ℕ) → q ≢ p → IsStone n t1 q → IsStone n t q
   was q off stone = (stone.0, let e = placed.colours q stone.0 off in let h : 0 < t1.colour q = stone.1 in omega arith)
 

@@ -8,7 +8,7 @@ use Rattle.std.proofs.lemmas.Nat.Bits.{bit_at-lt, bit_at-zero, bit_at_clear_othe
 use Rattle.go_board.specs.declared.size.TheConstants.{MAX_POINTS}
 use Rattle.go_chains.specs.declared.cells.TheConstants.{LIBERTIES, WORDS}
 use Rattle.go_chains.specs.Cells.{IsWritten, code_at, label_of, lib_of, word_of}
-use Rattle.go_chains.specs.inner.Writes.{IsDeprived, IsFilled, IsMarked, IsStoneBeside, MarksEmpty, mask_bit}
+use Rattle.go_chains.specs.inner.Writes.{IsDeprived, IsFilled, MarksOne, IsStoneBeside, MarksEmpty, mask_bit}
 
 -- a bit that isn't set is 0
 pub unset : (n i : ℕ) → bit_at n i ≢ 1 → bit_at n i ≡ 0
@@ -102,7 +102,7 @@ MarksEmpty_none cells beside = record {
 }
 
 -- one listed point more is marked, if it is empty
-pub MarksEmpty_more : (cells old new beside : List ℕ) (i : ℕ) → ((j : ℕ) → j ≤ i → slice_index beside j < MAX_POINTS) → MarksEmpty cells old beside i → IsMarked cells old new (slice_index beside i) → MarksEmpty cells new beside (i + 1)
+pub MarksEmpty_more : (cells old new beside : List ℕ) (i : ℕ) → ((j : ℕ) → j ≤ i → slice_index beside j < MAX_POINTS) → MarksEmpty cells old beside i → MarksOne cells old new (slice_index beside i) → MarksEmpty cells new beside (i + 1)
 MarksEmpty_more cells old new beside i inside so_far m = record {
   are = λ j below none. elim (cases_lt j i) [
     | inl before ↦ m.kept (slice_index beside j) (inside j (omega arith)) (so_far.are j before none)

@@ -8,7 +8,7 @@ use Rattle.std.proofs.lemmas.List.{get_or-set_same, get_or-set_other}
 use Rattle.std.proofs.lemmas.Nat.Bits.{bit_at_set_same, bit_at_set_other}
 use Rattle.go_board.specs.declared.size.TheConstants.{MAX_POINTS}
 use Rattle.go_chains.specs.Cells.{code_at}
-use Rattle.go_chains.specs.inner.Writes.{IsMarked, mask_bit}
+use Rattle.go_chains.specs.inner.Writes.{MarksOne, mask_bit}
 
 module _ (cells old new : List ℕ) (near : ℕ) (near_in : near < MAX_POINTS) (long : near / 64 < length old) (empty : code_at cells near ≡ 0)
     (set_is : new ≡ slice_set old (near / 64) (bit_or (slice_index old (near / 64)) (1 * 2 ^ (near % 64) % 2 ^ 64))) where
@@ -25,8 +25,8 @@ module _ (cells old new : List ℕ) (near : ℕ) (near_in : near < MAX_POINTS) (
   here = ap (λ l. bit_at (slice_index l (near / 64)) (near % 64)) set_is ∙ ap (λ x. bit_at x (near % 64)) (get_or-set_same old (near / 64) (bit_or (slice_index old (near / 64)) (1 * 2 ^ (near % 64) % 2 ^ 64)) 0 long)
       ∙ bit_at_set_same w64 (slice_index old (near / 64)) (near % 64) (omega arith)
 
-  pub IsMarked-set : IsMarked cells old new near
-  IsMarked-set = record {
+  pub MarksOne-set : MarksOne cells old new near
+  MarksOne-set = record {
     kept = λ q q_in one. elim (cases_eq q near) [ inl at ↦ ap (mask_bit new) at ∙ here | inr off ↦ other q off ∙ one ];
     given = λ _. here;
     was = λ q q_in one. elim (cases_eq q near) [ inl at ↦ inr (at, empty) | inr off ↦ inl (sym (other q off) ∙ one) ];

@@ -7,7 +7,7 @@ use Rattle.go_board.specs.declared.size.TheConstants.{MAX_POINTS}
 use Rattle.go_chains.specs.declared.cells.TheConstants.{LABELS, LINKS, SIZES, LIBERTIES, WORDS}
 use Rattle.go_chains.specs.inner.Beside.{AreBeside}
 use Rattle.go_chains.specs.inner.Tables.{IsStone, IsTidy, tables_of}
-use Rattle.go_chains.specs.inner.Steps.{IsOccupied}
+use Rattle.go_chains.specs.inner.Steps.{IsPlaced}
 use Rattle.go_chains.specs.Cells.{IsWritten, code_at, label_of, lib_of, word_of}
 use Rattle.go_chains.specs.inner.Writes.{IsDeprived, IsFilled, IsStoneBeside, MarksEmpty, mask_bit}
 use Rattle.go_chains.proofs.writes.Depriving.{unset}
@@ -59,8 +59,8 @@ module _ (n : ℕ) (small : n * n ≤ MAX_POINTS) (c0 c1 c2 c3 c4 c5 c6 words be
         | inr not ↦ unset (word_of c1 l (p / 64)) (p % 64) (λ is. not (deprived.less l p (omega arith) (omega arith) is))
       ]
 
-  pub IsOccupied_written : IsOccupied (n * n) (IsAdjacent n) (tables_of c0) (tables_of c6) p colour
-  IsOccupied_written = record {
+  pub IsPlaced_written : IsPlaced (n * n) (IsAdjacent n) (tables_of c0) (tables_of c6) p colour
+  IsPlaced_written = record {
     within = p_in;
     empty = empty;
     some = some;

@@ -3,7 +3,7 @@ use Rattle.std.specs.Prelude.{ℕ, List, ◌≡◌, ◌≢◌, ◌<◌, ◌*◌,
 use Rattle.go_board.specs.Paths.{IsAdjacent}
 use Rattle.go_board.specs.declared.size.TheConstants.{MAX_POINTS}
 use Rattle.go_chains.specs.Cells.{CellsValue, code_at, label_of, next_of, words_for}
-use Rattle.go_chains.specs.inner.Steps.{CountsTaken, IsCapturing, IsConnected, IsConnectedTo, IsJoin, IsOccupied, IsRemoved}
+use Rattle.go_chains.specs.inner.Steps.{CountsTaken, IsCapturing, IsConnected, IsConnectedTo, IsJoin, IsPlaced, IsRemoved}
 use Rattle.go_chains.specs.inner.Tables.{IsDead, IsStone, IsTidy, AreChainsWhole, Tables, tables_of}
 use Rattle.go_chains.specs.inner.Writes.{IsDeprived, IsFilled, IsGiven, IsGivenBeside, IsMerged, IsRelabelled, IsStoneBeside}
 
@@ -40,7 +40,7 @@ Fits cells p = 0 < code_at cells.numbers p → label_of cells.numbers p < MAX_PO
 
 -- p gets a stone of a colour, which is a chain of its own
 abbrev pub Occupies : ℕ → CellsValue → CellsValue → ℕ → ℕ → Type 0
-Occupies n old new p colour = IsOccupied (n * n) (IsAdjacent n) (tables_of old.numbers) (tables_of new.numbers) p colour
+Occupies n old new p colour = IsPlaced (n * n) (IsAdjacent n) (tables_of old.numbers) (tables_of new.numbers) p colour
 
 -- the chain of b becomes part of the chain of a
 abbrev pub Joins : ℕ → CellsValue → CellsValue → ℕ → ℕ → Type 0

@@ -22,7 +22,7 @@ pub record IsJoin (n : ℕ) (t t' : Tables) (a b : ℕ) : Type 0 where
   pub libs : (l q : ℕ) → l < n → q < n → l ≢ t.label a → t'.lib l q ≡ t.lib l q
 
 -- an empty point gets a stone, which is a chain of its own, and is no liberty any more
-pub record IsOccupied (n : ℕ) (adj : ℕ → ℕ → Type 0) (t t' : Tables) (p c : ℕ) : Type 0 where
+pub record IsPlaced (n : ℕ) (adj : ℕ → ℕ → Type 0) (t t' : Tables) (p c : ℕ) : Type 0 where
   pub within : p < n
   pub empty : t.colour p ≡ 0
   pub some : 0 < c

@@ -77,7 +77,7 @@ abbrev pub mask_bit : List ℕ → ℕ → ℕ
 mask_bit words q = bit_at (slice_index words (q / 64)) (q % 64)
 
 -- one point is marked too, where it is empty
-pub record IsMarked (cells old new : List ℕ) (near : ℕ) : Type 0 where
+pub record MarksOne (cells old new : List ℕ) (near : ℕ) : Type 0 where
   pub kept : (q : ℕ) → q < MAX_POINTS → mask_bit old q ≡ 1 → mask_bit new q ≡ 1
   pub given : code_at cells near ≡ 0 → mask_bit new near ≡ 1
   pub was : (q : ℕ) → q < MAX_POINTS → mask_bit new q ≡ 1 → (mask_bit old q ≡ 1) ⊎ ((q ≡ near) × (code_at cells near ≡ 0))

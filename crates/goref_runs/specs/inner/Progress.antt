@@ -14,7 +14,7 @@ use Rattle.goref.specs.Replies.{Answered}
 use Rattle.goref_runs.specs.Conversation.{AsksShelf, Conversation, Converses, BreaksOff}
 
 -- whatever follows from the standing now, all of it is one session from the first standing
-pub record Reaches (s : Standing) (lines : List (List ℕ)) (asked : List Pair) (text : List ℕ) (now : Standing) : Type 0 where
+pub record GetsTo (s : Standing) (lines : List (List ℕ)) (asked : List Pair) (text : List ℕ) (now : Standing) : Type 0 where
   pub on : (more : List (List ℕ)) (later : List Pair) (rest : List ℕ) → Conversation now more later rest →
       Conversation s (lines ++ more) (asked ++ later) (text ++ rest)
 
@@ -22,7 +22,7 @@ pub record Reaches (s : Standing) (lines : List (List ℕ)) (asked : List Pair) 
 pub record Progress (s : Standing) (read : List ℕ) (line : Kept) (now : Standing) (given given' : Option (List Pair)) (taken taken' : Option (List ℕ)) : Type 0 where
   pub asked : List Pair
   pub text : List ℕ
-  pub reaches : Reaches s (complete_lines read) asked text now
+  pub reaches : GetsTo s (complete_lines read) asked text now
   pub keeps : line ≡ kept (unfinished_line read)
   pub tells : given' ≡ then_pairs given asked
   pub took : taken' ≡ then_bytes taken text

@@ -5,7 +5,7 @@ use Rattle.go_board.specs.Paths.{IsAdjacent}
 use Rattle.go_board.specs.declared.size.TheConstants.{MAX_POINTS}
 use Rattle.go_chains.specs.Cells.{code_at, label_of, words_for}
 use Rattle.go_chains.specs.inner.Tables.{tables_of}
-use Rattle.go_chains.proofs.writes.Occupying.{IsOccupied_written}
+use Rattle.go_chains.proofs.writes.Occupying.{IsPlaced_written}
 use Rattle.go_chains.proofs.writes.Editing.{Edited_next, Edited_within}
 use Rattle.go_chains.proofs.writes.Bounds.{label_small}
 use Rattle.go_chains.proofs.occupy.occupy.Goals as goal
@@ -21,7 +21,7 @@ deprive-requires-clause-labels g c k d below =
 pub returns-clause-occupied : goal.returns-clause-occupied
 returns-clause-occupied g c =
     let n = c.args.size in
-    IsOccupied_written n (square-le n (omega arith))
+    IsPlaced_written n (square-le n (omega arith))
     c.args.cells.now.numbers c.deprive.new.cells.numbers c.replace.new.cells.numbers c.put.new.cells.numbers c.put-2.new.cells.numbers c.put-3.new.cells.numbers c.fill_words.new.cells.numbers
     c.empty_of-words.result c.args.beside.now c.args.point c.args.colour
     c.requires.tidy c.requires.point c.requires.empty c.requires.colour c.requires.beside c.empty_of-words.ensures.marks c.deprive.ensures.deprived
