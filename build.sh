@@ -6,7 +6,7 @@
 # its own, in which those below it are links to what is built here, and then put here, where rt finds
 # it at the end, when it builds the program. What was not built until then it builds itself.
 
-here=$(cd "$(dirname -- "$0")" && pwd) || exit
+here=$(CDPATH='' cd -- "$(dirname -- "$0")" && pwd) || exit
 logs=$1
 room=$here/crates/goref_program/out/room
 
@@ -30,21 +30,27 @@ crates() {
         }' "$here/crates.txt"
 }
 
-# How many crates are built at once: one for each processor and 4 GB of memory.
+# How many crates are built at once: one for each processor and 4 GB of memory, and one at least.
 places() {
-    awk -v most="$(nproc)" '/^MemAvailable:/ { fit = int($2 / 4000000) }
-        END { print fit < 1 ? 1 : fit < most ? fit : most }' /proc/meminfo
+    cat /proc/meminfo | awk -v most="$(nproc || echo 1)" '/^MemAvailable:/ { fit = int($2 / 4000000) }
+        END { fit = fit < most ? fit : most; print fit < 1 ? 1 : fit }'
 }
 
+# Says something, in the place of the line on a terminal that follow keeps.
 say() {
+    [ -t 2 ] && printf '\r\033[K' >&2
     printf 'goref: %s\n' "$*" >&2
+}
+
+# How many files there are; a pattern that none has stands for itself.
+count() {
+    [ -e "$1" ] && echo $# || echo 0
 }
 
 # Begins the log of a crate, and says so where no line on a terminal is kept up to date.
 begin() {
     echo "building $1" >"$logs/$1"
-    set -- "$1" "$logs"/*
-    [ -t 2 ] || say "proving $1, crate $(($# - 1)) of $all"
+    [ -t 2 ] || say "proving $1, crate $(count "$logs"/*) of $all"
 }
 
 # Builds a crate in a tree of its own, and puts here what comes of it.
@@ -53,16 +59,17 @@ build_apart() {
     own=$here/crates/$name
     tree=$room/$name
     mkdir -p "$tree/crates" && cp -Rl "$own" "$tree/crates" || return
-    grep "^$name:" "$here/crates.txt" >"$tree/crates.txt"
+    for crate in "$@"; do
+        grep "^$crate:" "$here/crates.txt"
+    done >"$tree/crates.txt"
     shift
     for low in "$@"; do
-        grep "^$low:" "$here/crates.txt" >>"$tree/crates.txt"
         mkdir -p "$tree/crates/$low/out" && cd "$here/crates/$low" &&
             cp -Rl src specs proofs "$tree/crates/$low" && cp -Rl out/rlib "$tree/crates/$low/out" || return
     done
     cd "$tree/crates/$name" && rt lib || return
-    # Not while another rt works in it.
-    flock "$own" sh -c 'rm -rf "$2" && mv "$1" "$2"' - out "$own/out"
+    # Not while another rt works in it, and not by half.
+    flock "$own" sh -c 'trap "" TERM; rm -rf "$2" && mv "$1" "$2"' - out "$own/out"
 }
 
 # Builds a crate, and leaves a mark that says how that ended. Without it all would wait for ever.
@@ -89,11 +96,6 @@ are_built() {
     for low in "$@"; do
         [ -e "$room/$low.built" ] || return
     done
-}
-
-# How many files there are; a pattern that none has stands for itself.
-count() {
-    [ -e "$1" ] && echo $# || echo 0
 }
 
 # Begins each crate, those first that stand first, once those below it are built and a place is
@@ -123,7 +125,7 @@ build_crates() {
 # Keeps up to date a line on a terminal that says how far the crates are.
 follow() {
     begun=$(date +%s)
-    while sleep 1; do
+    while sleep 1 && kill -0 $$ 2>/dev/null; do
         now=$(awk '
             /^building / { crate = $2; works[crate] = 1 }
             /^so far: / { done[crate] = $3; of[crate] = $5 }
