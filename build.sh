@@ -53,6 +53,12 @@ begin() {
     [ -t 2 ] || say "proving $1, crate $(count "$logs"/*) of $all"
 }
 
+# A niceness for a crate: the more crates wait for it, the less it gives way to those beside it.
+niceness() {
+    above=$(grep -cw "$1" "$room/crates")
+    echo $((above > 9 ? 0 : 19 - 2 * above))
+}
+
 # Builds a crate in a tree of its own, and puts here what comes of it.
 build_apart() {
     name=$1
@@ -67,7 +73,7 @@ build_apart() {
         mkdir -p "$tree/crates/$low/out" && cd "$here/crates/$low" &&
             cp -Rl src specs proofs "$tree/crates/$low" && cp -Rl out/rlib "$tree/crates/$low/out" || return
     done
-    cd "$tree/crates/$name" && rt lib || return
+    cd "$tree/crates/$name" && nice -n "$(niceness "$name")" rt lib || return
     # Not while another rt works in it, and not by half.
     flock "$own" sh -c 'trap "" TERM; rm -rf "$2" && mv "$1" "$2"' - out "$own/out"
 }
