@@ -78,7 +78,8 @@ build_apart() {
     flock "$own" sh -c 'trap "" TERM; rm -rf "$2" && mv "$1" "$2"' - out "$own/out"
 }
 
-# Builds a crate, and leaves a mark that says how that ended. Without it all would wait for ever.
+# Builds a crate, and leaves a mark that says how that ended. Where it can't, the whole build ends:
+# it would wait for that mark for ever.
 build_one() {
     (build_apart "$@") >>"$logs/$1" 2>&1 && end=built || end=failed
     rm -rf "${room:?}/$1"
@@ -104,8 +105,8 @@ are_built() {
     done
 }
 
-# Begins each crate, those first that stand first, once those below it are built and a place is
-# free. Where one fails, none is begun any more.
+# Begins the crates in their order, each once those below it are built and a place is free. Where
+# one fails, none is begun any more.
 build_crates() {
     begun=0
     most=$(places)
