@@ -5,7 +5,7 @@ ghost use Rattle.go_chains.specs.declared.cells.TheConstants.{WORDS};
 ghost use Rattle.go_chains.specs.inner.Beside.{AreBeside};
 ghost use Rattle.go_chains.specs.Cells.{code_at};
 ghost use Rattle.go_chains.specs.inner.Edits.{Edited};
-ghost use Rattle.go_chains.specs.inner.Writes.{IsDeprived, MarksOne, MarksEmpty};
+ghost use Rattle.go_chains.specs.inner.Writes.{IsDeprived, MarksEmpty, MarksOne};
 ghost use Rattle.go_chains.specs.inner.CellSteps.{AreTidy, DeprivesAll, DeprivesAt, Fills, Fits, Occupies};
 
 use crate::cells::{Cells, LABELS, LINKS, SIZES, WORDS, word_place, words_of};

@@ -1,11 +1,10 @@
 -- What a play on the board of a game tells of the game's standing.
 use Rattle.std.specs.Prelude.{slice_set}
-use Rattle.std.specs.Prelude.{Result, Ok, Err, IsErrOf}
+use Rattle.std.specs.Prelude.{Result, Err, IsErrOf}
 use Rattle.go_chains.specs.declared.errors.PlaceError.{PlaceError}
-use Rattle.go_chains.specs.declared.errors.PlaceError.TheVariants.{Memory, Occupied}
+use Rattle.go_chains.specs.declared.errors.PlaceError.TheVariants.{Occupied}
 use Rattle.go_game.specs.declared.errors.PlayError.{PlayError}
-use Rattle.go_game.specs.declared.errors.PlayError.TheVariants as error
-use Rattle.std.proofs.Common.{◌≡◌, ◌≢◌, ◌*◌, ◌∙◌, ◌⊎◌, ◌↔◌, inl, inr, ℕ, ℤ, List, Option, Some, None, map, refl, sym, ap}
+use Rattle.std.proofs.Common.{◌≡◌, ◌*◌, ◌∙◌, ◌↔◌, ℕ, ℤ, List, Option, Some, None, map, sym, ap}
 use Rattle.go_board.specs.declared.colour.Colour.{Colour}
 use Rattle.go_board.specs.declared.colour.Colour.TheVariants.{Black, White}
 use Rattle.go_board.specs.declared.point.Point.{Point}
@@ -13,7 +12,7 @@ use Rattle.go_board.specs.declared.taken.Taken.{Taken}
 use Rattle.go_board.specs.declared.vertex.Vertex.TheVariants.{At}
 use Rattle.go_board.specs.Colours.{Colouring, colour_at, other}
 use Rattle.go_board.specs.Grids.{GridValue}
-use Rattle.go_board.specs.Points.{IsOn, number_of}
+use Rattle.go_board.specs.Points.{number_of}
 use Rattle.go_board.specs.Packs.{packed_of}
 use Rattle.go_board.specs.PackBytes.{bytes_of}
 use Rattle.go_board.specs.Reaching.{moved, vanished}
@@ -24,7 +23,7 @@ use Rattle.go_history.specs.declared.key.Key.{Key}
 use Rattle.go_history.specs.Histories.{HistoryValue, number_at}
 use Rattle.go_game.specs.declared.superko.Superko.{Superko}
 use Rattle.go_game.specs.declared.step.Step.{Step}
-use Rattle.go_game.specs.inner.Held.{IsKeeping, IsPlayed, made_of, standing_of}
+use Rattle.go_game.specs.inner.Held.{IsKeeping, IsPlayable, IsPlayed, made_of, standing_of}
 use Rattle.go_game.specs.inner.Histories.{IsKeyOf}
 use Rattle.go_game.specs.Playing.{taken_by}
 use Rattle.go_game.specs.Prisoners.{share_of}
@@ -33,17 +32,6 @@ use Rattle.go_game.proofs.Played.{length-moved}
 use Rattle.go_game.proofs.Keeping.{seen_as}
 use Rattle.go_game.proofs.Remembered.{history_found, history_lacks}
 use Rattle.go_game.proofs.Turns.{placed}
-
-pub stone_some : (v w : Option Colour) → v ≡ w → ((c : Colour) × (v ≡ Some c)) → w ≢ None
-stone_some v w same stone none = absurd (let e : Some stone.0 ≡ None = sym stone.1 ∙ same ∙ none in cc)
-
-pub some_stone : (v w : Option Colour) → v ≡ w → w ≢ None → (c : Colour) × (v ≡ Some c)
-some_stone None w same some = absurd (some (sym same))
-some_stone (Some c) w same some = (c, refl)
-
-none_of : (v : Option Colour) → (((c : Colour) × (v ≡ Some c)) → ⊥) → v ≡ None
-none_of None never = refl
-none_of (Some c) never = absurd (never (c, refl))
 
 share_is : (c : Colour) (t : Taken) (n : ℕ) (before after : Colouring) → t.theirs ≡ vanished n before after (other c) → t.own ≡ vanished n before after c → (of : Colour) → share_of c t of ≡ vanished n before after of
 share_is Black t n before after theirs own Black = own
@@ -56,8 +44,11 @@ module _ (rule : Superko) (start : GridValue) (komi : ℤ) (first : Colour) (ste
   abbrev pub now : Colouring
   now = board start.lines start.colours (map made_of steps)
 
-  pub colour_is : colour_at (grid_of b) (number_of b.lines p) ≡ colour_at now (number_of start.lines p)
-  colour_is = let f : ℕ → Colouring → Option Colour = λ m g. colour_at g (number_of m p) in seen_as f rule start komi first steps b log history black white k
+  -- the board has no stone where the standing has none
+  pub no_stone : IsPlayable start.lines now (At p) → IsStoneOf (grid_of b) (number_of b.lines p) → ⊥
+  no_stone playable stone =
+      let f : ℕ → Colouring → Option Colour = λ m g. colour_at g (number_of m p) in
+      absurd (let e : Some stone.0 ≡ None = sym stone.1 ∙ seen_as f rule start komi first steps b log history black white k ∙ playable.1 in cc)
 
   pub moved_is : moved b.lines (grid_of b) c (number_of b.lines p) ≡ moved start.lines now c (number_of start.lines p)
   moved_is = let f : ℕ → Colouring → Colouring = λ m g. moved m g c (number_of m p) in seen_as f rule start komi first steps b log history black white k
@@ -73,10 +64,10 @@ module _ (rule : Superko) (start : GridValue) (komi : ℤ) (first : Colour) (ste
       key_is : IsKeyOf key (seen_after (standing_of rule start komi first steps) c (number_of start.lines p))
       key_is = (packs ∙ ap packed_of then_is, mover)
 
-      pub legal_put : IsOn start.lines p → (IsStoneOf (grid_of b) (number_of b.lines p) → ⊥) → number_at history key ≡ None → IsLegal (standing_of rule start komi first steps) c (At p)
-      legal_put on free lacked = (
-        on,
-        sym colour_is ∙ none_of (colour_at (grid_of b) (number_of b.lines p)) free,
+      pub legal_put : IsPlayable start.lines now (At p) → number_at history key ≡ None → IsLegal (standing_of rule start komi first steps) c (At p)
+      legal_put playable lacked = (
+        playable.0,
+        playable.1,
         history_lacks (start.lines * start.lines) history (stood_of (standing_of rule start komi first steps)) key (seen_after (standing_of rule start komi first steps) c (number_of start.lines p))
             k.told key_is (length-moved start.lines now c (number_of start.lines p)) lacked,
       )
@@ -95,29 +86,16 @@ module _ (rule : Superko) (start : GridValue) (komi : ℤ) (first : Colour) (ste
         ∙ seen_as f rule start komi first steps b log history black white k
 
     pub played_put : (t : Taken) → t.theirs ≡ vanished b.lines (slice_set (grid_of b) (number_of b.lines p) (Some c)) (grid_of b') (other c)
-        → t.own ≡ vanished b.lines (slice_set (grid_of b) (number_of b.lines p) (Some c)) (grid_of b') c → IsOn start.lines p → (IsStoneOf (grid_of b) (number_of b.lines p) → ⊥)
+        → t.own ≡ vanished b.lines (slice_set (grid_of b) (number_of b.lines p) (Some c)) (grid_of b') c → IsPlayable start.lines now (At p)
         → IsPlayed start.lines now (placed c p t)
-    played_put t theirs own on free = record {
-      playable = (on, sym colour_is ∙ none_of (colour_at (grid_of b) (number_of b.lines p)) free);
+    played_put t theirs own playable = record {
+      playable = playable;
       taken = taken_put t theirs own;
     }
 
--- what the answer of a play on the board tells of the point
+-- a play on the board is refused with a stone on the point alone
 pub occupied_stone : {S : Type 0} (r : Result Taken PlaceError) (e : PlaceError) → r ≡ Err e → e ≡ Occupied → (IsErrOf r Occupied ↔ S) → S
 occupied_stone r e is of iff = iff.0 (is ∙ ap (λ (x : PlaceError). let y : Result Taken PlaceError = Err x in y) of)
-
-pub free_memory : {S : Type 0} (r : Result Taken PlaceError) (e : PlaceError) → r ≡ Err e → e ≡ Memory → (IsErrOf r Occupied ↔ S) → S → ⊥
-free_memory r e is of iff s = absurd (let h : r ≡ Err Occupied = iff.1 s in let f : Memory ≡ Occupied = cc in cc)
-
-pub free_ok : {S : Type 0} (r : Result Taken PlaceError) (t : Taken) → r ≡ Ok t → (IsErrOf r Occupied ↔ S) → S → ⊥
-free_ok r t is iff s = absurd (let h : r ≡ Err Occupied = iff.1 s in let f : Ok t ≡ Err Occupied = sym is ∙ h in cc)
-
--- the error of a play that wasn't noted is no stone on the point
-pub noted_apart : (e : PlayError) → (e ≡ error.Memory) ⊎ ((k : ℕ) × (e ≡ error.Repeats k)) → ◌≡◌ {A = Result Taken PlayError} (Err e) (Err error.Occupied) → ⊥
-noted_apart e others is = elim others [
-  | inl memory ↦ absurd (let f : error.Memory ≡ error.Occupied = cc in cc)
-  | inr repeats ↦ absurd (let f : error.Repeats repeats.0 ≡ error.Occupied = sym repeats.1 ∙ (let h : e ≡ error.Occupied = cc in h) in cc)
-]
 
 pub same_error : (e f : PlayError) → ◌≡◌ {A = Result Taken PlayError} (Err e) (Err f) → ◌≡◌ {A = Result Unit PlayError} (Err e) (Err f)
 same_error e f is = ap (λ (x : PlayError). let y : Result Unit PlayError = Err x in y) (let h : e ≡ f = cc in h)

@@ -1,10 +1,11 @@
 //! Moves played and taken back.
 ghost use Rattle.std.specs.Prelude.{◌≡◌, ◌≤◌, ◌++◌, ◌∷◌, ◌*◌, [], ◌↔◌, ℕ, Err, IfErr, IfNone, IfOk, IfSome, List, OnErr, OnOk, Some, None, Contains, ◌+◌, ◌⊎◌, length};
+ghost use Rattle.go_board.specs.Grids.{stone_at};
 ghost use Rattle.go_board.specs.Points.{IsOn};
 ghost use Rattle.go_game.specs.Counts.{IsAsBefore, IsLogged, IsTakenBack, most_for};
 ghost use Rattle.go_history.specs.Histories.{IsChangedAt, IsUnchanged, number_at};
 ghost use Rattle.go_game.specs.Prisoners.{share_of};
-ghost use Rattle.go_game.specs.Standings.{IsLegal, IsOccupied, IsOffBoard, IsRepeat, with_move, without_last};
+ghost use Rattle.go_game.specs.Standings.{IsLegal, IsOccupied, IsOffBoard, IsRepeat, present, with_move, without_last};
 ghost use Rattle.go_game.specs.Playing.{stones_taken};
 
 use crate::step::Step;
@@ -45,10 +46,17 @@ impl<A: Allocator + Copy> Game<A> {
             → self.new.trace ≡ self.old.trace }
         ensures pass { made.vertex ≡ Vertex.Pass → self.new.count ≡ self.old.count }
     {
-        match made.vertex {
-            Vertex::Pass => self.pass(made.colour),
-            Vertex::At(p) => self.put(made.colour, p),
+        let p = match made.vertex {
+            Vertex::Pass => return self.pass(made.colour),
+            Vertex::At(p) => p,
+        };
+        if !p.on(self.size()) {
+            return Err(PlayError::OffBoard);
         }
+        if self.colour_at(p).is_some() {
+            return Err(PlayError::Occupied);
+        }
+        self.put(made.colour, p)
     }
 
     /// Passes: always legal, refused for want of memory alone.
@@ -81,13 +89,11 @@ impl<A: Allocator + Copy> Game<A> {
         Ok(taken)
     }
 
-    /// Places a stone where that is legal. The board is played on first, and the play taken back
-    /// where it repeats or there is no memory to keep it.
+    /// Places a stone on an empty point where that is legal. The board is played on first, and the
+    /// play taken back where it repeats or there is no memory to keep it.
     fn put(&mut self, colour: Colour, p: Point) -> Result<Taken, PlayError>
-        ensures off_board { (result ≡ Err PlayError.OffBoard)
-            ↔ (IsOn self.old.standing.lines p → ⊥) }
-        ensures occupied { (result ≡ Err PlayError.Occupied)
-            ↔ IsOccupied self.old.standing (Vertex.At p) }
+        requires on { IsOn self.old.standing.lines p }
+        requires vacant { stone_at (present self.old.standing) p ≡ None }
         ensures repeats { (k : ℕ) → result ≡ Err (PlayError.Repeats k)
             → IsRepeat self.old.standing colour (Vertex.At p) k }
         ensures legal { OnOk result (IsLegal self.old.standing colour (Vertex.At p)) }
@@ -96,6 +102,8 @@ impl<A: Allocator + Copy> Game<A> {
         ensures taken { IfOk result (λ taken. (of : Colour) → share_of colour taken of
             ≡ stones_taken self.old.standing colour (Vertex.At p) of) }
         ensures err { OnErr result (IsAsBefore self.old self.new) }
+        ensures others { IfErr result (λ e. (e ≡ PlayError.Memory)
+            ⊎ ((k : ℕ) × (e ≡ PlayError.Repeats k))) }
         ensures logged { OnOk result (IsLogged self.old self.new
             (most_for self.old.standing colour (Vertex.At p))) }
         ensures count { OnOk result (self.new.count
@@ -104,19 +112,9 @@ impl<A: Allocator + Copy> Game<A> {
             ≤ self.old.count + 4 * most_for self.old.standing colour (Vertex.At p)) }
         ensures writes { OnErr result (length self.new.trace ≤ length self.old.trace
             + 2 * most_for self.old.standing colour (Vertex.At p)) }
-        ensures uncounted { (result ≡ Err PlayError.OffBoard) ⊎ (result ≡ Err PlayError.Occupied)
-            → self.new.count ≡ self.old.count }
-        ensures unwritten { (result ≡ Err PlayError.OffBoard) ⊎ (result ≡ Err PlayError.Occupied)
-            → self.new.trace ≡ self.old.trace }
     {
         taken_and_left();
         packs_tell_colourings_apart();
-        if !p.on(self.size()) {
-            return Err(PlayError::OffBoard);
-        }
-        if self.board.colour_at(p).is_some() {
-            return Err(PlayError::Occupied);
-        }
         let taken = match self.board.play(&mut self.log, &mut self.meter, colour, p) {
             Ok(taken) => taken,
             Err(PlaceError::Occupied) => return Err(PlayError::Occupied),

@@ -8,7 +8,7 @@ use Rattle.std.proofs.lemmas.Nat.Bits.{bit_at-lt, bit_at-zero, bit_at_clear_othe
 use Rattle.go_board.specs.declared.size.TheConstants.{MAX_POINTS}
 use Rattle.go_chains.specs.declared.cells.TheConstants.{LIBERTIES, WORDS}
 use Rattle.go_chains.specs.Cells.{IsWritten, code_at, label_of, lib_of, word_of}
-use Rattle.go_chains.specs.inner.Writes.{IsDeprived, IsFilled, MarksOne, IsStoneBeside, MarksEmpty, mask_bit}
+use Rattle.go_chains.specs.inner.Writes.{IsDeprived, IsFilled, IsStoneBeside, MarksEmpty, MarksOne, mask_bit}
 
 -- a bit that isn't set is 0
 pub unset : (n i : ℕ) → bit_at n i ≢ 1 → bit_at n i ≡ 0

@@ -1,49 +1,24 @@
-use Rattle.std.proofs.Common.{arith, ◌≡◌, ◌∙◌, ℕ, None, length, refl, sym, ap, subst}
+use Rattle.std.proofs.Common.{arith, ◌≡◌, ◌∙◌, None, length, refl, sym, ap, subst}
 use Rattle.go_board.specs.PackBytes.{bytes_of}
 use Rattle.std.proofs.Math.ListN.{length-map}
 use Rattle.go_board.specs.declared.vertex.Vertex.TheVariants.{At}
-use Rattle.go_board.specs.Colours.{colour_at}
-use Rattle.go_board.specs.Points.{IsOn, number_of}
+use Rattle.go_board.specs.Points.{number_of}
 use Rattle.go_chains.specs.Sound.{grid_of}
 use Rattle.go_chains.specs.Playing.{most_of}
 use Rattle.go_game.specs.Counts.{IsLogged, most_for}
-use Rattle.go_game.specs.inner.Held.{made_of}
+use Rattle.go_game.specs.inner.Held.{IsPlayable, made_of}
 use Rattle.go_game.specs.Playing.{stones_taken}
 use Rattle.go_game.specs.Standings.{GameValue, IsLegal, IsRepeat, board_of, mover_by}
 use Rattle.go_game.proofs.Counting.{logged_put, seen, twice}
-use Rattle.go_game.proofs.Keeping.{some_of}
 use Rattle.go_game.proofs.Played.{room_held}
-use Rattle.go_game.proofs.Puts.{colour_is, free_memory, free_ok, most_is, noted_apart, occupied_stone, same_error, legal_put, played_put, repeats_put, some_stone, stone_some, taken_put}
+use Rattle.go_game.proofs.Puts.{legal_put, most_is, no_stone, occupied_stone, played_put, repeats_put, same_error, taken_put}
 use Rattle.go_game.proofs.Turns.{keep_put, placed, rewinds}
 use Rattle.go_game.proofs.game.Game.put.Goals as goal
 
-pub returns-in-Err-Occupied-clause-occupied : goal.returns-in-Err-Occupied-clause-occupied
-returns-in-Err-Occupied-clause-occupied g c =
-    let on_now : IsOn c.args.self.now.standing.lines c.args.p = subst (λ (m : ℕ). IsOn m c.args.p) c.size.ensures.lines (c.on.ensures.0 c.if-not-on.false) in
-    let on : IsOn c.self.inside.start.lines c.args.p = subst (λ (v : GameValue). IsOn v.standing.lines c.args.p) (sym c.self.view_is) on_now in
-    let seen = colour_is c.self.inside.superko c.self.inside.start c.self.inside.komi c.self.inside.first c.self.inside.steps.items c.self.inside.board c.self.inside.log c.self.inside.history c.self.inside.prisoners.black c.self.inside.prisoners.white c.self.invariant c.args.colour c.args.p ∙ ap (λ (v : GameValue). colour_at (board_of v.standing) (number_of v.standing.lines c.args.p)) c.self.view_is in
-    ((λ e. (on_now, stone_some (colour_at (grid_of c.self.inside.board) (number_of c.self.inside.board.lines c.args.p)) (colour_at (board_of c.args.self.now.standing) (number_of c.args.self.now.standing.lines c.args.p)) seen (occupied_stone c.play.result c.in-Err-Occupied.field-0 c.in-Err-Occupied.is c.in-Err-Occupied.field-0-is c.play.ensures.occupied))), λ h. refl)
-
-pub returns-in-Err-Memory-clause-occupied : goal.returns-in-Err-Memory-clause-occupied
-returns-in-Err-Memory-clause-occupied g c =
-    let on_now : IsOn c.args.self.now.standing.lines c.args.p = subst (λ (m : ℕ). IsOn m c.args.p) c.size.ensures.lines (c.on.ensures.0 c.if-not-on.false) in
-    let on : IsOn c.self.inside.start.lines c.args.p = subst (λ (v : GameValue). IsOn v.standing.lines c.args.p) (sym c.self.view_is) on_now in
-    let seen = colour_is c.self.inside.superko c.self.inside.start c.self.inside.komi c.self.inside.first c.self.inside.steps.items c.self.inside.board c.self.inside.log c.self.inside.history c.self.inside.prisoners.black c.self.inside.prisoners.white c.self.invariant c.args.colour c.args.p ∙ ap (λ (v : GameValue). colour_at (board_of v.standing) (number_of v.standing.lines c.args.p)) c.self.view_is in
-    ((λ e. absurd (cc)), λ h. absurd (free_memory c.play.result c.in-Err-Memory.field-0 c.in-Err-Memory.is c.in-Err-Memory.field-0-is c.play.ensures.occupied (some_stone (colour_at (grid_of c.self.inside.board) (number_of c.self.inside.board.lines c.args.p)) (colour_at (board_of c.args.self.now.standing) (number_of c.args.self.now.standing.lines c.args.p)) seen h.1)))
-
-pub returns-in-Ok-note-clause-occupied : goal.returns-in-Ok-note-clause-occupied
-returns-in-Ok-note-clause-occupied g c =
-    let on_now : IsOn c.args.self.now.standing.lines c.args.p = subst (λ (m : ℕ). IsOn m c.args.p) c.size.ensures.lines (c.on.ensures.0 c.if-not-on.false) in
-    let on : IsOn c.self.inside.start.lines c.args.p = subst (λ (v : GameValue). IsOn v.standing.lines c.args.p) (sym c.self.view_is) on_now in
-    let seen = colour_is c.self.inside.superko c.self.inside.start c.self.inside.komi c.self.inside.first c.self.inside.steps.items c.self.inside.board c.self.inside.log c.self.inside.history c.self.inside.prisoners.black c.self.inside.prisoners.white c.self.invariant c.args.colour c.args.p ∙ ap (λ (v : GameValue). colour_at (board_of v.standing) (number_of v.standing.lines c.args.p)) c.self.view_is in
-    ((λ e. absurd (cc)), λ h. absurd (free_ok c.play.result c.in-Ok.taken c.in-Ok.is c.play.ensures.occupied (some_stone (colour_at (grid_of c.self.inside.board) (number_of c.self.inside.board.lines c.args.p)) (colour_at (board_of c.args.self.now.standing) (number_of c.args.self.now.standing.lines c.args.p)) seen h.1)))
-
-pub returns-in-Err-clause-occupied : goal.returns-in-Err-clause-occupied
-returns-in-Err-clause-occupied g c =
-    let on_now : IsOn c.args.self.now.standing.lines c.args.p = subst (λ (m : ℕ). IsOn m c.args.p) c.size.ensures.lines (c.on.ensures.0 c.if-not-on.false) in
-    let on : IsOn c.self.inside.start.lines c.args.p = subst (λ (v : GameValue). IsOn v.standing.lines c.args.p) (sym c.self.view_is) on_now in
-    let seen = colour_is c.self.inside.superko c.self.inside.start c.self.inside.komi c.self.inside.first c.self.inside.steps.items c.self.inside.board c.self.inside.log c.self.inside.history c.self.inside.prisoners.black c.self.inside.prisoners.white c.self.invariant c.args.colour c.args.p ∙ ap (λ (v : GameValue). colour_at (board_of v.standing) (number_of v.standing.lines c.args.p)) c.self.view_is in
-    ((λ e. absurd (noted_apart c.in-Err.error c.in-Err.ensures.others e)), λ h. absurd (free_ok c.play.result c.in-Ok.taken c.in-Ok.is c.play.ensures.occupied (some_stone (colour_at (grid_of c.self.inside.board) (number_of c.self.inside.board.lines c.args.p)) (colour_at (board_of c.args.self.now.standing) (number_of c.args.self.now.standing.lines c.args.p)) seen h.1)))
+pub returns-in-Err-Occupied-clause-others : goal.returns-in-Err-Occupied-clause-others
+returns-in-Err-Occupied-clause-others g c =
+    let playable = subst (λ (v : GameValue). IsPlayable v.standing.lines (board_of v.standing) (At c.args.p)) (sym c.self.view_is) (c.requires.on, c.requires.vacant) in
+    absurd (no_stone c.self.inside.superko c.self.inside.start c.self.inside.komi c.self.inside.first c.self.inside.steps.items c.self.inside.board c.self.inside.log c.self.inside.history c.self.inside.prisoners.black c.self.inside.prisoners.white c.self.invariant c.args.colour c.args.p playable (occupied_stone c.play.result c.in-Err-Occupied.field-0 c.in-Err-Occupied.is c.in-Err-Occupied.field-0-is c.play.ensures.occupied))
 
 pub returns-in-Err-clause-repeats : goal.returns-in-Err-clause-repeats
 returns-in-Err-clause-repeats g c k e =
@@ -52,10 +27,9 @@ returns-in-Err-clause-repeats g c k e =
 
 pub returns-in-Ok-note-clause-legal : goal.returns-in-Ok-note-clause-legal
 returns-in-Ok-note-clause-legal g c =
-    let on_now : IsOn c.args.self.now.standing.lines c.args.p = subst (λ (m : ℕ). IsOn m c.args.p) c.size.ensures.lines (c.on.ensures.0 c.if-not-on.false) in
-    let on : IsOn c.self.inside.start.lines c.args.p = subst (λ (v : GameValue). IsOn v.standing.lines c.args.p) (sym c.self.view_is) on_now in
+    let playable = subst (λ (v : GameValue). IsPlayable v.standing.lines (board_of v.standing) (At c.args.p)) (sym c.self.view_is) (c.requires.on, c.requires.vacant) in
     subst (λ (v : GameValue). IsLegal v.standing c.args.colour (At c.args.p)) c.self.view_is
-    (legal_put c.self.inside.superko c.self.inside.start c.self.inside.komi c.self.inside.first c.self.inside.steps.items c.self.inside.board c.self.inside.log c.self.inside.history c.self.inside.prisoners.black c.self.inside.prisoners.white c.self.invariant c.args.colour c.args.p c.play.new.self c.in-Ok.ensures.moved c.key-key.result (ap bytes_of c.key-key.ensures.pack ∙ c.pack.ensures) (c.key-key.ensures.mover ∙ ap (mover_by c.self.inside.superko) c.other.ensures) on (free_ok c.play.result c.in-Ok.taken c.in-Ok.is c.play.ensures.occupied) c.in-Ok-note.ensures.lacked)
+    (legal_put c.self.inside.superko c.self.inside.start c.self.inside.komi c.self.inside.first c.self.inside.steps.items c.self.inside.board c.self.inside.log c.self.inside.history c.self.inside.prisoners.black c.self.inside.prisoners.white c.self.invariant c.args.colour c.args.p c.play.new.self c.in-Ok.ensures.moved c.key-key.result (ap bytes_of c.key-key.ensures.pack ∙ c.pack.ensures) (c.key-key.ensures.mover ∙ ap (mover_by c.self.inside.superko) c.other.ensures) playable c.in-Ok-note.ensures.lacked)
 
 pub returns-in-Ok-note-clause-taken : goal.returns-in-Ok-note-clause-taken
 returns-in-Ok-note-clause-taken g c of =
@@ -64,16 +38,14 @@ returns-in-Ok-note-clause-taken g c of =
 
 pub add-requires-clause-black : goal.add-requires-clause-black
 add-requires-clause-black g c =
-    let on_now : IsOn c.args.self.now.standing.lines c.args.p = subst (λ (m : ℕ). IsOn m c.args.p) c.size.ensures.lines (c.on.ensures.0 c.if-not-on.false) in
-    let on : IsOn c.self.inside.start.lines c.args.p = subst (λ (v : GameValue). IsOn v.standing.lines c.args.p) (sym c.self.view_is) on_now in
-    let played = played_put c.self.inside.superko c.self.inside.start c.self.inside.komi c.self.inside.first c.self.inside.steps.items c.self.inside.board c.self.inside.log c.self.inside.history c.self.inside.prisoners.black c.self.inside.prisoners.white c.self.invariant c.args.colour c.args.p c.play.new.self c.in-Ok.ensures.moved c.in-Ok.taken c.in-Ok.ensures.theirs c.in-Ok.ensures.own on (free_ok c.play.result c.in-Ok.taken c.in-Ok.is c.play.ensures.occupied) in
+    let playable = subst (λ (v : GameValue). IsPlayable v.standing.lines (board_of v.standing) (At c.args.p)) (sym c.self.view_is) (c.requires.on, c.requires.vacant) in
+    let played = played_put c.self.inside.superko c.self.inside.start c.self.inside.komi c.self.inside.first c.self.inside.steps.items c.self.inside.board c.self.inside.log c.self.inside.history c.self.inside.prisoners.black c.self.inside.prisoners.white c.self.invariant c.args.colour c.args.p c.play.new.self c.in-Ok.ensures.moved c.in-Ok.taken c.in-Ok.ensures.theirs c.in-Ok.ensures.own playable in
     (room_held (record { together = c.taken_and_left.ensures.together; placed = c.taken_and_left.ensures.placed }) c.self.inside.superko c.self.inside.start c.self.inside.komi c.self.inside.first c.self.inside.steps.items (placed c.args.colour c.args.p c.in-Ok.taken) c.self.inside.prisoners.black c.self.inside.prisoners.white c.self.invariant.held (let few = c.self.inside.steps.small in let ok = c.self.inside.steps.ok in let long = length-map c.self.inside.steps.items made_of in omega arith) played).0
 
 pub add-requires-clause-white : goal.add-requires-clause-white
 add-requires-clause-white g c =
-    let on_now : IsOn c.args.self.now.standing.lines c.args.p = subst (λ (m : ℕ). IsOn m c.args.p) c.size.ensures.lines (c.on.ensures.0 c.if-not-on.false) in
-    let on : IsOn c.self.inside.start.lines c.args.p = subst (λ (v : GameValue). IsOn v.standing.lines c.args.p) (sym c.self.view_is) on_now in
-    let played = played_put c.self.inside.superko c.self.inside.start c.self.inside.komi c.self.inside.first c.self.inside.steps.items c.self.inside.board c.self.inside.log c.self.inside.history c.self.inside.prisoners.black c.self.inside.prisoners.white c.self.invariant c.args.colour c.args.p c.play.new.self c.in-Ok.ensures.moved c.in-Ok.taken c.in-Ok.ensures.theirs c.in-Ok.ensures.own on (free_ok c.play.result c.in-Ok.taken c.in-Ok.is c.play.ensures.occupied) in
+    let playable = subst (λ (v : GameValue). IsPlayable v.standing.lines (board_of v.standing) (At c.args.p)) (sym c.self.view_is) (c.requires.on, c.requires.vacant) in
+    let played = played_put c.self.inside.superko c.self.inside.start c.self.inside.komi c.self.inside.first c.self.inside.steps.items c.self.inside.board c.self.inside.log c.self.inside.history c.self.inside.prisoners.black c.self.inside.prisoners.white c.self.invariant c.args.colour c.args.p c.play.new.self c.in-Ok.ensures.moved c.in-Ok.taken c.in-Ok.ensures.theirs c.in-Ok.ensures.own playable in
     (room_held (record { together = c.taken_and_left.ensures.together; placed = c.taken_and_left.ensures.placed }) c.self.inside.superko c.self.inside.start c.self.inside.komi c.self.inside.first c.self.inside.steps.items (placed c.args.colour c.args.p c.in-Ok.taken) c.self.inside.prisoners.black c.self.inside.prisoners.white c.self.invariant.held (let few = c.self.inside.steps.small in let ok = c.self.inside.steps.ok in let long = length-map c.self.inside.steps.items made_of in omega arith) played).1
 
 pub rewind-requires-clause-cells : goal.rewind-requires-clause-cells
@@ -83,9 +55,7 @@ rewind-requires-clause-cells g c earlier changes split =
 
 pub invariant_of-self-in-Ok-note : goal.invariant_of-self-in-Ok-note
 invariant_of-self-in-Ok-note g c =
-    let on_now : IsOn c.args.self.now.standing.lines c.args.p = subst (λ (m : ℕ). IsOn m c.args.p) c.size.ensures.lines (c.on.ensures.0 c.if-not-on.false) in
-    let on : IsOn c.self.inside.start.lines c.args.p = subst (λ (v : GameValue). IsOn v.standing.lines c.args.p) (sym c.self.view_is) on_now in
-    let free = free_ok c.play.result c.in-Ok.taken c.in-Ok.is c.play.ensures.occupied in
+    let playable = subst (λ (v : GameValue). IsPlayable v.standing.lines (board_of v.standing) (At c.args.p)) (sym c.self.view_is) (c.requires.on, c.requires.vacant) in
     keep_put c.packs_tell_colourings_apart.ensures c.self.inside.superko c.self.inside.start c.self.inside.komi c.self.inside.first c.self.inside.steps.items c.note.new.steps.items c.args.colour c.args.p c.in-Ok.taken c.self.inside.board c.play.new.self c.self.inside.log c.play.new.log
     c.self.inside.history c.note.new.history c.key-key.result c.self.inside.prisoners.black c.self.inside.prisoners.white c.add.new.self.black c.add.new.self.white c.self.invariant c.in-Ok-note.ensures.pushed
     (record {
@@ -98,8 +68,8 @@ invariant_of-self-in-Ok-note g c =
       mover = c.key-key.ensures.mover ∙ ap (mover_by c.self.inside.superko) c.other.ensures;
       noted = record { known = None; found = sym c.in-Ok-note.ensures.lacked; noted = λ e. c.in-Ok-note.ensures.noted; stood = λ j e. cc };
     })
-    (played_put c.self.inside.superko c.self.inside.start c.self.inside.komi c.self.inside.first c.self.inside.steps.items c.self.inside.board c.self.inside.log c.self.inside.history c.self.inside.prisoners.black c.self.inside.prisoners.white c.self.invariant c.args.colour c.args.p c.play.new.self c.in-Ok.ensures.moved c.in-Ok.taken c.in-Ok.ensures.theirs c.in-Ok.ensures.own on free)
-    (legal_put c.self.inside.superko c.self.inside.start c.self.inside.komi c.self.inside.first c.self.inside.steps.items c.self.inside.board c.self.inside.log c.self.inside.history c.self.inside.prisoners.black c.self.inside.prisoners.white c.self.invariant c.args.colour c.args.p c.play.new.self c.in-Ok.ensures.moved c.key-key.result (ap bytes_of c.key-key.ensures.pack ∙ c.pack.ensures) (c.key-key.ensures.mover ∙ ap (mover_by c.self.inside.superko) c.other.ensures) on free c.in-Ok-note.ensures.lacked) c.add.ensures.black c.add.ensures.white
+    (played_put c.self.inside.superko c.self.inside.start c.self.inside.komi c.self.inside.first c.self.inside.steps.items c.self.inside.board c.self.inside.log c.self.inside.history c.self.inside.prisoners.black c.self.inside.prisoners.white c.self.invariant c.args.colour c.args.p c.play.new.self c.in-Ok.ensures.moved c.in-Ok.taken c.in-Ok.ensures.theirs c.in-Ok.ensures.own playable)
+    (legal_put c.self.inside.superko c.self.inside.start c.self.inside.komi c.self.inside.first c.self.inside.steps.items c.self.inside.board c.self.inside.log c.self.inside.history c.self.inside.prisoners.black c.self.inside.prisoners.white c.self.invariant c.args.colour c.args.p c.play.new.self c.in-Ok.ensures.moved c.key-key.result (ap bytes_of c.key-key.ensures.pack ∙ c.pack.ensures) (c.key-key.ensures.mover ∙ ap (mover_by c.self.inside.superko) c.other.ensures) playable c.in-Ok-note.ensures.lacked) c.add.ensures.black c.add.ensures.white
 
 pub returns-in-Ok-note-clause-logged : goal.returns-in-Ok-note-clause-logged
 returns-in-Ok-note-clause-logged g c =
@@ -113,6 +83,13 @@ returns-in-Ok-note-clause-logged g c =
 
 pub returns-in-Ok-note-clause-count : goal.returns-in-Ok-note-clause-count
 returns-in-Ok-note-clause-count g c =
+    let most : most_of c.self.inside.board.lines (grid_of c.self.inside.board) c.args.colour (number_of c.self.inside.board.lines c.args.p) ≡ most_for c.args.self.now.standing c.args.colour (At c.args.p) =
+    most_is c.self.inside.superko c.self.inside.start c.self.inside.komi c.self.inside.first c.self.inside.steps.items c.self.inside.board c.self.inside.log c.self.inside.history c.self.inside.prisoners.black c.self.inside.prisoners.white c.self.invariant c.args.colour c.args.p ∙ ap (λ (v : GameValue). most_for v.standing c.args.colour (At c.args.p)) c.self.view_is in
+    let before : c.self.inside.meter ≡ c.args.self.now.count = ap (λ (v : GameValue). v.count) c.self.view_is in
+    let ticks = c.play.ensures.count in omega (arith, most, before, ticks)
+
+pub returns-in-Err-Occupied-clause-refused : goal.returns-in-Err-Occupied-clause-refused
+returns-in-Err-Occupied-clause-refused g c =
     let most : most_of c.self.inside.board.lines (grid_of c.self.inside.board) c.args.colour (number_of c.self.inside.board.lines c.args.p) ≡ most_for c.args.self.now.standing c.args.colour (At c.args.p) =
     most_is c.self.inside.superko c.self.inside.start c.self.inside.komi c.self.inside.first c.self.inside.steps.items c.self.inside.board c.self.inside.log c.self.inside.history c.self.inside.prisoners.black c.self.inside.prisoners.white c.self.invariant c.args.colour c.args.p ∙ ap (λ (v : GameValue). most_for v.standing c.args.colour (At c.args.p)) c.self.view_is in
     let before : c.self.inside.meter ≡ c.args.self.now.count = ap (λ (v : GameValue). v.count) c.self.view_is in
@@ -144,9 +121,3 @@ returns-in-Err-clause-refused g c =
     let few = logged.few in
     let back = (c.rewind.ensures.rewound c.self.inside.log logged.changes logged.gained).count in
     omega (arith, most, before, ticks, few, back)
-
-pub returns-then-is_some-clause-occupied : goal.returns-then-is_some-clause-occupied
-returns-then-is_some-clause-occupied g c =
-    let on_now : IsOn c.args.self.now.standing.lines c.args.p = subst (λ (m : ℕ). IsOn m c.args.p) c.size.ensures.lines (c.on.ensures.0 c.if-not-on.false) in
-    let seen = colour_is c.self.inside.superko c.self.inside.start c.self.inside.komi c.self.inside.first c.self.inside.steps.items c.self.inside.board c.self.inside.log c.self.inside.history c.self.inside.prisoners.black c.self.inside.prisoners.white c.self.invariant c.args.colour c.args.p ∙ ap (λ (v : GameValue). colour_at (board_of v.standing) (number_of v.standing.lines c.args.p)) c.self.view_is in
-    ((λ e. (on_now, stone_some (colour_at (grid_of c.self.inside.board) (number_of c.self.inside.board.lines c.args.p)) (colour_at (board_of c.args.self.now.standing) (number_of c.args.self.now.standing.lines c.args.p)) seen (let s = some_of c.colour_at.result (sym c.is_some.ensures ∙ c.if-is_some.true) in (s.0, sym c.colour_at.ensures ∙ s.1)))), λ h. refl)
