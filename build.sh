@@ -36,6 +36,12 @@ places() {
         END { fit = fit < most ? fit : most; print fit < 1 ? 1 : fit }'
 }
 
+# How many jobs rt has for a crate, given how many are below it. Each job reads all of those for itself,
+# so that more than two take longer than they save.
+jobs() {
+    [ "$1" = 0 ] || [ "$most" = 1 ] && echo "$most" || echo 2
+}
+
 # Says something, in the place of the line on a terminal that follow keeps.
 say() {
     [ -t 2 ] && printf '\r\033[K' >&2
@@ -56,7 +62,7 @@ begin() {
 # A niceness for a crate: the more crates wait for it, the less it gives way to those beside it.
 niceness() {
     above=$(grep -cw "$1" "$room/crates")
-    echo $((above > 9 ? 0 : 19 - 2 * above))
+    echo $((above > 6 ? 0 : 19 - 3 * above))
 }
 
 # Builds a crate in a tree of its own, and puts here what comes of it.
@@ -73,7 +79,7 @@ build_apart() {
         mkdir -p "$tree/crates/$low/out" && cd "$here/crates/$low" &&
             cp -Rl src specs proofs "$tree/crates/$low" && cp -Rl out/rlib "$tree/crates/$low/out" || return
     done
-    cd "$tree/crates/$name" && nice -n "$(niceness "$name")" rt lib || return
+    cd "$tree/crates/$name" && nice -n "$(niceness "$name")" rt lib --jobs "$(jobs $#)" || return
     # Not while another rt works in it, and not by half.
     flock "$own" sh -c 'trap "" TERM; rm -rf "$2" && mv "$1" "$2"' - out "$own/out"
 }
@@ -109,7 +115,6 @@ are_built() {
 # one fails, none is begun any more.
 build_crates() {
     begun=0
-    most=$(places)
     crates >"$room/crates" || return
     while [ "$(count "$room"/*.failed)" = 0 ] && [ "$begun" -lt $((all - 1)) ]; do
         while read -r crate below; do
@@ -150,6 +155,7 @@ follow() {
 rm -rf "$room" "$logs"
 mkdir -p "$room" "$logs" || exit
 all=$(($(crates | wc -l) + 1))
+most=$(places)
 if [ -t 2 ]; then
     follow &
     follower=$!
@@ -161,7 +167,7 @@ for end in "$room"/*.failed; do
 done
 rm -rf "$room"
 begin goref_program
-(cd "$here/crates/goref_program" && rt run -- --help) >>"$logs/goref_program" 2>&1
+(cd "$here/crates/goref_program" && rt run --jobs "$(jobs $((all - 1)))" -- --help) >>"$logs/goref_program" 2>&1
 status=$?
 [ -t 2 ] && kill "$follower"
 exit "$status"
