@@ -36,8 +36,8 @@ places() {
         END { fit = fit < most ? fit : most; print fit < 1 ? 1 : fit }'
 }
 
-# How many jobs rt has for a crate, given how many are below it. Each job reads all of those for itself,
-# so that more than two take longer than they save.
+# How many jobs rt has for a crate, given how many are below it. Each job reads all of those for itself:
+# four take nearly half as much again of the processors as one does.
 jobs() {
     [ "$1" = 0 ] || [ "$most" = 1 ] && echo "$most" || echo 2
 }
