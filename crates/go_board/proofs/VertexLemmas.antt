@@ -2,13 +2,12 @@
 use Rattle.std.proofs.Common.{lit<, true≢false, arith, ◌≡◌, ◌≤◌, ◌<◌, ◌+◌, ◌∙◌, ◌&&◌, ◌==◌, ◌↔◌, Bool, true, false, inl, inr, ℕ, zero, suc, List, ◌∷◌, Option, Some, None, Ok, Err, codes, refl, sym, ap, length, map}
 use Rattle.std.proofs.lemmas.List.{get_or_past}
 use Rattle.std.specs.Fmt.{decimal, digits}
-use Rattle.std.specs.Prelude.{if◌then◌else◌}
+use Rattle.std.specs.Prelude.{if◌then◌else◌, IfOk, nat_lt}
 use Rattle.std.specs.Str.{str_eq_ignore_ascii_case}
 use Rattle.std.specs.Char.{to_ascii_lowercase}
 use Rattle.std.proofs.lemmas.Slice.Eq.{bytes_eq-Decides}
 use Rattle.std.proofs.lemmas.Fmt.{length-decimal-le}
 use Rattle.std.proofs.lemmas.Bool.{cases_lt, cases_Bool, eqb-true, ltb-true, lt-ltb, false_from_ne_true, and_parts}
-use Rattle.std.specs.Prelude.{IfOk, nat_lt}
 use Rattle.std.proofs.Math.ListN.{length-map}
 use Rattle.go_board.specs.declared.point.Point.{Point}
 use Rattle.go_board.specs.declared.vertex.Vertex.{Vertex}

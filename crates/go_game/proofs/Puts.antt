@@ -1,6 +1,5 @@
 -- What a play on the board of a game tells of the game's standing.
-use Rattle.std.specs.Prelude.{slice_set}
-use Rattle.std.specs.Prelude.{Result, Err, IsErrOf}
+use Rattle.std.specs.Prelude.{Result, Err, IsErrOf, slice_set}
 use Rattle.go_chains.specs.declared.errors.PlaceError.{PlaceError}
 use Rattle.go_chains.specs.declared.errors.PlaceError.TheVariants.{Occupied}
 use Rattle.go_game.specs.declared.errors.PlayError.{PlayError}

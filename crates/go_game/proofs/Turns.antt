@@ -2,7 +2,7 @@
 use Rattle.std.proofs.Common.{arith, ◌≡◌, ◌+◌, ◌*◌, ◌∙◌, ℕ, ℤ, List, [], ◌∷◌, ◌++◌, length, map, refl, sym, ap, subst, Contains, None}
 use Rattle.go_board.specs.Laws.{PacksTellApart}
 use Rattle.go_board.specs.lemmas.Squares.{square-le}
-use Rattle.std.proofs.lemmas.List.{append-nil, map-append}
+use Rattle.std.proofs.lemmas.List.{append-nil, map-append, same_from_push}
 use Rattle.go_board.specs.declared.vertex.Vertex.{Vertex}
 use Rattle.std.proofs.Math.ListN.{length-map}
 use Rattle.go_board.specs.declared.colour.Colour.{Colour}
@@ -18,7 +18,6 @@ use Rattle.go_board.specs.Grids.{GridValue}
 use Rattle.go_board.specs.Points.{number_of}
 use Rattle.go_board.specs.Reaching.{moved}
 use Rattle.go_chains.specs.declared.change.Change.{Change}
-use Rattle.std.proofs.lemmas.List.{same_from_push}
 use Rattle.go_chains.specs.declared.cells.TheConstants.{COUNT}
 use Rattle.go_chains.specs.Rewound.{IsRewound, NamesCells, PlayLogged, rewound}
 use Rattle.go_chains.specs.Sound.{BoardValue, IsKept, colouring_of, grid_of}

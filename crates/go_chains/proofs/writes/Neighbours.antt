@@ -1,9 +1,8 @@
 -- Points beside each other, and a list of them.
-use Rattle.std.proofs.Common.{arith, ◌≡◌, ◌<◌, ◌≤◌, ◌+◌, ◌*◌, ◌∙◌, Bool, true, false, ℕ, List, IsTrue, All, Contains, get_or, length, map, sym, ap, subst}
+use Rattle.std.proofs.Common.{arith, ◌≡◌, ◌<◌, ◌≤◌, ◌+◌, ◌*◌, ◌∙◌, Bool, true, false, ℕ, List, IsTrue, All, Contains, get_or, length, map, sym, ap, subst, ◌==◌, ◌&&◌, ◌||◌, inl, inr}
 use Rattle.go_board.specs.Laws.{PointsByNumber}
 use Rattle.std.proofs.lemmas.List.{get_or-map, length-map}
 use Rattle.go_board.specs.declared.point.Point.{Point}
-use Rattle.std.proofs.Common.{◌==◌, ◌&&◌, ◌||◌, inl, inr}
 use Rattle.std.proofs.Math.Bool.{or_comm}
 use Rattle.std.proofs.lemmas.Bool.{or_cases, eqb-true, false_from_ne_true, false≢true}
 use Rattle.std.proofs.lemmas.Cmp.{nat_eq_equiv}
