@@ -37,7 +37,7 @@ places() {
 }
 
 # How many jobs rt has for a crate, given how many are below it. Each job reads all of those for itself:
-# four take nearly half as much again of the processors as one does.
+# with four of them a build takes more of the processors and of memory than with two, and ends no sooner.
 jobs() {
     [ "$1" = 0 ] || [ "$most" = 1 ] && echo "$most" || echo 2
 }

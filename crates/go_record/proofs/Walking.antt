@@ -11,7 +11,7 @@ use Rattle.go_board.specs.declared.vertex.Vertex.{Vertex}
 use Rattle.go_board.specs.Colours.{Colouring}
 use Rattle.go_game.specs.declared.errors.PlayError.{PlayError}
 use Rattle.go_game.specs.declared.errors.PlayError.TheVariants as play
-use Rattle.go_game.specs.Standings.{GameValue, IsLegal, IsOccupied, IsOffBoard, Standing, with_move, IsRepeat}
+use Rattle.go_game.specs.Standings.{GameValue, IsLegal, IsOccupied, IsOffBoard, IsRepeat, Standing, with_move}
 use Rattle.go_sgf.specs.BoardValues.{vertex_in, points_of}
 use Rattle.go_record.specs.declared.error.RecordError.{RecordError}
 use Rattle.go_record.specs.declared.error.RecordError.TheVariants.{BadValue, Memory, SetupAfterMove}

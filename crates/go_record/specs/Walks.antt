@@ -13,7 +13,7 @@ use Rattle.go_board.specs.Reaching.{has_colour, points}
 use Rattle.go_game.specs.declared.errors.PlayError.{PlayError}
 use Rattle.go_game.specs.declared.errors.PlayError.TheVariants.{Occupied, OffBoard, Repeats, Memory}
 use Rattle.go_game.specs.declared.superko.Superko.TheVariants.{Positional}
-use Rattle.go_game.specs.Standings.{IsLegal, IsOccupied, IsOffBoard, Standing, with_move, IsRepeat}
+use Rattle.go_game.specs.Standings.{IsLegal, IsOccupied, IsOffBoard, IsRepeat, Standing, with_move}
 use Rattle.go_sgf.specs.BoardValues.{vertex_in, points_of}
 use Rattle.go_sgf.specs.Numbers.{trimmed}
 use Rattle.go_record.specs.declared.error.RecordError.{RecordError}
