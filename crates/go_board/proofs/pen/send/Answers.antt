@@ -1,4 +1,4 @@
-use Rattle.std.proofs.Common.{◌∙◌, ◌++◌, ap, sym, append_assoc}
+use Rattle.std.proofs.Common.{◌∙◌, ◌++◌, ap, sym, append_assoc, rules}
 use Rattle.go_board.specs.Device.{then_bytes}
 use Rattle.go_board.specs.lemmas.Writing.{then_bytes-then_bytes}
 use Rattle.go_board.proofs.Devices.{no_failure_more}
@@ -15,3 +15,9 @@ loop-rest-preserved g c =
           ∙ ap (λ o. then_bytes o first) now.taken ∙ then_bytes-then_bytes (g.W.Sink.taken c.args.writer.now) now.front first;
       failures = no_failure_more _ _ c.in-Ok.count-test.1 c.in-Ok.ensures.failures ∙ now.failures;
     }
+
+pub returns-in-Err-clause-sent : goal.returns-in-Err-clause-sent
+returns-in-Err-clause-sent g c = search rules
+
+pub returns-in-Err-clause-failures : goal.returns-in-Err-clause-failures
+returns-in-Err-clause-failures g c = search rules

@@ -1,4 +1,4 @@
-use Rattle.std.proofs.Common.{arith, ◌≡◌, ◌*◌, ◌∙◌, ℕ, ap, refl, sym}
+use Rattle.std.proofs.Common.{arith, ◌≡◌, ◌*◌, ◌∙◌, ℕ, ap, refl, sym, rules}
 use Rattle.go_board.proofs.Equal.{equal_grids}
 use Rattle.go_board.proofs.grid.Grid.is_same_as.Goals as goal
 
@@ -9,3 +9,6 @@ returns c =
     let n = c.size-size.result in
     let other_whole = c.size.ensures.whole ∙ ap (λ (m : ℕ). m * m) (sym lines) in
     (λ e. equal_grids (n * n) c.args.self.now c.args.other.now same c.size-size.ensures.whole other_whole (λ k low. c.loop-number.invariant k (omega (arith, low, c.loop-number-test.false, c.points-number-end.ensures.value))), λ e. refl)
+
+pub loop-number-preserved : goal.loop-number-preserved
+loop-number-preserved c = search rules
