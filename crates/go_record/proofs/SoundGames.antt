@@ -109,7 +109,7 @@ komi_range value k h = elim (cases_Bool (is_blank_value value)) [
       mapped_range (has_minus word) (size_of_number (behind_sign word)) k (λ n e. size_few (whole_part (behind_sign word)) (decimals_in (behind_sign word)) n e) told
 ]
 
--- ---- what holds of each start that a record gives, and stays with each legal move_met, holds of what the record comes to
+-- ---- what holds of each start that a record gives, and stays with each legal move, holds of what the record comes to
 
 module _ (P : Standing → Type 0)
     (begun : (n : ℕ) (komi : ℤ) (g : Colouring) (given : Option Colour) → (0 < n) × (n ≤ MAX_LINES) → IsKomi komi → length g ≡ n * n → AreAlive n g → P (start_of n komi g given))

@@ -48,7 +48,7 @@ seen_none (Moves zero) = refl
 seen_none (Moves (suc k)) = refl
 seen_none Nothing = refl
 
--- whether a move_met was met
+-- whether a move was met
 pub met : (w : WalkedGame) → w.0.is_playing ≡ true → playing w ≡ Some w.1
 met w e = rw e refl
 
@@ -218,7 +218,7 @@ pub if_err : {T E : Type 0} {P Q : E → Type 0} (r : Result T E) → ((e : E) �
 if_err (Ok x) f h = h
 if_err (Err e) f h = f e h
 
--- the game that the first move_met begins
+-- the game that the first move begins
 pub began_setting : (w : WalkedGame) (s : Standing) → playing w ≡ None → AreAlive w.0.grid.lines w.0.grid.colours → s ≡ start_of w.0.grid.lines w.0.komi w.0.grid.colours w.0.turn →
     (node : ℕ) (c : Colour) (value : List ℕ) (events : List Event) (outcome : Outcome) → Plays s (move_met node c value ∷ events) outcome →
     GoesFrom w.0 (playing w) (move_met node c value ∷ events) outcome

@@ -31,7 +31,7 @@ kind_by p =
     (if is_named (codes "PL") p then Turn else Other)))))
 
 -- What is met, with the number of its node from 0: points that get a colour or are emptied, the
--- colour to move_met, and a move_met.
+-- colour to move, and a move.
 pub data Event : Type 0 where
   stones : ℕ → Option Colour → List (List ℕ) → Event
   turn : ℕ → List ℕ → Event
@@ -72,7 +72,7 @@ before_move k (turn node value ∷ events) = turn node value ∷ before_move k e
 before_move zero (move_met node colour value ∷ events) = []
 before_move (suc k) (move_met node colour value ∷ events) = move_met node colour value ∷ before_move k events
 
--- all that is looked at: with a number, what comes before the move_met of that number. 0 is read as 1.
+-- all that is looked at: with a number, what comes before the move of that number. 0 is read as 1.
 abbrev pub looked_at : Option ℕ → List Event → List Event
 looked_at None events = events
 looked_at (Some n) events = before_move (n - 1) events

@@ -29,21 +29,21 @@ abbrev pub OrBad : {X : Type 0} → ℕ → Option X → Outcome → (X → Type
 OrBad node None outcome Later = outcome ≡ Err (BadValue node)
 OrBad node (Some x) outcome Later = Later x
 
--- why a move_met isn't legal
+-- why a move isn't legal
 abbrev pub IsReason : Standing → Colour → Vertex → PlayError → Type 0
 IsReason s c v OffBoard = IsOffBoard s v
 IsReason s c v Occupied = IsOccupied s v
 IsReason s c v (Repeats k) = (IsOffBoard s v → ⊥) × (IsOccupied s v → ⊥) × IsRepeat s c v k
 IsReason s c v Memory = ⊥
 
--- The next move_met, counted from 1, is refused.
+-- The next move, counted from 1, is refused.
 pub record IsRefused (s : Standing) (c : Colour) (v : Vertex) (outcome : Outcome) : Type 0 where
   pub why : PlayError
   pub reason : IsReason s c v why
   pub refusal : outcome ≡ Err (Illegal (length s.moves + 1) why)
 
--- Once a move_met was played: moves are judged by the rules, set-up of stones is refused, and the colour
--- to move_met is skipped.
+-- Once a move was played: moves are judged by the rules, set-up of stones is refused, and the colour
+-- to move is skipped.
 unfoldable pub Plays : Standing → List Event → Outcome → Type 0
 Plays s [] outcome = outcome ≡ Ok s
 Plays s (stones node colour values ∷ events) outcome = outcome ≡ Err (SetupAfterMove node)
@@ -92,7 +92,7 @@ pub record IsDeadSetup (n : ℕ) (g : Colouring) (outcome : Outcome) : Type 0 wh
 abbrev pub Begins : ℕ → ℤ → Colouring → Option Colour → List Event → Outcome → Type 0
 Begins n komi g given events outcome = (AreAlive n g × Plays (start_of n komi g given) events outcome) ⊎ IsDeadSetup n g outcome
 
--- Before the first move_met: stones are set up, and the colour to move_met is given.
+-- Before the first move: stones are set up, and the colour to move is given.
 unfoldable pub SetsUp : ℕ → ℤ → Colouring → Option Colour → List Event → Outcome → Type 0
 SetsUp n komi g given [] outcome = Begins n komi g given [] outcome
 SetsUp n komi g given (stones node colour values ∷ events) outcome =

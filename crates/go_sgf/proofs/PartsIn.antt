@@ -43,7 +43,7 @@ parts_space (c ∷ cs) = elim (cases_Bool (is_space c)) [
   | inr e ↦ ap parts_in (after_space_stop c cs e)
 ]
 
--- ---- a value_part
+-- ---- a value
 
 value_parts : (e : Bool) (v more : List ℕ) → is_inside e v ≡ true → parts_from (Some e) (v ++ (93 ∷ more)) ≡ value_part v ∷ parts_in more
 unfolding parts_from
@@ -55,7 +55,7 @@ value_parts false (c ∷ cs) more h =
     let other : (c == 93) ≡ false = grind (arith, nat_tests, both.0) in
     rw other (ap (with_byte c) (value_parts (c == 92) cs more both.1))
 
--- no value_part ends in a text of whole bytes and pairs, and one more `\` or none
+-- no value ends in a text of whole bytes and pairs, and one more `\` or none
 none_parts : (e : Bool) (v more : List ℕ) → is_inside e v ≡ true → parts_from (Some false) more ≡ [] → parts_from (Some e) (v ++ more) ≡ []
 unfolding parts_from
 none_parts true [] more h k = cc
@@ -109,7 +109,7 @@ no_value b e = sym (ap values_at (parts_space b)) ∙ no_value_first (without_sp
 pub no_end : (b inside : List ℕ) → without_space b ≡ 91 ∷ inside → parts_from (Some false) inside ≡ [] → values_at (parts_in b) ≡ []
 no_end b inside e f = ap values_at (sym (parts_space b) ∙ ap parts_in e ∙ bracket_part inside ∙ f)
 
--- a value_part behind a `[` and white space, or none
+-- a value behind a `[` and white space, or none
 pub found : (r : Option (Bor (List ℕ) × Bor (List ℕ))) (b inside : List ℕ) → without_space b ≡ 91 ∷ inside →
     IfSome r (λ v. inside ≡ v.0.now ++ (93 ∷ v.1.now)) → IfSome r (λ v. IsValue v.0.now) → IfSome r (λ v. parts_in b ≡ value_part v.0.now ∷ parts_in v.1.now)
 found None b inside e f h = f

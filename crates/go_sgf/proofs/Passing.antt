@@ -58,7 +58,7 @@ shorter c b inside rest e h = omega (arith, ap length e)
 
 -- ---- values
 
--- the bytes of a value_part behind `[` up to `]`
+-- the bytes of a value behind `[` up to `]`
 pub value_spelled : (b v inside more : List ℕ) → b ≡ 91 ∷ inside → inside ≡ v ++ (93 ∷ more) → SpellsParts b (value_part v ∷ []) (without_space more)
 value_spelled b v inside more e f =
     (more, ap without_space e ∙ ap (λ xs. 91 ∷ xs) (f ∙ sym (append_assoc v (93 ∷ []) more)), refl)

@@ -40,7 +40,7 @@ semicolon_stays b rest e = record {
   written = ap (λ (xs : List ℕ). parts_text (parts_in xs)) e ∙ ap parts_text (semicolon_part rest) ∙ semicolon_text (parts_in rest);
 }
 
--- one value_part more
+-- one value more
 pub value_stays : (vs : List (List ℕ)) (b rest inside v more : List ℕ) → b ≡ flat_map value_text vs ++ rest → parts_in b ≡ map value_part vs ++ parts_in rest →
     rest ≡ 91 ∷ inside → inside ≡ v ++ (93 ∷ more) → IsValue v →
     (b ≡ flat_map value_text (vs ++ v ∷ []) ++ more) × (parts_in b ≡ map value_part (vs ++ v ∷ []) ++ parts_in more)

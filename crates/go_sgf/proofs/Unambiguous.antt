@@ -13,7 +13,7 @@ use Rattle.go_sgf.proofs.Stops.{tree_begins}
 
 -- ---- values
 
--- a value_part ends at its first `]` that belongs to no `\`
+-- a value ends at its first `]` that belongs to no `\`
 value_same : (e : Bool) (v w a b : List ℕ) → is_inside e v ≡ true → is_inside e w ≡ true → v ++ (93 ∷ a) ≡ w ++ (93 ∷ b) → (v ≡ w) × (a ≡ b)
 value_same true [] w a b h k e = cc
 value_same true (c ∷ cs) [] a b h k e = cc

@@ -12,13 +12,13 @@ abbrev pub with_letter : ℕ → Bool → List Part → List Part
 with_letter c true (name n ∷ ps) = name (c ∷ n) ∷ ps
 with_letter c _ ps = name (c ∷ []) ∷ ps
 
--- a byte of a value_part before the parts from behind it on
+-- a byte of a value before the parts from behind it on
 abbrev pub with_byte : ℕ → List Part → List Part
 with_byte c (value_part v ∷ ps) = value_part (c ∷ v) ∷ ps
 with_byte c _ = []
 
--- Outside of a value_part, or inside of one, behind a `\` or not: `;`, names and values, with white space anywhere between them. They end
--- before another byte, and before a value_part without an end.
+-- Outside of a value, or inside of one, behind a `\` or not: `;`, names and values, with white space anywhere between them. They end
+-- before another byte, and before a value without an end.
 unfoldable pub parts_from : Option Bool → List ℕ → List Part
 parts_from _ [] = []
 parts_from None (c ∷ cs) =

@@ -11,7 +11,7 @@ pub data Part : Type 0 where
   name : List ℕ → Part
   value_part : List ℕ → Part
 
--- `(`, `)`, `;`, a name, and a value_part between `[` and `]`
+-- `(`, `)`, `;`, a name, and a value between `[` and `]`
 abbrev pub text : Part → List ℕ
 text opening = 40 ∷ []
 text closing = 41 ∷ []

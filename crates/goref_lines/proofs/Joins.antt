@@ -1,4 +1,4 @@
--- How the single_spaced words of a text change as one more byte comes to its end.
+-- How the joined words of a text change as one more byte comes to its end.
 use Rattle.std.proofs.Common.{◌≡◌, ◌∙◌, ℕ, Bool, true, false, if◌then◌else◌, ◌&&◌, List, [], ◌∷◌, ◌++◌, refl, sym, ap, append_assoc}
 use Rattle.std.specs.Prelude.{filter}
 use Rattle.std.specs.List.{slice_split, join_with_byte}

@@ -131,7 +131,7 @@ kept_word line (b ∷ word) k seen text is_long none some h grows =
     ∙ ap plain (sym all)
     ∙ sym (plain_is (line ++ b ∷ word) any')
 
--- what is single_spaced of a text is the front of what is single_spaced of a longer one
+-- the joined words of a text are the front of those of a longer one
 joined_grows : (text more : List ℕ) → (rest : List ℕ) × (single_spaced (text ++ more) ≡ single_spaced text ++ rest)
 joined_grows text [] = ([], ap single_spaced (append-nil text) ∙ sym (append-nil (single_spaced text)))
 joined_grows text (b ∷ more) = by (is_plain_space b) refl (joined_grows (text ++ b ∷ []) more)

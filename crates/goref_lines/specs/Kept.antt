@@ -1,5 +1,5 @@
 -- What a line keeps: controls out, the comment off, tabs as spaces, cut into words at spaces,
--- single_spaced by single spaces, and of that as many bytes as a line may have.
+-- joined by single spaces, and of that as many bytes as a line may have.
 use Rattle.std.specs.Prelude.{ℕ, ◌==◌, ◌&&◌, ◌||◌, not, nat_lt, Bool, true, false, if◌then◌else◌, List, [], ◌∷◌, map, filter, take, length}
 use Rattle.std.specs.List.{slice_split, join_with_byte, list_any}
 use Rattle.goref_lines.specs.declared.line.TheConstants.{LINE_LIMIT}
@@ -40,7 +40,7 @@ has_bytes (b ∷ bs) = true
 abbrev pub words : List ℕ → List (List ℕ)
 words text = filter has_bytes (slice_split is_plain_space text)
 
--- the words of a text, single_spaced by single spaces
+-- the words of a text, joined by single spaces
 abbrev pub single_spaced : List ℕ → List ℕ
 single_spaced text = join_with_byte 32 (words text)
 
@@ -50,7 +50,7 @@ ends_with_space [] = false
 ends_with_space (b ∷ []) = is_plain_space b
 ends_with_space (b ∷ c ∷ text) = ends_with_space (c ∷ text)
 
--- what is kept of a line: the front of its single_spaced words, whether they were more, and, for the
+-- what is kept of a line: the front of its words so joined, whether they were more, and, for the
 -- bytes that may follow, whether a comment has begun and whether a space stands behind a word
 pub record Kept : Type 0 where
   pub text : List ℕ

@@ -7,7 +7,7 @@ use Rattle.go_sgf.specs.PartsIn.{nodes_at, parts_in, properties_at, values_at}
 use Rattle.go_sgf.specs.declared.record.Tree.{Tree}
 use Rattle.go_sgf.specs.View.{tree_of}
 
--- a value_part between its brackets
+-- a value between its brackets
 abbrev pub value_text : List ℕ → List ℕ
 value_text v = text (value_part v)
 
