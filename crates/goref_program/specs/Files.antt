@@ -1,7 +1,7 @@
 -- What is fetched of a file, by what reading it came to.
 use Rattle.std.specs.Prelude.{ℕ, nat_lt, if◌then◌else◌, List, length}
 use Rattle.go_sgf.specs.declared.limits.TheConstants.{MAX_RECORD}
-use Rattle.goref.specs.Contents.{Content, bytes, missing, no_memory, too_large}
+use Rattle.goref_session.specs.Contents.{Content, bytes, missing, no_memory, too_large}
 use Rattle.goref_tools.specs.declared.error.ToolError.{ToolError}
 use Rattle.goref_tools.specs.declared.error.ToolError.TheVariants.{Memory}
 

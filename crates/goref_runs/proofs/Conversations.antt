@@ -3,10 +3,10 @@ use Rattle.std.proofs.Common.{◌≡◌, ℕ, Bool, true, false, List, [], ◌�
 use Rattle.std.proofs.lemmas.List.{append-nil}
 use Rattle.go_game.specs.Standings.{Standing}
 use Rattle.goref_lines.specs.Kept.{kept}
-use Rattle.goref.specs.Contents.{Content, nothing, missing}
+use Rattle.goref_session.specs.Contents.{Content, nothing, missing}
 use Rattle.goref_runs.specs.Shelves.{Pair}
-use Rattle.goref.specs.Answers.{Said, Reply, wanted}
-use Rattle.goref.specs.Laws.{SomeReply}
+use Rattle.goref_session.specs.Answers.{Said, Reply, wanted}
+use Rattle.goref_session.specs.Laws.{SomeReply}
 use Rattle.goref_runs.specs.Conversation.{AsksShelf, Conversation, ends, quits, goes_on}
 use Rattle.goref_runs.specs.inner.Progress.{GetsTo}
 

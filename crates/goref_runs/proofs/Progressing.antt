@@ -4,16 +4,16 @@ use Rattle.std.proofs.lemmas.List.{append-nil}
 use Rattle.go_board.specs.Device.{then_bytes, TakesFront}
 use Rattle.go_board.specs.lemmas.Writing.{then_bytes-then_bytes, then_bytes-nil}
 use Rattle.go_board.specs.declared.device.WriteFault.{WriteFault}
-use Rattle.goref.specs.declared.flow.Flow.{Flow}
-use Rattle.goref.specs.declared.flow.Flow.TheVariants.{More, Quit}
+use Rattle.goref_session.specs.declared.flow.Flow.{Flow}
+use Rattle.goref_session.specs.declared.flow.Flow.TheVariants.{More, Quit}
 use Rattle.go_game.specs.Standings.{Standing}
 use Rattle.goref_lines.specs.Kept.{Kept, kept}
 use Rattle.goref_runs.specs.Lines.{lines, complete_lines, unfinished_line, if_any, HasNoEnd}
-use Rattle.goref.specs.Contents.{Content}
+use Rattle.goref_session.specs.Contents.{Content}
 use Rattle.goref_runs.specs.Shelves.{Pair, then_pairs}
-use Rattle.goref.specs.Answers.{Said, Reply, wanted}
-use Rattle.goref.specs.Laws.{SomeReply}
-use Rattle.goref.specs.Replies.{flow_of}
+use Rattle.goref_session.specs.Answers.{Said, Reply, wanted}
+use Rattle.goref_session.specs.Laws.{SomeReply}
+use Rattle.goref_session.specs.Replies.{flow_of}
 use Rattle.goref_runs.specs.Conversation.{AsksShelf, Conversation, ends, quits, goes_on, Converses, BreaksOff}
 use Rattle.goref_runs.specs.inner.Progress.{GetsTo, Progress, Proceeds, Responds, Finishes}
 use Rattle.goref_runs.proofs.Lines.{complete_lines-nil, unfinished_line-nil, complete_lines_more, unfinished_line_more, complete_lines_end, unfinished_line_end, lines_later, Later}

@@ -1,6 +1,6 @@
 -- What a shelf was asked for, and what it gave.
 use Rattle.std.specs.Prelude.{ℕ, List, Option, option_map, ◌++◌}
-use Rattle.goref.specs.Contents.{Content}
+use Rattle.goref_session.specs.Contents.{Content}
 
 -- a name, and what was fetched for it
 abbrev pub Pair : Type 0

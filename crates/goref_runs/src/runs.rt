@@ -1,9 +1,9 @@
 ghost use Rattle.std.specs.Prelude.{◌≡◌, ◌≤◌, ◌+◌, ℕ, List, [], ◌∷◌, ◌++◌, Option, IfOk, IfSome, OnOk, IsErrOf};
 ghost use Rattle.go_board.specs.Device.{failures_after};
 ghost use Rattle.go_game.specs.Standings.{Standing};
-ghost use Rattle.goref.specs.Starts.{begun};
+ghost use Rattle.goref_session.specs.Starts.{begun};
 ghost use Rattle.goref_runs.specs.Lines.{HasNoEnd, lines};
-ghost use Rattle.goref.specs.Contents.{content_of};
+ghost use Rattle.goref_session.specs.Contents.{content_of};
 ghost use Rattle.goref_runs.specs.Shelves.{Pair};
 ghost use Rattle.goref_runs.specs.Conversation.{Converses, BreaksOff};
 ghost use Rattle.goref_runs.specs.inner.Progress.{Fetches, Responds, Progress, Proceeds, Finishes};
@@ -12,9 +12,9 @@ ghost use Rattle.goref_runs.specs.Runs.{AnswersComplete, AnswersFront, ReadsAtLe
 use crate::fault::RunError;
 use crate::shelf::Shelf;
 use go_board::{Failed, Sink, Size, Source, WriteFault};
-use goref::laws::some_reply;
-use goref::{Fetched, Flow, Session, wants};
 use goref_lines::Line;
+use goref_session::laws::some_reply;
+use goref_session::{Fetched, Flow, Session, wants};
 use memchr::memchr;
 use std::alloc::Allocator;
 

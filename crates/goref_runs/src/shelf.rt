@@ -1,8 +1,8 @@
 ghost use Rattle.std.specs.Prelude.{◌≡◌, ◌∷◌, [], List, Option};
-ghost use Rattle.goref.specs.Contents.{content_of};
+ghost use Rattle.goref_session.specs.Contents.{content_of};
 ghost use Rattle.goref_runs.specs.Shelves.{Pair, then_pairs};
 
-use goref::Fetched;
+use goref_session::Fetched;
 use std::alloc::Allocator;
 
 /// Where files are fetched from.

@@ -2,15 +2,15 @@
 use Rattle.std.specs.Prelude.{◌≡◌, ℕ, List, ◌++◌, Option, Result, Ok, Err}
 use Rattle.go_board.specs.Device.{then_bytes}
 use Rattle.go_board.specs.declared.device.WriteFault.{WriteFault}
-use Rattle.goref.specs.declared.flow.Flow.{Flow}
-use Rattle.goref.specs.declared.flow.Flow.TheVariants.{More, Quit}
+use Rattle.goref_session.specs.declared.flow.Flow.{Flow}
+use Rattle.goref_session.specs.declared.flow.Flow.TheVariants.{More, Quit}
 use Rattle.go_game.specs.Standings.{Standing}
 use Rattle.goref_lines.specs.Kept.{Kept, kept}
 use Rattle.goref_runs.specs.Lines.{lines, complete_lines, unfinished_line}
-use Rattle.goref.specs.Contents.{Content}
+use Rattle.goref_session.specs.Contents.{Content}
 use Rattle.goref_runs.specs.Shelves.{Pair, then_pairs}
-use Rattle.goref.specs.Answers.{wanted}
-use Rattle.goref.specs.Replies.{Answered}
+use Rattle.goref_session.specs.Answers.{wanted}
+use Rattle.goref_session.specs.Replies.{Answered}
 use Rattle.goref_runs.specs.Conversation.{AsksShelf, Conversation, Converses, BreaksOff}
 
 -- whatever follows from the standing now, all of it is one session from the first standing
