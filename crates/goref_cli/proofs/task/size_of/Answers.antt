@@ -3,8 +3,8 @@ use Rattle.std.proofs.lemmas.Option.{IfSome_then}
 use Rattle.std.specs.Fmt.{decimal}
 use Rattle.clap.specs.Words.{found_of}
 use Rattle.clap.proofs.WalkLemmas.{one_text-rows}
-use Rattle.goref_words.proofs.Sizes.{decimal_read, number_read}
-use Rattle.goref_words.proofs.task.size_of.Goals as goal
+use Rattle.goref_cli.proofs.Sizes.{decimal_read, number_read}
+use Rattle.goref_cli.proofs.task.size_of.Goals as goal
 
 pub returns-in_err-get_one-clause-some : goal.returns-in_err-get_one-clause-some
 returns-in_err-get_one-clause-some c n size is =

@@ -2,7 +2,7 @@ use Rattle.std.proofs.Common.{ap, ap₂, ◌≡◌, ◌∙◌, ◌||◌, codes}
 use Rattle.std.proofs.lemmas.Result.{IfOk-weaker}
 use Rattle.clap.specs.Words.{app_of, new_app, with_rule}
 use Rattle.clap.specs.Simple.{app_of_fields}
-use Rattle.goref_words.proofs.task.gtp_subcommand.Goals as goal
+use Rattle.goref_cli.proofs.task.gtp_subcommand.Goals as goal
 
 pub returns-clause-command : goal.returns-clause-command
 returns-clause-command c =

@@ -7,8 +7,8 @@ use Rattle.clap.specs.Walk.{Row, Rule, Text, one_of}
 use Rattle.clap.specs.Simple.{App, new_app, new_rule, on_top, subcommand_of, with_rule, with_subcommand}
 use Rattle.clap.specs.declared.builder.value_parser.ValueParser.TheVariants as vp
 use Rattle.go_board.specs.declared.size.TheConstants.{MAX_LINES}
-use Rattle.goref_words.specs.declared.task.Task.{Task}
-use Rattle.goref_words.specs.declared.task.Task.TheVariants.{Gtp, Judge, Tidy}
+use Rattle.goref_cli.specs.declared.task.Task.{Task}
+use Rattle.goref_cli.specs.declared.task.Task.TheVariants.{Gtp, Judge, Tidy}
 
 -- the option `--size`: a number of lines that a board has, and 19 where none is given
 abbrev pub size_option : Rule

@@ -1,10 +1,10 @@
 use Rattle.std.proofs.Common.{◌≡◌, ◌∙◌, IsSome, true, ap}
 use Rattle.clap.specs.Words.{app_of, is_simple, kind_of, subcommand_of, takes}
 use Rattle.clap.proofs.TakesLemmas.{passed_up}
-use Rattle.goref_words.specs.Words.{program, texts_of}
+use Rattle.goref_cli.specs.CommandLine.{program, texts_of}
 use Rattle.clap.specs.declared.error.kind.ErrorKind.TheVariants.{OutOfMemory}
-use Rattle.goref_words.proofs.Plain.{plain}
-use Rattle.goref_words.proofs.task.task_of.Goals as goal
+use Rattle.goref_cli.proofs.Plain.{plain}
+use Rattle.goref_cli.proofs.task.task_of.Goals as goal
 
 pub returns-in_err-matches-clause-plain : goal.returns-in_err-matches-clause-plain
 returns-in_err-matches-clause-plain c h =

@@ -2,8 +2,8 @@ use Rattle.std.proofs.Common.{ap, ap₂, ◌≡◌, ◌∙◌, true}
 use Rattle.std.proofs.lemmas.Result.{IfOk-weaker}
 use Rattle.clap.specs.Words.{App, app_of, with_subcommand}
 use Rattle.clap.specs.Simple.{app_of_fields, on_top}
-use Rattle.goref_words.specs.Words.{bare_program, gtp_command, judge_command}
-use Rattle.goref_words.proofs.task.program_command.Goals as goal
+use Rattle.goref_cli.specs.CommandLine.{bare_program, gtp_command, judge_command}
+use Rattle.goref_cli.proofs.task.program_command.Goals as goal
 
 pub returns : goal.returns
 returns c =

@@ -1,6 +1,6 @@
 use Rattle.std.proofs.Common.{ap, ◌∙◌}
 use Rattle.clap.specs.Simple.{app_of_fields}
-use Rattle.goref_words.proofs.task.tidy_subcommand.Goals as goal
+use Rattle.goref_cli.proofs.task.judge_subcommand.Goals as goal
 
 pub returns-clause-command : goal.returns-clause-command
 returns-clause-command c = ap app_of_fields c.after_help.ensures ∙ ap app_of_fields c.about.ensures ∙ c.new.ensures.app
