@@ -4,7 +4,7 @@ ghost use Rattle.goref_session.specs.Contents.{content_of};
 ghost use Rattle.goref_program.specs.Files.{content_of_bytes, content_of_fault};
 
 use go_sgf::MAX_RECORD;
-use goref_runs::Shelf;
+use goref::Shelf;
 use goref_session::Fetched;
 use goref_streams::Input;
 use goref_tools::{ToolError, read_input};

@@ -4,7 +4,7 @@ use crate::rows::CAPTURE;
 use crate::scripts::ends;
 use crate::sessions::answered;
 use go_board::{Size, WriteFault};
-use goref_runs::RunError;
+use goref::RunError;
 use goref_session::{Flow, Line, Session};
 use std::alloc::Global;
 use std::process::Abort;

@@ -1,7 +1,7 @@
 use crate::rows::{LOAD, PRINTED};
 use crate::sessions::answered;
 use go_board::Size;
-use goref_runs::{Shelf, run};
+use goref::{Shelf, run};
 use goref_session::{Fetched, Flow, Line, Session};
 use std::alloc::{AllocError, Allocator, Global};
 use std::process::Abort;

@@ -8,7 +8,7 @@ use crate::rows::{
     KO_AFTER_PASSES, LOAD, PRINTED, REPETITION, Row,
 };
 use go_board::Size;
-use goref_runs::run_within;
+use goref::run_within;
 use goref_session::Session;
 use std::alloc::Global;
 use std::cell::Cell;

@@ -1,7 +1,7 @@
 use crate::rows::{KO, KO_AFTER_PASSES};
 use crate::sessions::answered;
 use go_board::Size;
-use goref_runs::{RunError, Shelf, run, run_within};
+use goref::{RunError, Shelf, run, run_within};
 use goref_session::{Fetched, Flow, Line, Session};
 use std::alloc::{AllocError, Allocator, Global};
 use std::process::Abort;

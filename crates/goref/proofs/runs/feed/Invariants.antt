@@ -1,8 +1,8 @@
 use Rattle.std.proofs.Common.{◌≡◌, ℕ, List, ◌++◌, Option, length}
 use Rattle.go_game.specs.Standings.{Standing}
-use Rattle.goref_runs.specs.Shelves.{Pair}
-use Rattle.goref_runs.specs.inner.Progress.{Progress}
-use Rattle.goref_runs.proofs.runs.feed.Given as goal
+use Rattle.goref.specs.Shelves.{Pair}
+use Rattle.goref.specs.inner.Progress.{Progress}
+use Rattle.goref.proofs.runs.feed.Given as goal
 
 abbrev pub invariant-loop-end : goal.invariant-loop-end
 invariant-loop-end g l = record {

@@ -2,12 +2,12 @@ use Rattle.std.proofs.Common.{◌∙◌, [], ◌++◌, refl, sym, ap, arith}
 use Rattle.std.proofs.lemmas.List.{append-nil, length-append}
 use Rattle.go_board.specs.Device.{after_bytes}
 use Rattle.go_board.specs.declared.device.Failed.{Failed}
-use Rattle.goref_runs.specs.Lines.{lines}
-use Rattle.goref_runs.specs.Conversation.{Converses}
-use Rattle.goref_runs.proofs.Progressing.{begins}
+use Rattle.goref.specs.Lines.{lines}
+use Rattle.goref.specs.Conversation.{Converses}
+use Rattle.goref.proofs.Progressing.{begins}
 use Rattle.go_board.specs.lemmas.Reading.{after_bytes-nil, has_read_more, of_input}
-use Rattle.goref_runs.proofs.Running.{answers_complete, answers_front, no_end_found, of_ended}
-use Rattle.goref_runs.proofs.runs.run_within.Goals as goal
+use Rattle.goref.proofs.Running.{answers_complete, answers_front, no_end_found, of_ended}
+use Rattle.goref.proofs.runs.run_within.Goals as goal
 
 pub loop-init : goal.loop-init
 loop-init g c = record {

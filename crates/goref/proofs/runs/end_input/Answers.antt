@@ -1,5 +1,5 @@
-use Rattle.goref_runs.proofs.Progressing.{finishes}
-use Rattle.goref_runs.proofs.runs.end_input.Goals as goal
+use Rattle.goref.proofs.Progressing.{finishes}
+use Rattle.goref.proofs.runs.end_input.Goals as goal
 
 pub returns-in-Ok-clause-finishes : goal.returns-in-Ok-clause-finishes
 returns-in-Ok-clause-finishes g c = λ start read given taken p. finishes p c.some_reply.ensures _ (rw c.in-Ok.is at c.respond.ensures.responds)

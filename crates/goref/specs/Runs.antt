@@ -1,12 +1,12 @@
 -- What a run did when it came to its end.
 use Rattle.std.specs.Prelude.{◌≡◌, ◌≤◌, ℕ, ◌+◌, List, Option, Result, Err, length}
 use Rattle.go_board.specs.Device.{after_bytes}
-use Rattle.goref_runs.specs.declared.fault.RunError.{RunError}
-use Rattle.goref_runs.specs.declared.fault.RunError.TheVariants.{Read, Write}
+use Rattle.goref.specs.declared.fault.RunError.{RunError}
+use Rattle.goref.specs.declared.fault.RunError.TheVariants.{Read, Write}
 use Rattle.go_game.specs.Standings.{Standing}
-use Rattle.goref_runs.specs.Lines.{lines, complete_lines}
-use Rattle.goref_runs.specs.Shelves.{Pair}
-use Rattle.goref_runs.specs.Conversation.{Converses, BreaksOff}
+use Rattle.goref.specs.Lines.{lines, complete_lines}
+use Rattle.goref.specs.Shelves.{Pair}
+use Rattle.goref.specs.Conversation.{Converses, BreaksOff}
 
 -- what was read, and the complete lines in it were answered
 pub record AnswersComplete (s : Standing) (left left' : Option (List ℕ)) (given given' : Option (List Pair)) (taken taken' : Option (List ℕ)) : Type 0 where

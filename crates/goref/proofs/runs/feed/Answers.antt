@@ -1,10 +1,10 @@
 use Rattle.std.proofs.Common.{◌∙◌, [], ◌∷◌, ◌++◌, drop, refl, sym, ap, append_assoc}
 use Rattle.std.proofs.lemmas.List.{append-nil}
-use Rattle.goref_runs.specs.Lines.{lines, unfinished_line}
-use Rattle.goref_runs.specs.Conversation.{Converses, BreaksOff}
-use Rattle.goref_runs.proofs.Lines.{no_cut, first_cut, chunk_cut}
-use Rattle.goref_runs.proofs.Progressing.{reads_on, settled}
-use Rattle.goref_runs.proofs.runs.feed.Goals as goal
+use Rattle.goref.specs.Lines.{lines, unfinished_line}
+use Rattle.goref.specs.Conversation.{Converses, BreaksOff}
+use Rattle.goref.proofs.Lines.{no_cut, first_cut, chunk_cut}
+use Rattle.goref.proofs.Progressing.{reads_on, settled}
+use Rattle.goref.proofs.runs.feed.Goals as goal
 
 pub loop-end-init : goal.loop-end-init
 loop-end-init g c = record { front = []; whole = refl; progress = λ start read given taken p. rw (append-nil read) p; failures = refl }

@@ -4,11 +4,11 @@ use Rattle.std.proofs.lemmas.List.{append-nil}
 use Rattle.go_game.specs.Standings.{Standing}
 use Rattle.goref_lines.specs.Kept.{kept}
 use Rattle.goref_session.specs.Contents.{Content, nothing, missing}
-use Rattle.goref_runs.specs.Shelves.{Pair}
+use Rattle.goref.specs.Shelves.{Pair}
 use Rattle.goref_session.specs.Answers.{Said, Reply, wanted}
 use Rattle.goref_session.specs.Laws.{SomeReply}
-use Rattle.goref_runs.specs.Conversation.{AsksShelf, Conversation, ends, quits, goes_on}
-use Rattle.goref_runs.specs.inner.Progress.{GetsTo}
+use Rattle.goref.specs.Conversation.{AsksShelf, Conversation, ends, quits, goes_on}
+use Rattle.goref.specs.inner.Progress.{GetsTo}
 
 -- the same session, told in other words
 pub retold : {s : Standing} {lines lines' : List (List ℕ)} {asked asked' : List Pair} {text text' : List ℕ} →

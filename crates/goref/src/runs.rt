@@ -2,12 +2,12 @@ ghost use Rattle.std.specs.Prelude.{◌≡◌, ◌≤◌, ◌+◌, ℕ, List, []
 ghost use Rattle.go_board.specs.Device.{failures_after};
 ghost use Rattle.go_game.specs.Standings.{Standing};
 ghost use Rattle.goref_session.specs.Starts.{begun};
-ghost use Rattle.goref_runs.specs.Lines.{HasNoEnd, lines};
+ghost use Rattle.goref.specs.Lines.{HasNoEnd, lines};
 ghost use Rattle.goref_session.specs.Contents.{content_of};
-ghost use Rattle.goref_runs.specs.Shelves.{Pair};
-ghost use Rattle.goref_runs.specs.Conversation.{Converses, BreaksOff};
-ghost use Rattle.goref_runs.specs.inner.Progress.{Fetches, Responds, Progress, Proceeds, Finishes};
-ghost use Rattle.goref_runs.specs.Runs.{AnswersComplete, AnswersFront, ReadsAtLeast, read_failures_after, write_failures_after};
+ghost use Rattle.goref.specs.Shelves.{Pair};
+ghost use Rattle.goref.specs.Conversation.{Converses, BreaksOff};
+ghost use Rattle.goref.specs.inner.Progress.{Fetches, Responds, Progress, Proceeds, Finishes};
+ghost use Rattle.goref.specs.Runs.{AnswersComplete, AnswersFront, ReadsAtLeast, read_failures_after, write_failures_after};
 
 use crate::fault::RunError;
 use crate::shelf::Shelf;

@@ -8,16 +8,16 @@ use Rattle.goref_session.specs.declared.flow.Flow.{Flow}
 use Rattle.goref_session.specs.declared.flow.Flow.TheVariants.{More, Quit}
 use Rattle.go_game.specs.Standings.{Standing}
 use Rattle.goref_lines.specs.Kept.{Kept, kept}
-use Rattle.goref_runs.specs.Lines.{lines, complete_lines, unfinished_line, if_any, HasNoEnd}
+use Rattle.goref.specs.Lines.{lines, complete_lines, unfinished_line, if_any, HasNoEnd}
 use Rattle.goref_session.specs.Contents.{Content}
-use Rattle.goref_runs.specs.Shelves.{Pair, then_pairs}
+use Rattle.goref.specs.Shelves.{Pair, then_pairs}
 use Rattle.goref_session.specs.Answers.{Said, Reply, wanted}
 use Rattle.goref_session.specs.Laws.{SomeReply}
 use Rattle.goref_session.specs.Replies.{flow_of}
-use Rattle.goref_runs.specs.Conversation.{AsksShelf, Conversation, ends, quits, goes_on, Converses, BreaksOff}
-use Rattle.goref_runs.specs.inner.Progress.{GetsTo, Progress, Proceeds, Responds, Finishes}
-use Rattle.goref_runs.proofs.Lines.{complete_lines-nil, unfinished_line-nil, complete_lines_more, unfinished_line_more, complete_lines_end, unfinished_line_end, lines_later, Later}
-use Rattle.goref_runs.proofs.Conversations.{retold, some_more, some_conversation, reaches_first, reaches_next}
+use Rattle.goref.specs.Conversation.{AsksShelf, Conversation, ends, quits, goes_on, Converses, BreaksOff}
+use Rattle.goref.specs.inner.Progress.{GetsTo, Progress, Proceeds, Responds, Finishes}
+use Rattle.goref.proofs.Lines.{complete_lines-nil, unfinished_line-nil, complete_lines_more, unfinished_line_more, complete_lines_end, unfinished_line_end, lines_later, Later}
+use Rattle.goref.proofs.Conversations.{retold, some_more, some_conversation, reaches_first, reaches_next}
 
 then_pairs-then_pairs : (o : Option (List Pair)) (a b : List Pair) → then_pairs (then_pairs o a) b ≡ then_pairs o (a ++ b)
 then_pairs-then_pairs None a b = refl

@@ -1,7 +1,7 @@
 use Rattle.std.proofs.Common.{◌≡◌, ◌≤◌, ◌+◌, ℕ, List, length}
 use Rattle.go_board.specs.Device.{after_bytes}
-use Rattle.goref_runs.specs.inner.Progress.{Progress}
-use Rattle.goref_runs.proofs.runs.run_within.Given as goal
+use Rattle.goref.specs.inner.Progress.{Progress}
+use Rattle.goref.proofs.runs.run_within.Given as goal
 
 abbrev pub invariant-loop : goal.invariant-loop
 invariant-loop g l = record {

@@ -1,8 +1,8 @@
 use Rattle.std.proofs.Common.{◌≡◌, ◌++◌}
 use Rattle.goref_lines.specs.Kept.{kept}
-use Rattle.goref_runs.specs.Lines.{unfinished_line}
-use Rattle.goref_runs.proofs.Progressing.{proceeds}
-use Rattle.goref_runs.proofs.runs.end_line.Goals as goal
+use Rattle.goref.specs.Lines.{unfinished_line}
+use Rattle.goref.proofs.Progressing.{proceeds}
+use Rattle.goref.proofs.runs.end_line.Goals as goal
 
 pub returns-clause-proceeds : goal.returns-clause-proceeds
 returns-clause-proceeds g c = λ start read given taken p.

@@ -6,12 +6,12 @@ use Rattle.goref_session.specs.declared.flow.Flow.{Flow}
 use Rattle.goref_session.specs.declared.flow.Flow.TheVariants.{More, Quit}
 use Rattle.go_game.specs.Standings.{Standing}
 use Rattle.goref_lines.specs.Kept.{Kept, kept}
-use Rattle.goref_runs.specs.Lines.{lines, complete_lines, unfinished_line}
+use Rattle.goref.specs.Lines.{lines, complete_lines, unfinished_line}
 use Rattle.goref_session.specs.Contents.{Content}
-use Rattle.goref_runs.specs.Shelves.{Pair, then_pairs}
+use Rattle.goref.specs.Shelves.{Pair, then_pairs}
 use Rattle.goref_session.specs.Answers.{wanted}
 use Rattle.goref_session.specs.Replies.{Answered}
-use Rattle.goref_runs.specs.Conversation.{AsksShelf, Conversation, Converses, BreaksOff}
+use Rattle.goref.specs.Conversation.{AsksShelf, Conversation, Converses, BreaksOff}
 
 -- whatever follows from the standing now, all of it is one session from the first standing
 pub record GetsTo (s : Standing) (lines : List (List ℕ)) (asked : List Pair) (text : List ℕ) (now : Standing) : Type 0 where

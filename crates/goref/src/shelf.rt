@@ -1,6 +1,6 @@
 ghost use Rattle.std.specs.Prelude.{◌≡◌, ◌∷◌, [], List, Option};
 ghost use Rattle.goref_session.specs.Contents.{content_of};
-ghost use Rattle.goref_runs.specs.Shelves.{Pair, then_pairs};
+ghost use Rattle.goref.specs.Shelves.{Pair, then_pairs};
 
 use goref_session::Fetched;
 use std::alloc::Allocator;

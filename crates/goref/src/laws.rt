@@ -1,7 +1,7 @@
 //! What the words of this crate's contracts mean: laws about definitions, each the contract of a
 //! function that does nothing.
 ghost use Rattle.std.specs.Prelude.{◌≡◌};
-ghost use Rattle.goref_runs.specs.declared.runs.TheConstants.{READS};
+ghost use Rattle.goref.specs.declared.runs.TheConstants.{READS};
 
 /// The most reads that a run makes: 2^40.
 pub fn limits()

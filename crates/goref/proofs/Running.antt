@@ -5,12 +5,12 @@ use Rattle.std.proofs.lemmas.List.{append-nil}
 use Rattle.go_board.specs.Device.{after_bytes, ends_after}
 use Rattle.go_game.specs.Standings.{Standing}
 use Rattle.goref_lines.specs.Kept.{Kept}
-use Rattle.goref_runs.specs.Lines.{lines}
-use Rattle.goref_runs.specs.Shelves.{Pair}
-use Rattle.goref_runs.specs.Conversation.{ends, BreaksOff}
-use Rattle.goref_runs.specs.inner.Progress.{Progress}
-use Rattle.goref_runs.specs.Runs.{AnswersComplete, AnswersFront}
-use Rattle.goref_runs.proofs.Conversations.{retold}
+use Rattle.goref.specs.Lines.{lines}
+use Rattle.goref.specs.Shelves.{Pair}
+use Rattle.goref.specs.Conversation.{ends, BreaksOff}
+use Rattle.goref.specs.inner.Progress.{Progress}
+use Rattle.goref.specs.Runs.{AnswersComplete, AnswersFront}
+use Rattle.goref.proofs.Conversations.{retold}
 
 -- the complete lines of what was read are answered
 pub answers_complete : {s now : Standing} {read : List ℕ} {line : Kept} {left left' : Option (List ℕ)} {given given' : Option (List Pair)} {taken taken' : Option (List ℕ)} →
