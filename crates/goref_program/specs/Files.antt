@@ -1,9 +1,9 @@
 -- What is fetched of a file, by what reading it came to.
 use Rattle.std.specs.Prelude.{ℕ, nat_lt, if◌then◌else◌, List, length}
 use Rattle.go_sgf.specs.declared.limits.TheConstants.{MAX_RECORD}
-use Rattle.goref_session.specs.Contents.{Content, bytes, missing, no_memory, too_large}
-use Rattle.goref_tools.specs.declared.error.ToolError.{ToolError}
-use Rattle.goref_tools.specs.declared.error.ToolError.TheVariants.{Memory}
+use Rattle.goref.specs.Contents.{Content, bytes, missing, no_memory, too_large}
+use Rattle.goref.specs.ToolError.{ToolError}
+use Rattle.goref.specs.ToolError.TheVariants.{Memory}
 
 -- what was read, unless it is more than a record may have
 abbrev pub content_of_bytes : List ℕ → Content

@@ -1,13 +1,11 @@
 //! The files that a session asks for.
 ghost use Rattle.std.specs.Prelude.{◌≡◌, IfErr, IfOk, None};
-ghost use Rattle.goref_session.specs.Contents.{content_of};
+ghost use Rattle.goref.specs.Contents.{content_of};
 ghost use Rattle.goref_program.specs.Files.{content_of_bytes, content_of_fault};
 
 use go_sgf::MAX_RECORD;
-use goref::Shelf;
-use goref_session::Fetched;
+use goref::{Fetched, Shelf, ToolError, read_input};
 use goref_streams::Input;
-use goref_tools::{ToolError, read_input};
 use std::alloc::Allocator;
 use std::fs;
 use std::rt::Files;

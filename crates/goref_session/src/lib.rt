@@ -13,5 +13,4 @@ mod session;
 
 pub use fetched::{Fetched, wants};
 pub use flow::Flow;
-pub use goref_lines::{LINE_LIMIT, Line};
 pub use session::Session;

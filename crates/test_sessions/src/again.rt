@@ -1,6 +1,6 @@
 use crate::sessions::told;
 use go_board::Size;
-use goref_session::Session;
+use goref::Session;
 use std::alloc::{AllocError, Global};
 use std::process::Abort;
 

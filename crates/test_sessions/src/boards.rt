@@ -2,7 +2,7 @@ use crate::rows::CAPTURE;
 use crate::scripts::says;
 use crate::sessions::told;
 use go_board::Size;
-use goref_session::Session;
+use goref::Session;
 use std::test::Fail;
 
 #[test]

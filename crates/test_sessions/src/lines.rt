@@ -1,6 +1,6 @@
 use crate::sessions::answered;
 use go_board::Size;
-use goref_session::{Line, Session};
+use goref::{Line, Session};
 use std::alloc::Global;
 use std::process::Abort;
 use test_devices::Writer;

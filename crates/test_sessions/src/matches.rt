@@ -3,7 +3,7 @@
 use crate::sessions::told;
 use go_board::{Colour, Move, Point, Size, Vertex, read_vertex, vertex_text};
 use go_game::{Game, score_text};
-use goref_session::Session;
+use goref::Session;
 use std::alloc::{AllocError, Global};
 use std::process::Abort;
 

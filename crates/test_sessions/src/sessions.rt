@@ -1,5 +1,5 @@
 use go_board::WriteFault;
-use goref_session::{Fetched, Flow, Line, Session};
+use goref::{Fetched, Flow, Line, Session};
 use std::alloc::{AllocError, Global};
 use std::process::Abort;
 use test_devices::Writer;
