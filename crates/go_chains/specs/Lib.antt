@@ -4,3 +4,4 @@ pub mod Sound
 pub mod Rewound
 pub mod Playing
 pub mod inner
+pub use Rattle.go_board.specs.declared.taken.Taken

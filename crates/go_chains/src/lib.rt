@@ -3,7 +3,7 @@
 //!
 //! - [`Board`]: the stones, and what a caller may ask of them and of their chains.
 //! - [`Log`]: the changes of the plays, from which [`Board::rewind`] takes the last play back.
-//! - [`PlaceError`]: why a stone can't be placed.
+//! - [`Taken`], [`PlaceError`]: what a play took, and why a stone can't be placed.
 //! - [`ChainPoints`]: the stones of a chain, or its liberties, one after another.
 //! - [`Change`] and [`COUNT`]: a write to a cell and the number of cells, of which contracts speak.
 //!
@@ -49,4 +49,5 @@ pub use cells::COUNT;
 pub use chain_points::ChainPoints;
 pub use change::Change;
 pub use errors::PlaceError;
+pub use go_board::Taken;
 pub use log::Log;

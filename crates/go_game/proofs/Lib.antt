@@ -1,5 +1,5 @@
 pub mod Played
-pub mod Taken
+pub mod TakenBack
 pub mod Margins
 pub mod Stones
 pub mod Vacant

@@ -11,3 +11,5 @@ pub mod Counts
 pub mod Laws
 pub mod inner
 pub mod lemmas
+pub use Rattle.go_board.specs.declared.area.Area
+pub use Rattle.go_board.specs.declared.taken.Taken

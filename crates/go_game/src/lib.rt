@@ -3,7 +3,9 @@
 //! - [`Game`]: begins empty, with handicap stones or from a grid; plays moves and takes them back;
 //!   tells the board, its chains, prisoners, areas and margin; tries moves and chooses one.
 //! - [`Superko`]: which repetitions are refused.
+//! - [`Taken`]: how many stones a move took.
 //! - [`PlayError`], [`SetupError`]: why a move or a start is refused.
+//! - [`Area`]: how many points count for each colour.
 //! - [`fixed_points`], [`greatest_handicap`], [`stones_on`]: where handicap stones stand.
 //! - [`ChainPoints`]: the stones of a chain, or its liberties, one after another.
 //! - [`score_text`], [`hundredths_text`]: scores and komi as they are written.
@@ -38,6 +40,7 @@ mod superko;
 
 pub use errors::{PlayError, SetupError};
 pub use game::Game;
+pub use go_board::{Area, Taken};
 pub use go_chains::ChainPoints;
 pub use handicap::{fixed_points, greatest_handicap, stones_on};
 pub use score::{hundredths_text, score_text};

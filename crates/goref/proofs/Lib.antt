@@ -1,12 +1,4 @@
-pub mod Possible
-pub mod Answering
-pub mod Moves
-pub mod Choices
-pub mod Starting
-pub mod Loading
 pub mod Lines
-pub mod Decimals
-pub mod Facts
-pub mod RecordLine
-pub mod Ending
-pub mod Named
+pub mod Conversations
+pub mod Progressing
+pub mod Running

@@ -1,126 +1,125 @@
--- Texts read byte by byte: lines, and texts in which no line is empty.
-use Rattle.std.proofs.Common.{arith, ◌≡◌, ◌≢◌, ◌∙◌, ◌≤◌, ℕ, zero, suc, Bool, true, false, List, [], ◌∷◌, ◌++◌, ap, cond, get_or, map, refl}
-use Rattle.std.specs.Prelude.{◌==◌, if◌then◌else◌, nat_le, filter}
-use Rattle.std.specs.List.{AllByRecursion, flat_map, join_with_byte, list_all}
-use Rattle.std.proofs.lemmas.Bool.{and_parts, le-leb, leb-true}
+-- How the lines of a text change as more bytes come to its end.
+use Rattle.std.proofs.Common.{◌≡◌, ◌∙◌, ℕ, Bool, true, false, List, [], ◌∷◌, ◌++◌, refl, sym, ap, append_assoc, Some, None, zero, suc, ◌<◌, length, take, drop, arith, cond}
+use Rattle.std.specs.Prelude.{slice_index}
+use Rattle.std.proofs.lemmas.Bool.{eqb-true}
+use Rattle.std.specs.List.{All, slice_split, onto_first}
+use Rattle.std.proofs.lemmas.List.{append-nil}
+use Rattle.std.proofs.lemmas.List.Elements.{All-nil, All-cons}
+use Rattle.std.proofs.lemmas.List.Splits.{slice_split_at, slice_split_none, length-slice_split}
+use Rattle.memchr.specs.Find.{IsFirstByte, is_byte}
+use Rattle.goref.specs.Lines.{is_line_end, all_but_last, last_part, complete_lines, unfinished_line, if_any, lines, HasNoEnd}
 
--- where a reader of a text stands: within a line, behind a line end, or past an empty line or another control byte
-pub data LineState : Type 0 where
-  within : LineState
-  ended : LineState
-  broken : LineState
+-- the parts with others behind them, the last of them going on in the first of the others
+abbrev going_on : List (List ℕ) → List ℕ → List (List ℕ) → List (List ℕ)
+going_on parts first rest = all_but_last parts ++ (last_part parts ++ first) ∷ rest
 
-abbrev pub by_control : Bool → LineState → LineState
-by_control true within = ended
-by_control _ _ = broken
+cond_going_on : (c : Bool) (b : ℕ) (parts all : List (List ℕ)) (first : List ℕ) (rest : List (List ℕ)) → 0 < length parts → all ≡ going_on parts first rest →
+    cond c ([] ∷ all) (onto_first b all) ≡ going_on (cond c ([] ∷ parts) (onto_first b parts)) first rest
+cond_going_on c b [] all first rest l e = absurd (omega arith)
+cond_going_on true b (part ∷ parts) all first rest l e = ap (λ ps. [] ∷ ps) e
+cond_going_on false b (part ∷ []) all first rest l e = ap (onto_first b) e
+cond_going_on false b (part ∷ next ∷ parts) all first rest l e = ap (onto_first b) e
 
-abbrev pub by_plain : LineState → LineState
-by_plain broken = broken
-by_plain _ = within
+-- the parts of two texts in a row
+slice_split-append : (text more first : List ℕ) (rest : List (List ℕ)) → slice_split is_line_end more ≡ first ∷ rest →
+    slice_split is_line_end (text ++ more) ≡ going_on (slice_split is_line_end text) first rest
+slice_split-append [] more first rest e = e
+slice_split-append (b ∷ text) more first rest e =
+    cond_going_on (is_line_end b) b (slice_split is_line_end text) _ first rest (omega (arith, length-slice_split is_line_end text)) (slice_split-append text more first rest e)
 
-abbrev pub step : LineState → ℕ → LineState
-step s b = if nat_le 32 b then by_plain s else by_control (b == 10) s
+all_but_last-append : (parts : List (List ℕ)) (part : List ℕ) (more : List (List ℕ)) → all_but_last (parts ++ part ∷ more) ≡ parts ++ all_but_last (part ∷ more)
+all_but_last-append [] part more = refl
+all_but_last-append (p ∷ []) part more = refl
+all_but_last-append (p ∷ q ∷ parts) part more = ap (λ ps. p ∷ ps) (all_but_last-append (q ∷ parts) part more)
 
--- where the text leaves a reader
-abbrev pub after : LineState → List ℕ → LineState
-after s [] = s
-after s (b ∷ bs) = after (step s b) bs
+last_part-append : (parts : List (List ℕ)) (part : List ℕ) (more : List (List ℕ)) → last_part (parts ++ part ∷ more) ≡ last_part (part ∷ more)
+last_part-append [] part more = refl
+last_part-append (p ∷ []) part more = refl
+last_part-append (p ∷ q ∷ parts) part more = last_part-append (q ∷ parts) part more
 
-after_append : (s : LineState) (xs ys : List ℕ) → after s (xs ++ ys) ≡ after (after s xs) ys
-after_append s [] ys = refl
-after_append s (x ∷ xs) ys = after_append (step s x) xs ys
+-- the unfinished line goes on in the first part of what is read next
+complete_lines-append : (text more first : List ℕ) (rest : List (List ℕ)) → slice_split is_line_end more ≡ first ∷ rest →
+    complete_lines (text ++ more) ≡ complete_lines text ++ all_but_last ((unfinished_line text ++ first) ∷ rest)
+unfolding complete_lines unfinished_line
+complete_lines-append text more first rest e =
+    ap all_but_last (slice_split-append text more first rest e) ∙ all_but_last-append (all_but_last (slice_split is_line_end text)) (last_part (slice_split is_line_end text) ++ first) rest
 
--- ---- lines
+unfinished_line-append : (text more first : List ℕ) (rest : List (List ℕ)) → slice_split is_line_end more ≡ first ∷ rest →
+    unfinished_line (text ++ more) ≡ last_part ((unfinished_line text ++ first) ∷ rest)
+unfolding unfinished_line
+unfinished_line-append text more first rest e =
+    ap last_part (slice_split-append text more first rest e) ∙ last_part-append (all_but_last (slice_split is_line_end text)) (last_part (slice_split is_line_end text) ++ first) rest
 
--- no line end, and no other control byte
-abbrev pub IsLine : List ℕ → Type 0
-IsLine xs = AllByRecursion (λ b. 32 ≤ b) xs
+-- nothing was read yet
+pub complete_lines-nil : complete_lines [] ≡ []
+unfolding complete_lines
+complete_lines-nil = refl
 
-pub line_by_test : (xs : List ℕ) → list_all (nat_le 32) xs ≡ true → IsLine xs
-line_by_test [] e = tt
-line_by_test (x ∷ xs) e =
-    let parts = and_parts (nat_le 32 x) (list_all (nat_le 32) xs) e in
-    (leb-true 32 x parts.0, line_by_test xs parts.1)
+pub unfinished_line-nil : unfinished_line [] ≡ []
+unfolding unfinished_line
+unfinished_line-nil = refl
 
-pub all_append : {X : Type 0} (P : X → Type 0) (xs ys : List X) → AllByRecursion P xs → AllByRecursion P ys → AllByRecursion P (xs ++ ys)
-all_append P [] ys h k = k
-all_append P (x ∷ xs) ys h k = (h.0, all_append P xs ys h.1 k)
+no_end_all : (part : List ℕ) → HasNoEnd part → All (λ b. is_line_end b ≡ false) part
+no_end_all [] h = All-nil (λ b. is_line_end b ≡ false)
+no_end_all (b ∷ part) h = All-cons (λ b. is_line_end b ≡ false) b part h.0 (no_end_all part h.1)
 
-pub line_append : (xs ys : List ℕ) → IsLine xs → IsLine ys → IsLine (xs ++ ys)
-line_append xs ys h k = all_append (λ (b : ℕ). 32 ≤ b) xs ys h k
+-- more bytes of one line
+one_part : (part : List ℕ) → HasNoEnd part → slice_split is_line_end part ≡ part ∷ []
+one_part part h = slice_split_none is_line_end part (no_end_all part h)
 
-pub line_at : (xs : List ℕ) (i d : ℕ) → IsLine xs → 32 ≤ d → 32 ≤ get_or xs i d
-line_at [] i d h k = k
-line_at (x ∷ xs) zero d h k = h.0
-line_at (x ∷ xs) (suc i) d h k = line_at xs i d h.1 k
+pub complete_lines_more : (text part : List ℕ) → HasNoEnd part → complete_lines (text ++ part) ≡ complete_lines text
+complete_lines_more text part h = complete_lines-append text part part [] (one_part part h) ∙ append-nil (complete_lines text)
 
-pub line_if : (b : Bool) (xs ys : List ℕ) → IsLine xs → IsLine ys → IsLine (if b then xs else ys)
-line_if true xs ys h k = h
-line_if false xs ys h k = k
+pub unfinished_line_more : (text part : List ℕ) → HasNoEnd part → unfinished_line (text ++ part) ≡ unfinished_line text ++ part
+unfinished_line_more text part h = unfinished_line-append text part part [] (one_part part h)
 
-kept_line : (b : Bool) (x : ℕ) (xs : List ℕ) → 32 ≤ x → IsLine xs → IsLine (cond b (x ∷ xs) xs)
-kept_line true x xs h k = (h, k)
-kept_line false x xs h k = k
+-- the end of a line
+pub complete_lines_end : (text part : List ℕ) → HasNoEnd part → complete_lines (text ++ (part ++ 10 ∷ [])) ≡ complete_lines text ++ (unfinished_line text ++ part) ∷ []
+complete_lines_end text part h = complete_lines-append text (part ++ 10 ∷ []) part ([] ∷ []) (slice_split_at is_line_end part 10 [] (no_end_all part h) refl)
 
-pub line_filter : (test : ℕ → Bool) (xs : List ℕ) → IsLine xs → IsLine (filter test xs)
-line_filter test [] h = tt
-line_filter test (x ∷ xs) h = kept_line (test x) x (filter test xs) h.0 (line_filter test xs h.1)
+pub unfinished_line_end : (text part : List ℕ) → unfinished_line (text ++ (part ++ 10 ∷ [])) ≡ []
+unfinished_line_end text part = ap unfinished_line (sym (append_assoc text part (10 ∷ []))) ∙ unfinished_line-append (text ++ part) (10 ∷ []) [] ([] ∷ []) refl
 
-module _ {X : Type 0} (f : X → List ℕ) (line : (x : X) → IsLine (f x)) where
-  pub line_flat_map : (xs : List X) → IsLine (flat_map f xs)
-  line_flat_map [] = tt
-  line_flat_map (x ∷ xs) = line_append (f x) (flat_map f xs) (line x) (line_flat_map xs)
+-- what is read later adds lines alone
+abbrev pub Later : List ℕ → List ℕ → Type 0
+Later text more = (later : List (List ℕ)) × (lines (text ++ more) ≡ complete_lines text ++ later)
 
-  pub line_joined : (xs : List X) → IsLine (join_with_byte 32 (map f xs))
-  line_joined [] = tt
-  line_joined (x ∷ []) = line x
-  line_joined (x ∷ y ∷ xs) = line_append (f x) (32 ∷ join_with_byte 32 (map f (y ∷ xs))) (line x) (omega arith, line_joined (y ∷ xs))
+later_by : (text more : List ℕ) (parts : List (List ℕ)) → slice_split is_line_end more ≡ parts → Later text more
+later_by text more [] e = absurd (omega (arith, length-slice_split is_line_end more, ap length e))
+later_by text more (first ∷ rest) e =
+    let later = all_but_last ((unfinished_line text ++ first) ∷ rest) in
+    let last = if_any (unfinished_line (text ++ more)) in
+    (later ++ last, ap (λ ls. ls ++ last) (complete_lines-append text more first rest e) ∙ append_assoc (complete_lines text) later last)
 
--- ---- texts with which a line goes on, and others may follow it
+pub lines_later : (text more : List ℕ) → Later text more
+lines_later text more = later_by text more (slice_split is_line_end more) refl
 
-abbrev pub GoesOn : List ℕ → Type 0
-GoesOn xs = after within xs ≡ within
+not_true : (b : Bool) → ¬ (b ≡ true) → b ≡ false
+not_true true h = absurd (h refl)
+not_true false h = refl
 
-pub append_goes_on : (xs ys : List ℕ) → GoesOn xs → GoesOn ys → GoesOn (xs ++ ys)
-append_goes_on xs ys h k = after_append within xs ys ∙ ap (λ s. after s ys) h ∙ k
+-- a text in which no byte ends a line, by its places
+pub no_end : (bytes : List ℕ) → ((k : ℕ) → k < length bytes → ¬ (is_line_end (slice_index bytes k) ≡ true)) → HasNoEnd bytes
+no_end [] h = tt
+no_end (b ∷ bytes) h = (not_true (is_line_end b) (h 0 (omega arith)), no_end bytes (λ k l. h (suc k) (omega arith)))
 
-pub line_goes_on : (xs : List ℕ) → IsLine xs → GoesOn xs
-line_goes_on [] h = refl
-line_goes_on (x ∷ xs) h = rw (le-leb 32 x h.0) (line_goes_on xs h.1)
+-- the first line of a text that has a line end
+pub first_line : (text : List ℕ) (end : ℕ) → ((k : ℕ) → k < end → ¬ (is_line_end (slice_index text k) ≡ true)) → end < length text → is_line_end (slice_index text end) ≡ true →
+    HasNoEnd (take end text) × (text ≡ take end text ++ (10 ∷ drop 1 (drop end text)))
+first_line [] end h l e = absurd (omega arith)
+first_line (b ∷ text) zero h l e = (tt, ap (λ c. c ∷ text) (eqb-true b 10 e))
+first_line (b ∷ text) (suc end) h l e =
+    let rest = first_line text end (λ k m. h (suc k) (omega arith)) (omega arith) e in
+    ((not_true (is_line_end b) (h 0 (omega arith)), rest.0), ap (λ t. b ∷ t) rest.1)
 
-pub flat_map_goes_on : {X : Type 0} (f : X → List ℕ) → ((x : X) → GoesOn (f x)) → (xs : List X) → GoesOn (flat_map f xs)
-flat_map_goes_on f h [] = refl
-flat_map_goes_on f h (x ∷ xs) = append_goes_on (f x) (flat_map f xs) (h x) (flat_map_goes_on f h xs)
+-- what a search for LF finds
+pub no_cut : (rest : List ℕ) → IsFirstByte (is_byte 10) rest None → HasNoEnd rest
+no_cut rest h = no_end rest (λ k l. h k (omega arith) l)
 
--- a line that isn't empty
-pub record IsFull (xs : List ℕ) : Type 0 where
-  pub line : IsLine xs
-  pub some : xs ≢ []
+pub first_cut : (rest : List ℕ) (end : ℕ) → IsFirstByte (is_byte 10) rest (Some end) → HasNoEnd (take end rest) × (rest ≡ take end rest ++ (10 ∷ drop 1 (drop end rest)))
+first_cut rest end h = first_line rest end (λ k l. h.0.before k (omega arith) l) h.0.high h.1
 
-line_from : (s : LineState) → by_plain s ≡ within → (xs : List ℕ) → IsFull xs → after s xs ≡ within
-line_from s e [] full = absurd (full.some refl)
-line_from s e (x ∷ xs) full = rw (le-leb 32 x full.line.0) (ap (λ t. after t xs) e ∙ line_goes_on xs full.line.1)
-
--- a full line behind a line end
-pub line_behind : (xs : List ℕ) → IsFull xs → GoesOn (10 ∷ xs)
-line_behind xs full = line_from ended refl xs full
-
-module _ {X : Type 0} (f : X → List ℕ) (full : (x : X) → IsFull (f x)) where
-  lines_from : (s : LineState) → by_plain s ≡ within → (x : X) (xs : List X) → after s (join_with_byte 10 (map f (x ∷ xs))) ≡ within
-  lines_from s e x [] = line_from s e (f x) (full x)
-  lines_from s e x (y ∷ xs) =
-      let rest = 10 ∷ join_with_byte 10 (map f (y ∷ xs)) in
-      after_append s (f x) rest ∙ ap (λ t. after t rest) (line_from s e (f x) (full x)) ∙ lines_from ended refl y xs
-
-  -- full lines, by line ends
-  pub lines_go_on : (xs : List X) → GoesOn (join_with_byte 10 (map f xs))
-  lines_go_on [] = refl
-  lines_go_on (x ∷ xs) = lines_from within refl x xs
-
-pub full_append : (xs ys : List ℕ) → IsFull xs → IsLine ys → IsFull (xs ++ ys)
-full_append [] ys h k = absurd (h.some refl)
-full_append (x ∷ xs) ys h k = record { line = line_append (x ∷ xs) ys h.line k; some = λ e. cc e }
-
-pub append_full : (xs ys : List ℕ) → IsLine xs → IsFull ys → IsFull (xs ++ ys)
-append_full [] ys h k = k
-append_full (x ∷ xs) ys h k = record { line = line_append (x ∷ xs) ys h k.line; some = λ e. cc e }
+pub chunk_cut : (chunk front rest part after : List ℕ) (end : ℕ) → chunk ≡ front ++ rest → part ≡ take end rest → after ≡ drop 1 (drop end rest) → IsFirstByte (is_byte 10) rest (Some end) →
+    chunk ≡ front ++ ((part ++ 10 ∷ []) ++ after)
+chunk_cut chunk front rest part after end whole p a h =
+    whole ∙ ap (λ xs. front ++ xs) ((first_cut rest end h).1 ∙ ap (λ xs. xs ++ (10 ∷ drop 1 (drop end rest))) (sym p) ∙ ap (λ xs. part ++ (10 ∷ xs)) (sym a) ∙ sym (append_assoc part (10 ∷ []) after))

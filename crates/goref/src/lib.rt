@@ -1,17 +1,36 @@
-//! The engine's side of the Go Text Protocol: what is decided on a line, and what is answered.
+//! goref as a library: lines of the Go Text Protocol and their answers, whole runs of lines, the
+//! tools for records, and the words of the program.
+//!
+//! - [`Session`]: answers a [`Line`] over its game; [`Flow`] says whether it goes on.
+//! - [`wants`], [`Fetched`]: the file that a line names, and what was fetched for it.
+//! - [`run`], [`run_within`]: read lines from a device and answer each before the next read;
+//!   a [`Shelf`] gives the files, and [`RunError`] says why a run broke off.
+//! - [`tidy_run`], [`judge_run`]: write the canonical spelling of a record, and the verdict on it;
+//!   [`ToolError`] says why not. [`read_input`] reads what a record may be in.
+//! - [`task_of`], [`Task`]: what the program's words ask for.
+//!
+//! A session of one line, and a run of two:
+//!
+//! ```
+//! let size = Size::new(9).expect(&rt, "a size");
+//! let mut session = Session::new(rt.alloc(), size);
+//! session.answer(&Line::of(b"play b e5"), Fetched::None, &mut writer)?;
+//! run(rt.alloc(), size, &mut reader, &mut writer, &mut shelf)?;
+//! ```
+//!
+//! What is promised is in the clauses of these calls. `specs/` has the words of runs, and hands on
+//! all others that the clauses cite, so that who calls this crate can prove with them as well.
 #![tactic(auto)]
 
-mod answer;
-mod arguments;
-mod command;
-mod commands;
-mod decision;
-mod fetched;
-mod flow;
+mod fault;
 pub mod laws;
-mod session;
+mod runs;
+mod shelf;
 
-pub use fetched::{Fetched, wants};
-pub use flow::Flow;
+pub use fault::RunError;
+pub use goref_cli::{Task, task_of};
 pub use goref_lines::{LINE_LIMIT, Line};
-pub use session::Session;
+pub use goref_session::{Fetched, Flow, Session, wants};
+pub use goref_tools::{ToolError, judge_run, read_input, tidy_run};
+pub use runs::{READS, run, run_within};
+pub use shelf::Shelf;

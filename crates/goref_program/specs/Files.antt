@@ -2,8 +2,8 @@
 use Rattle.std.specs.Prelude.{ℕ, nat_lt, if◌then◌else◌, List, length}
 use Rattle.go_sgf.specs.declared.limits.TheConstants.{MAX_RECORD}
 use Rattle.goref.specs.Contents.{Content, bytes, missing, no_memory, too_large}
-use Rattle.goref_tools.specs.declared.error.ToolError.{ToolError}
-use Rattle.goref_tools.specs.declared.error.ToolError.TheVariants.{Memory}
+use Rattle.goref.specs.ToolError.{ToolError}
+use Rattle.goref.specs.ToolError.TheVariants.{Memory}
 
 -- what was read, unless it is more than a record may have
 abbrev pub content_of_bytes : List ℕ → Content

@@ -4,7 +4,7 @@ use Rattle.clap.specs.declared.error.kind.ErrorKind.{ErrorKind}
 use Rattle.clap.specs.declared.error.kind.ErrorKind.TheVariants.{DisplayHelp, DisplayVersion}
 use Rattle.goref_program.specs.declared.ends.Fault.{Fault}
 use Rattle.goref_program.specs.declared.ends.Fault.TheVariants.{Run, Tool}
-use Rattle.goref_tools.specs.Tools.{status_of}
+use Rattle.goref.specs.Tools.{status_of}
 
 -- the status of words from which no task came: 0 where they asked for a text that was shown, and else 2
 abbrev pub words_status : ErrorKind → ℕ

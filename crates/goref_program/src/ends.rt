@@ -4,8 +4,7 @@ ghost use Rattle.clap.specs.Values.{kind_of};
 ghost use Rattle.goref_program.specs.Status.{end_status, fault_status, words_status};
 ghost use Rattle.goref_program.specs.declared.ends.Fault.TheVariants.{Run, Tool};
 
-use goref_runs::RunError;
-use goref_tools::ToolError;
+use goref::{RunError, ToolError};
 use std::io::Write;
 use thiserror::Error;
 

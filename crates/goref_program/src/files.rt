@@ -4,10 +4,8 @@ ghost use Rattle.goref.specs.Contents.{content_of};
 ghost use Rattle.goref_program.specs.Files.{content_of_bytes, content_of_fault};
 
 use go_sgf::MAX_RECORD;
-use goref::Fetched;
-use goref_runs::Shelf;
+use goref::{Fetched, Shelf, ToolError, read_input};
 use goref_streams::Input;
-use goref_tools::{ToolError, read_input};
 use std::alloc::Allocator;
 use std::fs;
 use std::rt::Files;

@@ -9,7 +9,7 @@ mod tasks;
 
 use ends::{REFUSED, explained, told};
 use files::NamedFiles;
-use goref_words::task_of;
+use goref::task_of;
 use std::process::ExitCode;
 use tasks::obeyed;
 

@@ -1,10 +1,8 @@
 //! What each task does on its streams.
 use crate::ends::Fault;
 use go_board::{Sink, Source};
-use goref_runs::{Shelf, run};
+use goref::{Shelf, Task, judge_run, run, tidy_run};
 use goref_streams::{Input, Output};
-use goref_tools::{judge_run, tidy_run};
-use goref_words::Task;
 use std::alloc::Allocator;
 use std::io::{Read, Write};
 

@@ -1,8 +1,7 @@
 use crate::rows::{LOAD, PRINTED};
 use crate::sessions::answered;
 use go_board::Size;
-use goref::{Fetched, Flow, Line, Session};
-use goref_runs::{Shelf, run};
+use goref::{Fetched, Flow, Line, Session, Shelf, run};
 use std::alloc::{AllocError, Allocator, Global};
 use std::process::Abort;
 use std::test::Fail;

@@ -8,8 +8,7 @@ use crate::rows::{
     KO_AFTER_PASSES, LOAD, PRINTED, REPETITION, Row,
 };
 use go_board::Size;
-use goref::Session;
-use goref_runs::run_within;
+use goref::{Session, run_within};
 use std::alloc::Global;
 use std::cell::Cell;
 use std::process::Abort;

@@ -1,8 +1,7 @@
 use crate::rows::{KO, KO_AFTER_PASSES};
 use crate::sessions::answered;
 use go_board::Size;
-use goref::{Fetched, Flow, Line, Session};
-use goref_runs::{RunError, Shelf, run, run_within};
+use goref::{Fetched, Flow, Line, RunError, Session, Shelf, run, run_within};
 use std::alloc::{AllocError, Allocator, Global};
 use std::process::Abort;
 use std::test::Fail;

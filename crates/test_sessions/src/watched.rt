@@ -1,7 +1,7 @@
 //! What a run passes on at each flush, what was passed on before each read, and how often it reads.
 use crate::scripts::{NoFiles, long_line};
 use go_board::Size;
-use goref_runs::{RunError, run};
+use goref::{RunError, run};
 use std::alloc::{AllocError, Global};
 use std::cell::Cell;
 use std::process::Abort;

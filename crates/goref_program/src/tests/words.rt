@@ -1,6 +1,6 @@
 use clap::error::ErrorKind;
 use go_board::{MAX_LINES, Size};
-use goref_words::{Task, task_of};
+use goref::{Task, task_of};
 use std::alloc::Global;
 use std::process::Abort;
 use std::test::Fail;

@@ -1,0 +1,44 @@
+-- What a run did, from what was read of the input.
+use Rattle.std.proofs.Common.{◌≡◌, ◌∙◌, ◌++◌, ℕ, List, [], IfSome, Option, None, Some, Result, Ok, refl, ap, subst, sym}
+use Rattle.std.proofs.lemmas.Bool.{ne_eqb}
+use Rattle.std.proofs.lemmas.List.{append-nil}
+use Rattle.go_board.specs.Device.{after_bytes, ends_after}
+use Rattle.go_game.specs.Standings.{Standing}
+use Rattle.goref_lines.specs.Kept.{Kept}
+use Rattle.goref.specs.Lines.{lines}
+use Rattle.goref.specs.Shelves.{Pair}
+use Rattle.goref.specs.Conversation.{ends, BreaksOff}
+use Rattle.goref.specs.inner.Progress.{Progress}
+use Rattle.goref.specs.Runs.{AnswersComplete, AnswersFront}
+use Rattle.goref.proofs.Conversations.{retold}
+
+-- the complete lines of what was read are answered
+pub answers_complete : {s now : Standing} {read : List ℕ} {line : Kept} {left left' : Option (List ℕ)} {given given' : Option (List Pair)} {taken taken' : Option (List ℕ)} →
+    left ≡ after_bytes read left' → Progress s read line now given given' taken taken' → AnswersComplete s left left' given given' taken taken'
+answers_complete {s} {now} {read} e p = record {
+  read = read;
+  has_read = e;
+  converses = record {
+    asked = p.asked;
+    text = p.text;
+    is = retold (append-nil _) (append-nil p.asked) (append-nil p.text) (p.reaches.on [] [] [] (ends now));
+    tells = p.tells;
+    took = p.took;
+  };
+}
+
+pub answers_front : {s : Standing} {left left' : Option (List ℕ)} {given given' : Option (List Pair)} {taken taken' : Option (List ℕ)} (read : List ℕ) →
+    left ≡ after_bytes read left' → BreaksOff s (lines read) given given' taken taken' → AnswersFront s left left' given given' taken taken'
+answers_front read e b = record { read = read; has_read = e; breaks_off = b }
+
+-- what holds of what was read holds of the input, where that has ended
+pub of_ended : (P : List ℕ → Type 0) (read : List ℕ) {left : Option (List ℕ)} (left' : Option (List ℕ)) → left ≡ after_bytes read left' →
+    IfSome left' (λ xs. xs ≡ []) → P read → IfSome left P
+of_ended P read {left} None e f h = let Q : Option (List ℕ) → Type 0 = λ o. IfSome o P in subst Q (sym e) tt
+of_ended P read {left} (Some more) e f h =
+    let Q : Option (List ℕ) → Type 0 = λ o. IfSome o P in
+    subst Q (sym e) (subst P (sym (append-nil read) ∙ ap (λ xs. read ++ xs) (sym f)) h)
+
+-- a read that gave some bytes found no end
+pub no_end_found : (E : Type 0) (n len old : ℕ) → (n ≡ 0 → ⊥) → (let given : Result ℕ E = Ok n in ends_after given len old ≡ old)
+no_end_found E n len old some = rw (ne_eqb n 0 some) refl

@@ -1,5 +1,0 @@
-use Rattle.goref.proofs.Loading.{one_load}
-use Rattle.goref.proofs.laws.one_load.Goals as goal
-
-pub returns : goal.returns
-returns c = one_load c.one_record.ensures c.one_outcome.ensures

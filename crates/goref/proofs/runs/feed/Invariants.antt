@@ -1,0 +1,18 @@
+use Rattle.std.proofs.Common.{◌≡◌, ℕ, List, ◌++◌, Option, length}
+use Rattle.go_game.specs.Standings.{Standing}
+use Rattle.goref.specs.Shelves.{Pair}
+use Rattle.goref.specs.inner.Progress.{Progress}
+use Rattle.goref.proofs.runs.feed.Given as goal
+
+abbrev pub invariant-loop-end : goal.invariant-loop-end
+invariant-loop-end g l = record {
+  front : List ℕ;
+  whole : l.chunk ≡ front ++ l.rest;
+  progress : (start : Standing) (read : List ℕ) (given : Option (List Pair)) (taken : Option (List ℕ)) →
+      Progress start read l.initial.line l.initial.session given (g.S.Shelf.given l.initial.shelf) taken (g.W.Sink.taken l.initial.writer) →
+      Progress start (read ++ front) l.line l.session given (g.S.Shelf.given l.shelf) taken (g.W.Sink.taken l.writer);
+  failures : g.W.Sink.failures l.writer ≡ g.W.Sink.failures l.initial.writer;
+}
+
+abbrev pub decreases-loop-end : goal.decreases-loop-end
+decreases-loop-end g l = length l.rest

@@ -1,0 +1,78 @@
+use Rattle.std.proofs.Common.{◌∙◌, [], ◌++◌, refl, sym, ap, arith}
+use Rattle.std.proofs.lemmas.List.{append-nil, length-append}
+use Rattle.go_board.specs.Device.{after_bytes}
+use Rattle.go_board.specs.declared.device.Failed.{Failed}
+use Rattle.goref.specs.Lines.{lines}
+use Rattle.goref.specs.Conversation.{Converses}
+use Rattle.goref.proofs.Progressing.{begins}
+use Rattle.go_board.specs.lemmas.Reading.{after_bytes-nil, has_read_more, of_input}
+use Rattle.goref.proofs.Running.{answers_complete, answers_front, no_end_found, of_ended}
+use Rattle.goref.proofs.runs.run_within.Goals as goal
+
+pub loop-init : goal.loop-init
+loop-init g c = record {
+  read = [];
+  left = sym (after_bytes-nil (g.R.Source.left c.args.reader.now));
+  progress = rw c.new-line.ensures (begins c.args.session.now (g.S.Shelf.given c.args.shelf.now) (g.W.Sink.taken c.args.writer.now));
+  many = omega arith;
+  pulls = omega arith;
+  ends = refl;
+  read_failures = refl;
+  write_failures = refl;
+}
+
+pub returns-in-Err-clause-read : goal.returns-in-Err-clause-read
+returns-in-Err-clause-read g c = λ _.
+    answers_complete (c.loop.invariant.left ∙ ap (after_bytes c.loop.invariant.read) (sym c.in-Err.ensures.failed)) c.loop.invariant.progress
+
+pub returns-clause-endless : goal.returns-clause-endless
+returns-clause-endless g c = λ _. answers_complete c.loop.invariant.left c.loop.invariant.progress
+
+pub returns-clause-many_bytes : goal.returns-clause-many_bytes
+returns-clause-many_bytes g c = λ _. record { read = c.loop.invariant.read; has_read = c.loop.invariant.left; many = omega (arith, c.loop.invariant.many) }
+
+pub returns-in-Err-end_input-clause-write : goal.returns-in-Err-end_input-clause-write
+returns-in-Err-end_input-clause-write g c = λ _.
+    let now = c.loop.invariant in
+    let nothing = rw c.if-count-eq0.true at c.in-Ok.ensures.bytes in
+    answers_front now.read (now.left ∙ ap (after_bytes now.read) (nothing ∙ after_bytes-nil (g.R.Source.left c.pull.new.self)))
+    (rw c.in-Err-end_input.is at (c.end_input.ensures.finishes _ now.read _ _ now.progress))
+
+pub returns-in-Ok-end_input-clause-ok : goal.returns-in-Ok-end_input-clause-ok
+returns-in-Ok-end_input-clause-ok g c =
+    let now = c.loop.invariant in
+    let nothing = rw c.if-count-eq0.true at c.in-Ok.ensures.bytes in
+    of_ended (λ input. Converses c.args.session.now (lines input) _ _ _ _) now.read (g.R.Source.left c.pull.new.self)
+    (now.left ∙ ap (after_bytes now.read) (nothing ∙ after_bytes-nil (g.R.Source.left c.pull.new.self)))
+    (c.in-Ok.ensures.end c.if-count-eq0.true (omega (arith, c.pull.auto.buffer)))
+    (rw c.in-Ok-end_input.is at (c.end_input.ensures.finishes _ now.read _ _ now.progress))
+
+pub returns-in-Err-feed-clause-write : goal.returns-in-Err-feed-clause-write
+returns-in-Err-feed-clause-write g c = λ _.
+    let now = c.loop.invariant in
+    let chunk = c.split_at.result.0.now in
+    answers_front (now.read ++ chunk) (has_read_more (g.R.Source.left c.pull.new.self) now.read chunk now.left (c.in-Ok.ensures.bytes ∙ ap (λ xs. after_bytes xs (g.R.Source.left c.pull.new.self)) (sym c.split_at.ensures.front)))
+    (rw append-nil at (rw c.in-Err-feed.is at (c.feed.ensures.proceeds _ now.read _ _ now.progress) []))
+
+pub returns-in-Ok-Quit-clause-ok : goal.returns-in-Ok-Quit-clause-ok
+returns-in-Ok-Quit-clause-ok g c =
+    let now = c.loop.invariant in
+    let chunk = c.split_at.result.0.now in
+    of_input (λ input. Converses c.args.session.now (lines input) _ _ _ _) (now.read ++ chunk) (g.R.Source.left c.pull.new.self)
+    (has_read_more (g.R.Source.left c.pull.new.self) now.read chunk now.left (c.in-Ok.ensures.bytes ∙ ap (λ xs. after_bytes xs (g.R.Source.left c.pull.new.self)) (sym c.split_at.ensures.front)))
+    (rw (c.in-Ok-Quit.is, c.in-Ok-Quit.field-0-is) at (c.feed.ensures.proceeds _ now.read _ _ now.progress))
+
+pub loop-preserved : goal.loop-preserved
+loop-preserved g c =
+    let now = c.loop.invariant in
+    let chunk = c.split_at.result.0.now in
+    record {
+      read = now.read ++ chunk;
+      left = has_read_more (g.R.Source.left c.pull.new.self) now.read chunk now.left (c.in-Ok.ensures.bytes ∙ ap (λ xs. after_bytes xs (g.R.Source.left c.pull.new.self)) (sym c.split_at.ensures.front));
+      progress = rw (c.in-Ok-More.is, c.in-Ok-More.field-0-is) at (c.feed.ensures.proceeds _ now.read _ _ now.progress);
+      many = omega (arith, length-append now.read chunk, c.split_at.ensures.front_len, now.many);
+      pulls = omega (arith, c.pull.ensures.pulls);
+      ends = c.in-Ok.ensures.ends ∙ no_end_found Failed c.in-Ok.count _ _ c.if-count-eq0.false ∙ now.ends;
+      read_failures = c.in-Ok.ensures.failures ∙ now.read_failures;
+      write_failures = c.in-Ok-More.ensures.failures ∙ now.write_failures;
+    }

@@ -1,0 +1,232 @@
+ghost use Rattle.std.specs.Prelude.{◌≡◌, ◌≤◌, ◌+◌, ℕ, List, [], ◌∷◌, ◌++◌, Option, IfOk, IfSome, OnOk, IsErrOf};
+ghost use Rattle.go_board.specs.Device.{failures_after};
+ghost use Rattle.go_game.specs.Standings.{Standing};
+ghost use Rattle.goref_session.specs.Starts.{begun};
+ghost use Rattle.goref.specs.Lines.{HasNoEnd, lines};
+ghost use Rattle.goref_session.specs.Contents.{content_of};
+ghost use Rattle.goref.specs.Shelves.{Pair};
+ghost use Rattle.goref.specs.Conversation.{Converses, BreaksOff};
+ghost use Rattle.goref.specs.inner.Progress.{Fetches, Responds, Progress, Proceeds, Finishes};
+ghost use Rattle.goref.specs.Runs.{AnswersComplete, AnswersFront, ReadsAtLeast, read_failures_after, write_failures_after};
+
+use crate::fault::RunError;
+use crate::shelf::Shelf;
+use go_board::{Failed, Sink, Size, Source, WriteFault};
+use goref_lines::Line;
+use goref_session::laws::some_reply;
+use goref_session::{Fetched, Flow, Session, wants};
+use memchr::memchr;
+use std::alloc::Allocator;
+
+/// The most reads that a run makes.
+pub const READS: u64 = 1 << 40;
+
+/// Reads lines and answers each before the next read, up to `quit` or to the end of the input. A
+/// last line without a line end is answered too. It makes at most [`READS`] reads, and finds an
+/// input endless only after that many reads and as many bytes, where none of them found its end.
+pub fn run<A: Allocator + Copy, R: Source, W: Sink, S: Shelf<A>>(
+    alloc: A,
+    size: Size,
+    reader: &mut R,
+    writer: &mut W,
+    shelf: &mut S,
+) -> Result<(), RunError>
+    ensures ok { OnOk result (IfSome (R.left reader.old) (λ input.
+        Converses (begun size) (lines input)
+        (S.given shelf.old) (S.given shelf.new) (W.taken writer.old) (W.taken writer.new))) }
+    ensures read { IsErrOf result RunError.Read →
+        AnswersComplete (begun size) (R.left reader.old) (R.left reader.new)
+        (S.given shelf.old) (S.given shelf.new) (W.taken writer.old) (W.taken writer.new) }
+    ensures endless { IsErrOf result RunError.Endless →
+        AnswersComplete (begun size) (R.left reader.old) (R.left reader.new)
+        (S.given shelf.old) (S.given shelf.new) (W.taken writer.old) (W.taken writer.new) }
+    ensures write { IsErrOf result RunError.Write →
+        AnswersFront (begun size) (R.left reader.old) (R.left reader.new)
+        (S.given shelf.old) (S.given shelf.new) (W.taken writer.old) (W.taken writer.new) }
+    ensures read_failures { R.failures reader.new ≡ read_failures_after result
+        (R.failures reader.old) }
+    ensures write_failures { W.failures writer.new ≡ write_failures_after result
+        (W.failures writer.old) }
+    ensures pulls { R.pulls reader.new ≤ R.pulls reader.old + READS }
+    ensures all_pulls { IsErrOf result RunError.Endless
+        → R.pulls reader.new ≡ R.pulls reader.old + READS }
+    ensures many_bytes { IsErrOf result RunError.Endless
+        → ReadsAtLeast READS (R.left reader.old) (R.left reader.new) }
+    ensures no_end { IsErrOf result RunError.Endless → R.ends reader.new ≡ R.ends reader.old }
+    ensures one_end { R.ends reader.new ≤ R.ends reader.old + 1 }
+{
+    let mut session = Session::new(alloc, size);
+    run_within(READS, &mut session, reader, writer, shelf)
+}
+
+/// As [`run`], from where a session stands, with this number of reads at most.
+pub fn run_within<A: Allocator + Copy, R: Source, W: Sink, S: Shelf<A>>(
+    limit: u64,
+    session: &mut Session<A>,
+    reader: &mut R,
+    writer: &mut W,
+    shelf: &mut S,
+) -> Result<(), RunError>
+    ensures ok { OnOk result (IfSome (R.left reader.old) (λ input.
+        Converses session.old (lines input)
+        (S.given shelf.old) (S.given shelf.new) (W.taken writer.old) (W.taken writer.new))) }
+    ensures read { IsErrOf result RunError.Read →
+        AnswersComplete session.old (R.left reader.old) (R.left reader.new)
+        (S.given shelf.old) (S.given shelf.new) (W.taken writer.old) (W.taken writer.new) }
+    ensures endless { IsErrOf result RunError.Endless →
+        AnswersComplete session.old (R.left reader.old) (R.left reader.new)
+        (S.given shelf.old) (S.given shelf.new) (W.taken writer.old) (W.taken writer.new) }
+    ensures write { IsErrOf result RunError.Write →
+        AnswersFront session.old (R.left reader.old) (R.left reader.new)
+        (S.given shelf.old) (S.given shelf.new) (W.taken writer.old) (W.taken writer.new) }
+    ensures read_failures { R.failures reader.new ≡ read_failures_after result
+        (R.failures reader.old) }
+    ensures write_failures { W.failures writer.new ≡ write_failures_after result
+        (W.failures writer.old) }
+    ensures pulls { R.pulls reader.new ≤ R.pulls reader.old + limit }
+    ensures all_pulls { IsErrOf result RunError.Endless
+        → R.pulls reader.new ≡ R.pulls reader.old + limit }
+    ensures many_bytes { IsErrOf result RunError.Endless
+        → ReadsAtLeast limit (R.left reader.old) (R.left reader.new) }
+    ensures no_end { IsErrOf result RunError.Endless → R.ends reader.new ≡ R.ends reader.old }
+    ensures one_end { R.ends reader.new ≤ R.ends reader.old + 1 }
+{
+    let mut line = Line::new();
+    let mut buffer = [0u8; 4096];
+    for _ in 0..limit {
+        let count = match reader.pull(&mut buffer) {
+            Ok(count) => count,
+            Err(Failed) => return Err(RunError::Read),
+        };
+        if count == 0 {
+            match end_input(session, &line, writer, shelf) {
+                Ok(()) => return Ok(()),
+                Err(WriteFault) => return Err(RunError::Write),
+            }
+        }
+        let (chunk, _) = buffer.split_at(count);
+        match feed(session, &mut line, chunk, writer, shelf) {
+            Ok(Flow::More) => {}
+            Ok(Flow::Quit) => return Ok(()),
+            Err(WriteFault) => return Err(RunError::Write),
+        }
+    }
+    Err(RunError::Endless)
+}
+
+/// Takes more bytes of the input, and answers each line that they complete.
+fn feed<A: Allocator + Copy, W: Sink, S: Shelf<A>>(
+    session: &mut Session<A>,
+    line: &mut Line,
+    chunk: &[u8],
+    writer: &mut W,
+    shelf: &mut S,
+) -> Result<Flow, WriteFault>
+    ensures proceeds { (start : Standing) (read : List ℕ) (given : Option (List Pair))
+        (taken : Option (List ℕ)) →
+        Progress start read line.old session.old given
+        (S.given shelf.old) taken (W.taken writer.old) →
+        Proceeds result start (read ++ chunk.now) line.new session.new given
+        (S.given shelf.new) taken (W.taken writer.new) }
+    ensures failures { W.failures writer.new ≡ failures_after result (W.failures writer.old) }
+{
+    let mut rest = chunk;
+    while let Some(end) = memchr(b'\n', rest) {
+        let (part, after) = rest.split_at(end);
+        match end_line(session, line, part, writer, shelf) {
+            Ok(Flow::More) => {}
+            Ok(Flow::Quit) => return Ok(Flow::Quit),
+            Err(WriteFault) => return Err(WriteFault),
+        }
+        rest = after.split_at(1).1;
+    }
+    line.extend(rest);
+    Ok(Flow::More)
+}
+
+/// Takes the last bytes of a line, answers it, and begins the next.
+fn end_line<A: Allocator + Copy, W: Sink, S: Shelf<A>>(
+    session: &mut Session<A>,
+    line: &mut Line,
+    part: &[u8],
+    writer: &mut W,
+    shelf: &mut S,
+) -> Result<Flow, WriteFault>
+    requires { HasNoEnd part.now }
+    ensures proceeds { (start : Standing) (read : List ℕ) (given : Option (List Pair))
+        (taken : Option (List ℕ)) →
+        Progress start read line.old session.old given
+        (S.given shelf.old) taken (W.taken writer.old) →
+        Proceeds result start (read ++ (part.now ++ 10 ∷ [])) line.new session.new given
+        (S.given shelf.new) taken (W.taken writer.new) }
+    ensures failures { W.failures writer.new ≡ failures_after result (W.failures writer.old) }
+{
+    some_reply();
+    line.extend(part);
+    let result = respond(session, line, writer, shelf);
+    line.clear();
+    result
+}
+
+/// Answers a last line without a line end, if there is one.
+fn end_input<A: Allocator + Copy, W: Sink, S: Shelf<A>>(
+    session: &mut Session<A>,
+    line: &Line,
+    writer: &mut W,
+    shelf: &mut S,
+) -> Result<(), WriteFault>
+    ensures finishes { (start : Standing) (read : List ℕ) (given : Option (List Pair))
+        (taken : Option (List ℕ)) →
+        Progress start read line.now session.old given
+        (S.given shelf.old) taken (W.taken writer.old) →
+        Finishes result start read given (S.given shelf.new) taken (W.taken writer.new) }
+    ensures failures { W.failures writer.new ≡ failures_after result (W.failures writer.old) }
+{
+    some_reply();
+    match respond(session, line, writer, shelf) {
+        Ok(_) => Ok(()),
+        Err(WriteFault) => Err(WriteFault),
+    }
+}
+
+/// Fetches what a line wants, answers the line, and passes the answer on.
+fn respond<A: Allocator + Copy, W: Sink, S: Shelf<A>>(
+    session: &mut Session<A>,
+    line: &Line,
+    writer: &mut W,
+    shelf: &mut S,
+) -> Result<Flow, WriteFault>
+    ensures responds { Responds session.old session.new line.now result (S.given shelf.old)
+        (S.given shelf.new) (W.taken writer.old) (W.taken writer.new) }
+    ensures failures { W.failures writer.new ≡ failures_after result (W.failures writer.old) }
+{
+    let fetched = fetch_for(line, shelf);
+    match session.answer(line, fetched, writer) {
+        Ok(flow) => pass_on(line, flow, writer),
+        Err(WriteFault) => Err(WriteFault),
+    }
+}
+
+fn fetch_for<A: Allocator + Copy, S: Shelf<A>>(line: &Line, shelf: &mut S) -> Fetched<A>
+    ensures { Fetches line.now (content_of result) (S.given shelf.old) (S.given shelf.new) }
+{
+    match wants(line) {
+        Some(name) => shelf.fetch(name),
+        None => Fetched::None,
+    }
+}
+
+/// Flushes the answer of a line, where it has one.
+fn pass_on<W: Sink>(line: &Line, flow: Flow, writer: &mut W) -> Result<Flow, WriteFault>
+    ensures same { IfOk result (λ passed. passed ≡ flow) }
+    ensures bytes { W.taken writer.new ≡ W.taken writer.old }
+    ensures failures { W.failures writer.new ≡ failures_after result (W.failures writer.old) }
+{
+    if !line.has_words() {
+        return Ok(flow);
+    }
+    match writer.flush() {
+        Ok(()) => Ok(flow),
+        Err(Failed) => Err(WriteFault),
+    }
+}

@@ -1,4 +1,0 @@
-pub mod Lines
-pub mod Conversations
-pub mod Progressing
-pub mod Running

@@ -1,5 +1,0 @@
-pub mod Lines
-pub mod Shelves
-pub mod Conversation
-pub mod Runs
-pub mod inner

@@ -1,0 +1,15 @@
+use Rattle.std.proofs.Common.{◌≡◌, ◌∷◌, refl}
+use Rattle.go_board.specs.declared.vertex.Vertex.{Vertex}
+use Rattle.go_board.specs.declared.vertex.Vertex.TheVariants.{Pass, At}
+use Rattle.go_board.specs.Vertices.{vertex_word}
+use Rattle.go_board.specs.lemmas.Writing.{writes_then}
+use Rattle.goref_results.specs.Results.{result_text}
+use Rattle.goref_session.proofs.commands.play.put_choice.Goals as goal
+
+behind_space : (v : Vertex) → 32 ∷ vertex_word v ≡ result_text (vertex_word v)
+behind_space Pass = refl
+behind_space (At p) = refl
+
+pub returns : goal.returns
+returns g c =
+    writes_then _ c.put.ensures (rw (c.as_bytes.ensures.value, c.deref.ensures.0, c.vertex_text.ensures.text) at c.put-2.ensures) (behind_space c.args.vertex)

@@ -1,0 +1,14 @@
+pub mod Starts
+pub mod Contents
+pub mod Commands
+pub mod Decisions
+pub mod Setup
+pub mod Play
+pub mod Handicap
+pub mod Record
+pub mod Time
+pub mod Telling
+pub mod Table
+pub mod Answers
+pub mod Replies
+pub mod Laws

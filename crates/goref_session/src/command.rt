@@ -1,0 +1,101 @@
+ghost use Rattle.std.specs.Prelude.{◌≡◌};
+ghost use Rattle.std.specs.Option.{option_and_then};
+ghost use Rattle.goref_session.specs.Commands.{command_of};
+
+use goref_lines::Request;
+
+/// What a line can ask for.
+#[derive(Clone, Copy, Debug, PartialEq, Eq)]
+pub enum Command {
+    /// To be told of a topic. There are no arguments.
+    Tells(Topic),
+    KnownCommand,
+    Quit,
+    Boardsize,
+    ClearBoard,
+    Komi,
+    Play,
+    Genmove,
+    Undo,
+    RegGenmove,
+    Loadsgf,
+    FixedHandicap,
+    PlaceFreeHandicap,
+    SetFreeHandicap,
+    TimeSettings,
+    TimeLeft,
+    Legal,
+    Superko,
+}
+
+/// What can be told without arguments.
+#[derive(Clone, Copy, Debug, PartialEq, Eq)]
+pub enum Topic {
+    /// The version of the protocol.
+    Protocol,
+    /// The name of the program.
+    Program,
+    /// The version of the program.
+    Release,
+    /// The names of all commands.
+    Commands,
+    /// Who is ahead, and by how much.
+    Score,
+    /// The diagram of the board.
+    Board,
+    /// The chains with their liberties.
+    Chains,
+    /// The record of the game.
+    Record,
+}
+
+/// All commands with their names, in the order in which they are listed.
+pub const COMMANDS: &[(&[u8], Command)] = &[
+    (b"protocol_version", Command::Tells(Topic::Protocol)),
+    (b"name", Command::Tells(Topic::Program)),
+    (b"version", Command::Tells(Topic::Release)),
+    (b"known_command", Command::KnownCommand),
+    (b"list_commands", Command::Tells(Topic::Commands)),
+    (b"quit", Command::Quit),
+    (b"boardsize", Command::Boardsize),
+    (b"clear_board", Command::ClearBoard),
+    (b"komi", Command::Komi),
+    (b"play", Command::Play),
+    (b"genmove", Command::Genmove),
+    (b"undo", Command::Undo),
+    (b"reg_genmove", Command::RegGenmove),
+    (b"loadsgf", Command::Loadsgf),
+    (b"fixed_handicap", Command::FixedHandicap),
+    (b"place_free_handicap", Command::PlaceFreeHandicap),
+    (b"set_free_handicap", Command::SetFreeHandicap),
+    (b"final_score", Command::Tells(Topic::Score)),
+    (b"showboard", Command::Tells(Topic::Board)),
+    (b"time_settings", Command::TimeSettings),
+    (b"time_left", Command::TimeLeft),
+    (b"goref-chains", Command::Tells(Topic::Chains)),
+    (b"goref-legal", Command::Legal),
+    (b"goref-printsgf", Command::Tells(Topic::Record)),
+    (b"goref-superko", Command::Superko),
+];
+
+/// The command that a request names.
+pub fn command_asked(request: &Request) -> Option<Command>
+    ensures { result ≡ option_and_then command_of request.now.name }
+{
+    match request.name() {
+        Some(name) => command_named(name),
+        None => None,
+    }
+}
+
+/// The command of this name.
+pub fn command_named(name: &[u8]) -> Option<Command>
+    ensures { result ≡ command_of name.now }
+{
+    for (known, command) in COMMANDS {
+        if name == *known {
+            return Some(*command);
+        }
+    }
+    None
+}

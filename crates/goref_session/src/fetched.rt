@@ -1,0 +1,39 @@
+ghost use Rattle.std.specs.Prelude.{◌≡◌, option_copied};
+ghost use Rattle.goref_session.specs.Answers.{wanted};
+
+use crate::commands::record::{asks_to_load, load_asked};
+use goref_lines::{Line, Request};
+use std::alloc::Allocator;
+
+/// What was fetched for a line.
+#[derive(Drop)]
+pub enum Fetched<A: Allocator> {
+    /// No file was wanted.
+    None,
+    /// What the file holds.
+    Bytes(Vec<u8, A>),
+    /// There is no such file, or it cannot be read.
+    Missing,
+    /// The file has more bytes than a record may have.
+    TooLarge,
+    /// There was no memory for what the file holds.
+    Memory,
+}
+
+/// The name of the file that a line wants fetched: that of a `loadsgf` whose arguments are as they
+/// are to be.
+pub fn wants(line: &Line) -> Option<&[u8]>
+    ensures { option_copied result ≡ wanted line.now }
+{
+    if line.is_long() {
+        return None;
+    }
+    let request = Request::of(line.text());
+    if !asks_to_load(&request) {
+        return None;
+    }
+    match load_asked(&request) {
+        Some(load) => Some(load.name),
+        None => None,
+    }
+}

@@ -1,0 +1,16 @@
+//! The engine's side of the Go Text Protocol: what is decided on a line, and what is answered.
+#![tactic(auto)]
+
+mod answer;
+mod arguments;
+mod command;
+mod commands;
+mod decision;
+mod fetched;
+mod flow;
+pub mod laws;
+mod session;
+
+pub use fetched::{Fetched, wants};
+pub use flow::Flow;
+pub use session::Session;

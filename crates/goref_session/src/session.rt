@@ -1,0 +1,134 @@
+ghost use Rattle.std.specs.Prelude.{◌≡◌};
+ghost use Rattle.go_board.specs.Device.{failures_after};
+ghost use Rattle.go_game.specs.Standings.{Standing};
+ghost use Rattle.goref_session.specs.Answers.{DecidesLine, is_end, line_id};
+ghost use Rattle.goref_session.specs.Contents.{content_of};
+ghost use Rattle.goref_session.specs.Replies.{Answered, flow_of};
+ghost use Rattle.goref_session.specs.Starts.{begun};
+ghost use Rattle.goref_session.specs.Table.{Decides};
+
+use crate::answer::write_answer;
+use crate::command::{Command, command_asked};
+use crate::commands::{handicap, play, record, setup, telling, time};
+use crate::decision::{Decision, Fact, Refusal};
+use crate::fetched::Fetched;
+use crate::flow::Flow;
+use go_board::{Sink, Size, WriteFault};
+use go_game::Game;
+use goref_lines::{Line, Request, id_of_cut};
+use std::alloc::Allocator;
+use std::marker::Model;
+
+/// A game that is played by lines.
+#[derive(Drop)]
+pub struct Session<A: Allocator + Copy> {
+    game: Game<A>,
+    /// Where records are loaded, so that a refused one leaves the game as it is.
+    spare: Game<A>,
+    alloc: A,
+}
+
+impl<A: Allocator + Copy> Model for Session<A> {
+    ghost Value = { Standing };
+
+    ghost view = { λ s. s.game.standing };
+}
+
+impl<A: Allocator + Copy> Session<A> {
+    /// A session over an empty board of this size, under the positional rule.
+    pub fn new(alloc: A, size: Size) -> Session<A>
+        ensures { result ≡ begun size }
+    {
+        Session {
+            game: Game::new(alloc, size),
+            spare: Game::new(alloc, size),
+            alloc,
+        }
+    }
+
+    /// The game that is played: all that it tells is a function of the session's standing.
+    pub fn game(&self) -> &Game<A>
+        ensures { result.now.standing ≡ self.now }
+    {
+        &self.game
+    }
+
+    /// Answers a line. On a fault what was written is a front of the answer, and the session stands
+    /// as after the command.
+    pub fn answer<W: Sink>(
+        &mut self,
+        line: &Line,
+        fetched: Fetched<A>,
+        writer: &mut W,
+    ) -> Result<Flow, WriteFault>
+        ensures answered { Answered self.old self.new line.now (content_of fetched) result
+            (W.taken writer.old) (W.taken writer.new) }
+        ensures failures { W.failures writer.new ≡ failures_after result (W.failures writer.old) }
+    {
+        if !line.has_words() {
+            return Ok(Flow::More);
+        }
+        let (id, decision) = self.decide_line(line, fetched);
+        match write_answer(self.game(), id, &decision, writer) {
+            Ok(()) => Ok(flow_after(&decision)),
+            Err(WriteFault) => Err(WriteFault),
+        }
+    }
+
+    /// Decides on a line with words, and tells the line's id, also of one that is too long.
+    fn decide_line(&mut self, line: &Line, fetched: Fetched<A>) -> (Option<u32>, Decision)
+        ensures id { result.0 ≡ line_id line.now }
+        ensures decision { DecidesLine self.old line.now (content_of fetched)
+            (record { decision = result.1; standing = self.new }) }
+    {
+        let text = line.text();
+        if line.is_long() {
+            return (id_of_cut(text), Decision::Refused(Refusal::LineTooLong));
+        }
+        let request = Request::of(text);
+        let decision = self.decide(&request, &fetched);
+        (request.id(), decision)
+    }
+
+    /// Decides on the command that is asked for.
+    fn decide(&mut self, request: &Request, fetched: &Fetched<A>) -> Decision
+        ensures { Decides self.old request.now (content_of fetched.now)
+            (record { decision = result; standing = self.new }) }
+    {
+        let alloc = self.alloc;
+        let game = &mut self.game;
+        match command_asked(request) {
+            None => Decision::Refused(Refusal::UnknownCommand),
+            Some(Command::Tells(topic)) => Decision::Tells(Fact::About(topic)),
+            Some(Command::KnownCommand) => telling::decide_known(request),
+            Some(Command::Quit) => Decision::Ends,
+            Some(Command::Boardsize) => setup::decide_size(game, request),
+            Some(Command::ClearBoard) => setup::decide_clear(game),
+            Some(Command::Komi) => setup::decide_komi(game, request),
+            Some(Command::Play) => play::decide_play(game, request),
+            Some(Command::Genmove) => play::decide_genmove(game, request),
+            Some(Command::Undo) => play::decide_undo(game),
+            Some(Command::RegGenmove) => play::decide_choice(game, request),
+            Some(Command::Loadsgf) => {
+                record::decide_load(game, &mut self.spare, alloc, request, fetched)
+            }
+            Some(Command::FixedHandicap) => handicap::decide_fixed(game, alloc, request),
+            Some(Command::PlaceFreeHandicap) => handicap::decide_free(game, alloc, request),
+            Some(Command::SetFreeHandicap) => handicap::decide_stones(game, alloc, request),
+            Some(Command::TimeSettings) => time::decide_settings(request),
+            Some(Command::TimeLeft) => time::decide_left(request),
+            Some(Command::Legal) => play::decide_legal(game, request),
+            Some(Command::Superko) => setup::decide_superko(game, request),
+        }
+    }
+}
+
+/// Whether the session goes on after what was decided.
+fn flow_after(decision: &Decision) -> Flow
+    ensures { result ≡ flow_of (is_end decision.now) }
+{
+    match decision {
+        Decision::Ends => Flow::Quit,
+        _ => Flow::More,
+    }
+}

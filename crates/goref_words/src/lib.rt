@@ -1,6 +1,0 @@
-//! The words of the program, and the task that they name.
-#![tactic(auto)]
-
-mod task;
-
-pub use task::{Task, task_of};
