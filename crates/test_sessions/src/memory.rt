@@ -8,7 +8,7 @@ use crate::rows::{
     KO_AFTER_PASSES, LOAD, PRINTED, REPETITION, Row,
 };
 use go_board::Size;
-use goref::{Session, run_within};
+use goref::run_within;
 use std::alloc::Global;
 use std::cell::Cell;
 use std::process::Abort;
@@ -25,8 +25,8 @@ fn meets_request(rt: &impl Abort, alloc: Global, row: Row, number: u64) -> bool 
     let mut reader = Resending::new(row.script, &asks_again);
     let mut writer = Sifting::new(alloc, &asks_again);
     let mut shelf = OneFile::named(b"f", &failing, Gift::Bytes(HANDICAP_GAME));
-    let mut session = Session::new(&failing, Size::new(19).expect(rt, "a size"));
-    let end = run_within(READS, &mut session, &mut reader, &mut writer, &mut shelf);
+    let size = Size::new(19).expect(rt, "a size");
+    let end = run_within(&failing, READS, size, &mut reader, &mut writer, &mut shelf);
     assert!(rt; end == Ok(()), "request {number}");
     assert!(rt; writer.kept() == row.answers, "request {number}");
     let is_met = !failing.waits();

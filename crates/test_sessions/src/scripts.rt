@@ -241,18 +241,6 @@ fn a_reader_fails(rt: HostRuntime) {
     assert!(rt; writer.bytes() == b"=\n\n".as_slice());
 }
 
-/// How a run ends that makes so many reads at most.
-fn ends_within(
-    rt: &impl Abort,
-    alloc: Global,
-    limit: u64,
-    reader: &mut Reader<'_>,
-    writer: &mut Writer<Global>,
-) -> Result<(), RunError> {
-    let mut session = Session::new(alloc, usual(rt));
-    run_within(limit, &mut session, reader, writer, &mut NoFiles)
-}
-
 /// Asserts how a run of `undo`, one byte at a time, ends within so many reads.
 fn undone_within(
     rt: &impl Abort,
@@ -264,7 +252,8 @@ fn undone_within(
 ) {
     let mut reader = Reader::new(b"undo\n").in_pieces_of(1);
     let mut writer = Writer::new(alloc);
-    let ended = ends_within(rt, alloc, limit, &mut reader, &mut writer);
+    let size = usual(rt);
+    let ended = run_within(alloc, limit, size, &mut reader, &mut writer, &mut NoFiles);
     assert!(rt; ended == end);
     assert!(rt; writer.bytes() == taken);
     assert!(rt; reader.pull_count() == pulls);
