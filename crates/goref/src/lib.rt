@@ -6,7 +6,7 @@
 //! - [`run`], [`run_within`]: read lines from a device and answer each before the next read;
 //!   a [`Shelf`] gives the files, and [`RunError`] says why a run broke off.
 //! - [`tidy_run`], [`judge_run`]: write the canonical spelling of a record, and the verdict on it;
-//!   [`ToolError`] says why not. [`read_input`] reads what a record may be in.
+//!   [`ToolError`] says why not. [`read_input`] reads a whole input, up to a record's limit.
 //! - [`task_of`], [`Task`]: what the program's words ask for.
 //!
 //! A session of one line, and a run of two:
