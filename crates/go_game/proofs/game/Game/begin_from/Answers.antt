@@ -1,4 +1,4 @@
-use Rattle.std.proofs.Common.{◌≡◌, ◌∙◌, ◌*◌, ◌<◌, ◌≤◌, ap, sym, subst, length}
+use Rattle.std.proofs.Common.{◌≡◌, ◌∙◌, ◌*◌, ◌<◌, ◌≤◌, ap, sym, subst, length, rules}
 use Rattle.go_board.specs.declared.size.TheConstants.{MAX_LINES}
 use Rattle.go_board.specs.Grids.{GridValue}
 use Rattle.go_board.specs.PackBytes.{bytes_of}
@@ -23,3 +23,9 @@ invariant_of-self-2 g c =
     (c.in-Ok.ensures.colours ∙ ap (λ (v : GridValue). v.colours) (sym same))
     c.fill.ensures.kept c.restart.ensures
     (ap bytes_of c.key-key.ensures.pack ∙ c.pack.ensures ∙ ap (λ (v : GridValue). packed_of v.colours) (sym same), c.key-key.ensures.mover)
+
+pub invariant_of-self : goal.invariant_of-self
+invariant_of-self g c = search rules
+
+pub returns-in_default-fill-clause-memory : goal.returns-in_default-fill-clause-memory
+returns-in_default-fill-clause-memory g c = search rules

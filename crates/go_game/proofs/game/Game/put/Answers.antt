@@ -1,4 +1,4 @@
-use Rattle.std.proofs.Common.{arith, ◌≡◌, ◌∙◌, None, length, refl, sym, ap, subst}
+use Rattle.std.proofs.Common.{arith, ◌≡◌, ◌∙◌, None, length, refl, sym, ap, subst, rules}
 use Rattle.go_board.specs.PackBytes.{bytes_of}
 use Rattle.std.proofs.Math.ListN.{length-map}
 use Rattle.go_board.specs.declared.vertex.Vertex.TheVariants.{At}
@@ -121,3 +121,6 @@ returns-in-Err-clause-refused g c =
     let few = logged.few in
     let back = (c.rewind.ensures.rewound c.self.inside.log logged.changes logged.gained).count in
     omega (arith, most, before, ticks, few, back)
+
+pub returns-in-Err-clause-err : goal.returns-in-Err-clause-err
+returns-in-Err-clause-err g c = search rules

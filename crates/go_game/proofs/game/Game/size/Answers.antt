@@ -1,4 +1,4 @@
-use Rattle.std.proofs.Common.{◌≡◌, ◌∙◌, ap, length, map, sym, subst}
+use Rattle.std.proofs.Common.{◌≡◌, ◌∙◌, ap, length, map, sym, subst, rules}
 use Rattle.go_chains.specs.Sound.{IsKept, colouring_of}
 use Rattle.go_game.specs.inner.Held.{made_of}
 use Rattle.go_game.specs.Standings.{GameValue, board_of}
@@ -22,3 +22,6 @@ returns-clause-colours g c =
 pub returns-clause-changes : goal.returns-clause-changes
 returns-clause-changes g c =
     subst (λ (v : GameValue). length v.changes ≡ length v.standing.moves) c.self.view_is (as_many (map made_of c.self.inside.steps.items) c.self.inside.log)
+
+pub returns-clause-lines : goal.returns-clause-lines
+returns-clause-lines g c = search rules

@@ -1,4 +1,4 @@
-use Rattle.std.proofs.Common.{Err, ap, sym}
+use Rattle.std.proofs.Common.{Err, ap, sym, rules}
 use Rattle.go_game.proofs.Legal.{legal_passes, occupied_fails, off_board_fails, repeat_fails}
 use Rattle.go_game.proofs.game.Game.try_play.Goals as goal
 
@@ -15,3 +15,6 @@ pub returns-in-Err-Repeats-clause-legal : goal.returns-in-Err-Repeats-clause-leg
 returns-in-Err-Repeats-clause-legal g c =
     let k = c.in-Err-Repeats.field-0-0 in
     sym (repeat_fails c.args.self.now.standing c.args.made.colour c.args.made.vertex k (c.in-Err-Repeats.ensures.repeats k (ap Err c.in-Err-Repeats.field-0-is)))
+
+pub returns-in-Err-Memory-clause-err : goal.returns-in-Err-Memory-clause-err
+returns-in-Err-Memory-clause-err g c = search rules

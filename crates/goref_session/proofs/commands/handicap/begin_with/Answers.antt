@@ -1,4 +1,4 @@
-use Rattle.std.proofs.Common.{arith, ◌≡◌, ◌<◌, ◌*◌, ◌∙◌, ℕ, Err, length, true, true≢false, sym, ap}
+use Rattle.std.proofs.Common.{arith, ◌≡◌, ◌<◌, ◌*◌, ◌∙◌, ℕ, Err, length, true, true≢false, sym, ap, rules}
 use Rattle.go_board.specs.Points.{number_of}
 use Rattle.go_board.specs.Reaching.{is_dead}
 use Rattle.goref_session.proofs.Starting.{memory_alone}
@@ -13,3 +13,6 @@ returns-in-Err-clause-memory g c = memory_alone c.in-Err.error (λ p e.
     let k = number_of stones.lines p in
     let dead : is_dead n stones.colours k ≡ true = ap (λ (m : ℕ). is_dead m stones.colours k) (sym c.stones_on-stones.ensures.lines) ∙ found.dead in
     true≢false (sym dead ∙ c.stones_on-stones.ensures.alive few k))
+
+pub returns-in-Ok-clause-ok : goal.returns-in-Ok-clause-ok
+returns-in-Ok-clause-ok g c = search rules
