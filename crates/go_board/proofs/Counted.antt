@@ -6,7 +6,7 @@ use Rattle.go_board.specs.declared.colour.Colour.{Colour}
 use Rattle.go_board.specs.declared.colour.Colour.TheVariants.{Black, White}
 use Rattle.go_board.specs.Colours.{Colouring, colour_at, other}
 use Rattle.go_board.specs.Reaching.{area, has_colour, is_area, is_dead, is_same, reaches}
-use Rattle.go_board.specs.Clearing.{is_area_marked}
+use Rattle.go_board.specs.inner.Areas.{is_area_marked}
 use Rattle.go_board.specs.inner.Flood.{AreReaching}
 use Rattle.go_board.proofs.Clearing.{count_more, same_test}
 

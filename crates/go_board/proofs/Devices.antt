@@ -1,7 +1,8 @@
 use Rattle.std.proofs.Common.{◌≡◌, ◌∙◌, ℕ, zero, suc, List, Option, true, false, if◌then◌else◌, ◌+◌, refl, ap, arith, nat_eq, nat_lt, ◌&&◌, Result, Ok, Err}
 use Rattle.std.proofs.lemmas.Bool.Decides.{nat_tests}
 use Rattle.std.specs.Prelude.{is_err}
-use Rattle.go_board.specs.Device.{then_bytes, Sent, failures_after, place, Adds}
+use Rattle.go_board.specs.Device.{then_bytes, Sent, failures_after}
+use Rattle.go_board.specs.Pens.{place, Adds}
 use Rattle.go_board.specs.lemmas.Writing.{then_bytes-then_bytes, front_longer, front_after}
 
 -- what a pen does after a fault: nothing

@@ -1,4 +1,6 @@
-use Rattle.std.specs.Prelude.{Option, List, ℕ, slice_index_or, None}
+-- The colours of stones, their letters and names, and the colours of a board.
+use Rattle.std.specs.Prelude.{◌||◌, Bool, if◌then◌else◌, Option, List, ℕ, slice_index_or, Some, None, codes}
+use Rattle.std.specs.Str.{str_eq_ignore_ascii_case}
 use Rattle.go_board.specs.declared.colour.Colour.{Colour}
 use Rattle.go_board.specs.declared.colour.Colour.TheVariants.{Black, White}
 
@@ -11,6 +13,16 @@ other White = Black
 abbrev pub letter_of : Colour → ℕ
 letter_of Black = 66
 letter_of White = 87
+
+-- a word is this name in any case
+abbrev pub is_same_word : List ℕ → List ℕ → Bool
+is_same_word word name = str_eq_ignore_ascii_case word name
+
+-- the colour that a word names: b, black, w or white
+abbrev pub colour_named : List ℕ → Option Colour
+colour_named word =
+    if is_same_word word (codes "b") || is_same_word word (codes "black") then Some Black
+    else (if is_same_word word (codes "w") || is_same_word word (codes "white") then Some White else None)
 
 -- the colour of each point in point order, or None where it is empty
 abbrev pub Colouring : Type 0

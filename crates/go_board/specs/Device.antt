@@ -1,4 +1,5 @@
-use Rattle.std.specs.Prelude.{ℕ, ◌+◌, ◌≡◌, ◌==◌, ◌&&◌, nat_lt, Bool, true, false, if◌then◌else◌, List, ◌++◌, Option, option_map, Result, Ok, Err, MatchResult, is_err}
+-- What devices take and give, and how often they fail or end.
+use Rattle.std.specs.Prelude.{ℕ, ◌+◌, ◌≡◌, ◌==◌, ◌&&◌, nat_lt, if◌then◌else◌, List, ◌++◌, Option, option_map, Result, Ok, Err, MatchResult, is_err}
 
 -- the bytes known of a device, after more of them
 abbrev pub then_bytes : Option (List ℕ) → List ℕ → Option (List ℕ)
@@ -32,29 +33,3 @@ put_failures_after (Err e) len old = old + 1
 abbrev pub ends_after : {E : Type 0} → Result ℕ E → ℕ → ℕ → ℕ
 ends_after (Ok n) len old = if n == 0 && nat_lt 0 len then old + 1 else old
 ends_after (Err e) len old = old
-
--- what a device took of a text written so far: all of it, or a front of it after a fault
-abbrev pub TookSoFar : Bool → Option (List ℕ) → Option (List ℕ) → List ℕ → Type 0
-TookSoFar false start now text = now ≡ then_bytes start text
-TookSoFar true start now text = TakesFront start now text
-
--- a text written from this start on, with at most one failure
-pub record Wrote (has_failed : Bool) (start now : Option (List ℕ)) (failures_at_start failures : ℕ) (text : List ℕ) : Type 0 where
-  pub took : TookSoFar has_failed start now text
-  pub counted : failures ≡ (if has_failed then failures_at_start + 1 else failures_at_start)
-
--- where a writer stands: whether it failed, what the device took, and the count of failures
-pub record Place : Type 0 where
-  pub has_failed : Bool
-  pub taken : Option (List ℕ)
-  pub failures : ℕ
-
--- the place made of these three
-abbrev pub place : Bool → Option (List ℕ) → ℕ → Place
-place has_failed taken failures = record { has_failed = has_failed; taken = taken; failures = failures }
-
--- between two places the text that is being written grew by this
-pub record Adds (old new : Place) (more : List ℕ) : Type 0 where
-  pub grown : (start : Option (List ℕ)) (failures : ℕ) (text : List ℕ) →
-      Wrote old.has_failed start old.taken failures old.failures text →
-      Wrote new.has_failed start new.taken failures new.failures (text ++ more)

@@ -4,10 +4,10 @@ pub mod Points
 pub mod Paths
 pub mod Reaching
 pub mod Chains
-pub mod Clearing
+pub mod Living
 pub mod Grids
 pub mod Vertices
-pub mod Number
+pub mod Meters
 pub mod Decimals
 pub mod Device
 pub mod Pens

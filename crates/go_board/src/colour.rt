@@ -1,4 +1,5 @@
 ghost use Rattle.std.specs.Prelude.{◌≡◌, ◌<◌, ◌↔◌, IsTrue, Some};
+ghost use Rattle.go_board.specs.Colours.{is_same_word};
 
 /// The colour of a stone, and of the player who has the stones of that colour.
 #[derive(Clone, Copy, Debug, PartialEq, Eq, Hash)]
@@ -8,7 +9,7 @@ pub enum Colour {
 }
 
 impl Colour {
-    ghost use Rattle.go_board.specs.Colours.{letter_of, other};
+    ghost use Rattle.go_board.specs.Colours.{colour_named, letter_of, other};
     ghost use Rattle.go_board.specs.Packs.{code_of, colour_coded};
 
     /// The opponent's colour.
@@ -29,6 +30,19 @@ impl Colour {
             Colour::Black => b'B',
             Colour::White => b'W',
         }
+    }
+
+    /// The colour that a word names: `b`, `black`, `w` or `white`, in any case.
+    pub fn named(word: &[u8]) -> Option<Colour>
+        ensures { result ≡ colour_named word.now }
+    {
+        if is_word(word, b"b") || is_word(word, b"black") {
+            return Some(Colour::Black);
+        }
+        if is_word(word, b"w") || is_word(word, b"white") {
+            return Some(Colour::White);
+        }
+        None
     }
 
     /// The number that stands for the colour in packs and tables, where 0 is an empty point.
@@ -52,6 +66,12 @@ impl Colour {
             _ => None,
         }
     }
+}
+
+fn is_word(word: &[u8], name: &[u8]) -> bool
+    ensures { result ≡ is_same_word word.now name.now }
+{
+    word.eq_ignore_ascii_case(name)
 }
 
 /// Whether two points with these colours have the same one.

@@ -1,5 +1,5 @@
 //! The flood: from the marked points it marks all that paths of one colour lead to.
-ghost use Rattle.std.specs.Prelude.{◌≡◌, ◌<◌, ◌*◌, ◌↔◌, ℕ, [], IsTrue, Option, Contains};
+ghost use Rattle.std.specs.Prelude.{◌≡◌, ◌<◌, ◌*◌, ◌↔◌, ℕ, [], Option, Contains};
 ghost use Rattle.go_board.specs.Colours.{colour_at};
 ghost use Rattle.go_board.specs.Points.{IsOn, number_of};
 ghost use Rattle.go_board.specs.inner.Flood.{Grows, HasRoom, IsJoinedTo, IsMarked, IsStep};

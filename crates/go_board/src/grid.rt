@@ -1,4 +1,4 @@
-ghost use Rattle.std.specs.Prelude.{◌≡◌, ◌<◌, ◌≤◌, ◌*◌, ◌↔◌, ℕ, None, IsTrue, is_some, length, not, replicate, slice_set, take};
+ghost use Rattle.std.specs.Prelude.{◌≡◌, ◌<◌, ◌≤◌, ◌*◌, ◌↔◌, None, IsTrue, is_some, length, not, replicate, slice_set, take};
 ghost use Rattle.std.specs.List.{list_any};
 
 use crate::colour::is_same;

@@ -12,7 +12,7 @@ struct Number {
 
 impl Model for Number {
     ghost use Rattle.std.specs.Prelude.{ℕ};
-    ghost use Rattle.go_board.specs.Number.{value_after};
+    ghost use Rattle.go_board.specs.Meters.{value_after};
 
     ghost Value = { ℕ };
 

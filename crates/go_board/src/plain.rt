@@ -1,12 +1,13 @@
 //! The rules of the board computed from its colours alone, by floods: what clears, what a move
 //! leaves, whose area a point is. Faster tables are compared with these.
-ghost use Rattle.std.specs.Prelude.{◌≡◌, ◌<◌, ◌*◌, ◌↔◌, ◌&&◌, ◌||◌, ℕ, Bool, Some, None, IsTrue, IfSome, IfNone, if◌then◌else◌, length, not, slice_set, true, false, cond};
+ghost use Rattle.std.specs.Prelude.{◌≡◌, ◌<◌, ◌&&◌, ◌||◌, Some, None, IfSome, IfNone, if◌then◌else◌, length, not, slice_set, true, false};
 ghost use Rattle.go_board.specs.Chains.{liberties};
 ghost use Rattle.go_board.specs.Colours.{colour_at, other};
 ghost use Rattle.go_board.specs.Points.{IsOn, is_adjacent, number_of};
-ghost use Rattle.go_board.specs.Reaching.{area, cleared, connects, has_colour, is_dead, is_liberty_of, joined, moved, vanished};
+ghost use Rattle.go_board.specs.Reaching.{area, cleared, connects, has_colour, is_liberty_of, joined, moved, vanished};
 ghost use Rattle.go_board.specs.inner.Flood.{AreJoined, AreReaching};
-ghost use Rattle.go_board.specs.Clearing.{AreAlive, IsFirstDead, is_area_marked};
+ghost use Rattle.go_board.specs.Living.{AreAlive, IsFirstDead};
+ghost use Rattle.go_board.specs.inner.Areas.{is_area_marked};
 
 use crate::colour::is_same;
 use crate::flood::Marks;

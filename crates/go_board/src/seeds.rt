@@ -1,8 +1,6 @@
 //! Where a flood begins.
 ghost use Rattle.std.specs.Prelude.{◌≡◌, ◌<◌, ◌*◌, ◌↔◌, ℕ, [], IsTrue};
-ghost use Rattle.go_board.specs.Paths.{IsAdjacent, Joined};
 ghost use Rattle.go_board.specs.Points.{IsOn, number_of};
-ghost use Rattle.go_board.specs.Colours.{colour_at};
 ghost use Rattle.go_board.specs.inner.Flood.{AreJoined, AreReaching, Grows, HasRoom, IsBeside, IsMarked, IsSeed, IsSeeding};
 
 use crate::colour::is_same;

@@ -1,4 +1,4 @@
-ghost use Rattle.std.specs.Prelude.{◌≡◌, ◌<◌, ◌↔◌, ◌∷◌, ◌+◌, ◌==◌, [], Some, None, Err, IfOk, IsTrue, codes, IfSome, decimal, option_map, position};
+ghost use Rattle.std.specs.Prelude.{◌≡◌, ◌<◌, ◌↔◌, ◌∷◌, ◌+◌, ◌==◌, [], Some, None, Err, IfOk, IfSome, decimal, option_map, position};
 ghost use Rattle.go_board.specs.Vertices.{IsOnBoard, SpellsOffBoard, column_letters, column_of, letter_of_column, point_of, row_numbered, row_of, vertex_of, vertex_on, vertex_word};
 
 use crate::{Colour, Point, Size};

@@ -1,5 +1,6 @@
 pub mod Rings
 pub mod Cells
+pub mod Boards
 pub mod Sound
 pub mod Rewound
 pub mod Playing

@@ -3,7 +3,7 @@ use Rattle.std.specs.Prelude.{ℕ, List, [], ◌∷◌, ◌++◌, ◌≡◌, ◌
 use Rattle.go_chains.specs.declared.cells.TheConstants.{COUNT}
 use Rattle.go_chains.specs.declared.change.Change.{Change}
 use Rattle.go_chains.specs.Cells.{CellsValue}
-use Rattle.go_chains.specs.Sound.{BoardValue}
+use Rattle.go_chains.specs.Boards.{BoardValue}
 
 -- the old values put back, from the last change to the first
 abbrev pub rewound : List ℕ → List Change → List ℕ

@@ -14,14 +14,15 @@ ghost use Rattle.go_chains.specs.Cells.{code_at, label_of, lib_of};
 ghost use Rattle.go_chains.specs.inner.Parts.{has_label, is_in_part, points_left};
 ghost use Rattle.go_chains.specs.Playing.{most_at, played, went};
 ghost use Rattle.go_chains.specs.Rewound.{ForLast, IsRewound, NamesCells, PlayLogged, rewound};
-ghost use Rattle.go_chains.specs.Sound.{IsRowOfStones, HoldsStone, IsKept, grid_of, shown};
+ghost use Rattle.go_chains.specs.Sound.{IsKept};
+ghost use Rattle.go_chains.specs.Boards.{IsRowOfStones, HoldsStone, grid_of, shown};
 ghost use Rattle.go_chains.specs.inner.Words.{free_in_word};
 ghost use Rattle.go_board.specs.Grids.{are_joined, chain_liberties, chain_stones, has_liberty, liberty_count, stone_at, stone_count};
 
 use crate::beside::beside;
 use crate::cells::{Cells, LABELS, SIZES, word_place};
 use crate::chain_points::{ChainPoints, Part};
-use crate::errors::PlaceError;
+use crate::error::PlaceError;
 use crate::log::{Log, reserve_play, seal};
 use crate::masks::mask_of;
 use crate::place::{ROOM, place};
@@ -47,7 +48,8 @@ pub struct Board {
 }
 
 impl Model for Board {
-    ghost use Rattle.go_chains.specs.Sound.{BoardValue, IsKept};
+    ghost use Rattle.go_chains.specs.Sound.{IsKept};
+    ghost use Rattle.go_chains.specs.Boards.{BoardValue};
 
     ghost Value = { BoardValue };
 

@@ -5,7 +5,7 @@ ghost use Rattle.go_board.specs.declared.pack.TheConstants.{PACK_BYTES};
 ghost use Rattle.go_board.specs.declared.size.TheConstants.{MAX_LINES, MAX_POINTS};
 ghost use Rattle.go_chains.specs.declared.cells.TheConstants.{COUNT, LIBERTIES, WORDS};
 ghost use Rattle.go_chains.specs.Cells.{words_for};
-ghost use Rattle.go_chains.specs.Sound.{colouring_of};
+ghost use Rattle.go_chains.specs.Boards.{colouring_of};
 
 use crate::change::Change;
 use crate::trace::Trace;
@@ -46,7 +46,7 @@ impl Model for Cells {
     ghost use Rattle.go_board.specs.Packs.{packed_of};
     ghost use Rattle.go_board.specs.declared.size.TheConstants.{MAX_LINES};
     ghost use Rattle.go_chains.specs.Cells.{CellsValue};
-    ghost use Rattle.go_chains.specs.Sound.{colouring_of};
+    ghost use Rattle.go_chains.specs.Boards.{colouring_of};
     ghost use Rattle.go_chains.specs.declared.cells.TheConstants.{COUNT};
 
     ghost Value = { CellsValue };

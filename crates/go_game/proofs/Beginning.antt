@@ -14,9 +14,10 @@ use Rattle.go_board.specs.Colours.{Colouring, colour_at}
 use Rattle.go_board.specs.Grids.{GridValue}
 use Rattle.go_board.specs.Reaching.{has_colour, is_dead, is_same, reaches}
 use Rattle.go_chains.specs.declared.change.Change.{Change}
-use Rattle.go_chains.specs.Sound.{BoardValue, IsKept, colouring_of, grid_of}
+use Rattle.go_chains.specs.Sound.{IsKept}
+use Rattle.go_chains.specs.Boards.{BoardValue, colouring_of, grid_of}
 use Rattle.go_game.specs.declared.step.Step.{Step}
-use Rattle.go_board.specs.Clearing.{AreAlive}
+use Rattle.go_board.specs.Living.{AreAlive}
 use Rattle.go_board.specs.declared.vertex.Move.{Move}
 use Rattle.go_game.specs.inner.Held.{IsHeld, IsKeeping, made_of}
 use Rattle.go_history.specs.declared.key.Key.{Key}

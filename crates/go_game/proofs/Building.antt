@@ -9,7 +9,7 @@ use Rattle.go_board.specs.declared.colour.Colour.{Colour}
 use Rattle.go_board.specs.declared.colour.Colour.TheVariants.{Black, White}
 use Rattle.go_board.specs.Colours.{Colouring, colour_at, other}
 use Rattle.go_board.specs.Paths.{IsAdjacent, Leads, Reaches}
-use Rattle.go_board.specs.Clearing.{AreAlive}
+use Rattle.go_board.specs.Living.{AreAlive}
 use Rattle.go_game.specs.inner.Building.{IsFront, IsPart}
 use Rattle.go_board.specs.Reaching.{after_clearing, cleared, has_colour, is_same, is_taken, moved, reaches}
 

@@ -12,7 +12,7 @@ use Rattle.go_board.specs.Colours.{Colouring, colour_at}
 use Rattle.go_game.specs.Choices.{liberties_on}
 use Rattle.go_board.specs.Grids.{GridValue}
 use Rattle.go_chains.specs.declared.change.Change.{Change}
-use Rattle.go_chains.specs.Sound.{BoardValue, colouring_of, grid_of}
+use Rattle.go_chains.specs.Boards.{BoardValue, colouring_of, grid_of}
 use Rattle.go_history.specs.Histories.{HistoryValue}
 use Rattle.go_game.specs.declared.step.Step.{Step}
 use Rattle.go_game.specs.inner.Held.{IsKeeping, IsTracked, made_of}

@@ -12,8 +12,7 @@ use Rattle.go_board.specs.Colours.{Colouring, other}
 use Rattle.go_game.specs.declared.step.Step.{Step}
 use Rattle.go_game.specs.declared.superko.Superko.{Superko}
 use Rattle.go_game.specs.Standings.{IsLegal, IsSound, after_move, after_vertex, board, mover_after}
-use Rattle.go_game.specs.Playing.{prisoners_from, taken_by}
-use Rattle.go_game.specs.Prisoners.{share_of}
+use Rattle.go_game.specs.Prisoners.{prisoners_from, taken_by, share_of}
 use Rattle.go_board.specs.declared.size.TheConstants.{MAX_LINES}
 use Rattle.go_board.specs.declared.vertex.Vertex.{Vertex}
 use Rattle.go_board.specs.declared.vertex.Vertex.TheVariants.{Pass, At}

@@ -1,8 +1,8 @@
 -- What a play on the board of a game tells of the game's standing.
 use Rattle.std.specs.Prelude.{Result, Err, IsErrOf, slice_set}
-use Rattle.go_chains.specs.declared.errors.PlaceError.{PlaceError}
-use Rattle.go_chains.specs.declared.errors.PlaceError.TheVariants.{Occupied}
-use Rattle.go_game.specs.declared.errors.PlayError.{PlayError}
+use Rattle.go_chains.specs.declared.error.PlaceError.{PlaceError}
+use Rattle.go_chains.specs.declared.error.PlaceError.TheVariants.{Occupied}
+use Rattle.go_game.specs.declared.error.PlayError.{PlayError}
 use Rattle.std.proofs.Common.{◌≡◌, ◌*◌, ◌∙◌, ◌↔◌, ℕ, ℤ, List, Option, Some, None, map, sym, ap}
 use Rattle.go_board.specs.declared.colour.Colour.{Colour}
 use Rattle.go_board.specs.declared.colour.Colour.TheVariants.{Black, White}
@@ -17,15 +17,14 @@ use Rattle.go_board.specs.PackBytes.{bytes_of}
 use Rattle.go_board.specs.Reaching.{moved, vanished}
 use Rattle.go_chains.specs.declared.change.Change.{Change}
 use Rattle.go_chains.specs.Playing.{most_of}
-use Rattle.go_chains.specs.Sound.{BoardValue, IsStoneOf, grid_of}
+use Rattle.go_chains.specs.Boards.{BoardValue, IsStoneOf, grid_of}
 use Rattle.go_history.specs.declared.key.Key.{Key}
 use Rattle.go_history.specs.Histories.{HistoryValue, number_at}
 use Rattle.go_game.specs.declared.superko.Superko.{Superko}
 use Rattle.go_game.specs.declared.step.Step.{Step}
 use Rattle.go_game.specs.inner.Held.{IsKeeping, IsPlayable, IsPlayed, made_of, standing_of}
 use Rattle.go_game.specs.inner.Histories.{IsKeyOf}
-use Rattle.go_game.specs.Playing.{taken_by}
-use Rattle.go_game.specs.Prisoners.{share_of}
+use Rattle.go_game.specs.Prisoners.{taken_by, share_of}
 use Rattle.go_game.specs.Standings.{IsLegal, IsRepeat, board, mover_by, seen_after, stood_of}
 use Rattle.go_game.proofs.Played.{length-moved}
 use Rattle.go_game.proofs.Keeping.{seen_as}

@@ -6,7 +6,8 @@ use Rattle.go_board.specs.declared.vertex.Vertex.{Vertex}
 use Rattle.go_board.specs.declared.vertex.Vertex.TheVariants.{Pass, At}
 use Rattle.go_board.specs.Colours.{Colouring}
 use Rattle.go_chains.specs.declared.change.Change.{Change}
-use Rattle.go_chains.specs.Sound.{IsKept, colouring_of}
+use Rattle.go_chains.specs.Sound.{IsKept}
+use Rattle.go_chains.specs.Boards.{colouring_of}
 use Rattle.go_game.specs.Standings.{after_vertex, board}
 use Rattle.go_game.specs.inner.Trails.{IsTurn, WentThrough}
 

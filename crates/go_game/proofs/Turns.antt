@@ -20,7 +20,8 @@ use Rattle.go_board.specs.Reaching.{moved}
 use Rattle.go_chains.specs.declared.change.Change.{Change}
 use Rattle.go_chains.specs.declared.cells.TheConstants.{COUNT}
 use Rattle.go_chains.specs.Rewound.{IsRewound, NamesCells, PlayLogged, rewound}
-use Rattle.go_chains.specs.Sound.{BoardValue, IsKept, colouring_of, grid_of}
+use Rattle.go_chains.specs.Sound.{IsKept}
+use Rattle.go_chains.specs.Boards.{BoardValue, colouring_of, grid_of}
 use Rattle.go_game.specs.declared.step.Step.{Step}
 use Rattle.go_game.specs.declared.superko.Superko.{Superko}
 use Rattle.go_game.specs.inner.Held.{IsHeld, IsKeeping, IsPlayed, made_of, standing_of}

@@ -17,15 +17,15 @@ use Rattle.go_board.specs.Grids.{GridValue}
 use Rattle.go_chains.specs.declared.cells.TheConstants.{COUNT}
 use Rattle.go_chains.specs.declared.change.Change.{Change}
 use Rattle.go_chains.specs.Rewound.{IsRewound, NamesCells, rewound}
-use Rattle.go_chains.specs.Sound.{BoardValue, IsKept, grid_of}
+use Rattle.go_chains.specs.Sound.{IsKept}
+use Rattle.go_chains.specs.Boards.{BoardValue, grid_of}
 use Rattle.go_history.specs.declared.key.Key.{Key}
 use Rattle.go_history.specs.Histories.{HistoryValue, IsChangedAt, IsForgotten}
 use Rattle.go_game.specs.declared.step.Step.{Step}
 use Rattle.go_game.specs.declared.superko.Superko.{Superko}
 use Rattle.go_game.specs.inner.Held.{ArePlayed, IsHeld, IsKeeping, IsPlayed, made_of, standing_of}
 use Rattle.go_game.specs.inner.Histories.{StandsFor}
-use Rattle.go_game.specs.Playing.{taken_by}
-use Rattle.go_game.specs.Prisoners.{share_of}
+use Rattle.go_game.specs.Prisoners.{taken_by, share_of}
 use Rattle.go_game.specs.Standings.{IsLegal, IsSound, Standing, after_move, after_vertex, board, board_of, mover_by, seen_by, stood_of}
 use Rattle.go_game.specs.inner.Trails.{IsTurn, WentThrough}
 use Rattle.go_game.proofs.Keeping.{grid_is}

@@ -1,6 +1,5 @@
 pub mod Standings
 pub mod Legal
-pub mod Playing
 pub mod Prisoners
 pub mod Scores
 pub mod Whole

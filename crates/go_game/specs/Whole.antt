@@ -5,7 +5,7 @@ use Rattle.go_board.specs.Colours.{Colouring}
 use Rattle.go_board.specs.Chains.{Chain, chains}
 use Rattle.go_game.specs.Legal.{same_seen}
 use Rattle.go_game.specs.Standings.{Seen, Standing, board_of, mover_of, stood_of}
-use Rattle.go_game.specs.Playing.{prisoners_of}
+use Rattle.go_game.specs.Prisoners.{prisoners_of}
 
 -- the first place where this was seen, counted from k
 abbrev pub first_at : ℕ → List Seen → Seen → Option ℕ

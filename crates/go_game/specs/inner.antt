@@ -5,3 +5,4 @@ pub mod Trails
 pub mod Histories
 pub mod Building
 pub mod Trials
+pub mod Counters

@@ -1,4 +1,4 @@
-ghost use Rattle.std.specs.Prelude.{◌≡◌, ◌<◌, ◌+◌, ◌++◌, ◌∷◌, ◌*◌, ◌^◌, [], ◌↔◌, ℕ, pos, false, Err, IfOk, IfErr, IfNone, IfSome, IsSome, OnErr, OnOk, Contains, length, map, slice_get};
+ghost use Rattle.std.specs.Prelude.{◌≡◌, ◌<◌, ◌+◌, ◌*◌, [], pos, false, IsSome, length, map, slice_get};
 
 use crate::Superko;
 use crate::prisoners::Prisoners;
@@ -61,16 +61,14 @@ impl<A: Allocator + Copy> Game<A> {
     ghost use Rattle.go_board.specs.Points.{IsOn, number_of};
     ghost use Rattle.go_board.specs.declared.colour.Colour.{Colour};
     ghost use Rattle.go_board.specs.declared.point.Point.{Point};
-    ghost use Rattle.go_board.specs.declared.size.TheConstants.{MAX_POINTS};
-    ghost use Rattle.go_chains.specs.Sound.{IsKept, colouring_of};
+    ghost use Rattle.go_chains.specs.Sound.{IsKept};
+    ghost use Rattle.go_chains.specs.Boards.{colouring_of};
     ghost use Rattle.go_game.specs.declared.superko.Superko.{Superko};
     ghost use Rattle.go_game.specs.Choices.{liberties_at};
-    ghost use Rattle.go_game.specs.inner.Held.{IsPlayed};
-    ghost use Rattle.go_game.specs.Prisoners.{share_of};
+    ghost use Rattle.go_game.specs.Prisoners.{prisoners_of};
     ghost use Rattle.go_board.specs.Komi.{IsKomi};
-    ghost use Rattle.go_game.specs.Standings.{IsFirstAt, IsLegal, IsOccupied, IsOffBoard, IsSound, IsRepeat, board_of, empty_start, present, is_vacant_standing, mover_of, positions_of, started, with_move, without_last};
+    ghost use Rattle.go_game.specs.Standings.{IsSound, board_of, empty_start, present, is_vacant_standing, mover_of};
     ghost use Rattle.go_game.specs.Scores.{area_of, margin_of};
-    ghost use Rattle.go_game.specs.Playing.{prisoners_of, stones_taken};
 
     /// An empty board, Black to move, komi 0, positional superko.
     pub fn new(alloc: A, size: Size) -> Game<A>

@@ -27,7 +27,7 @@
 #![tactic(auto)]
 
 mod choice;
-mod errors;
+mod error;
 mod game;
 mod handicap;
 pub mod laws;
@@ -38,7 +38,7 @@ mod start;
 mod step;
 mod superko;
 
-pub use errors::{PlayError, SetupError};
+pub use error::{PlayError, SetupError};
 pub use game::Game;
 pub use go_board::{Area, Taken};
 pub use go_chains::ChainPoints;

@@ -1,12 +1,11 @@
 //! Moves played and taken back.
-ghost use Rattle.std.specs.Prelude.{◌≡◌, ◌≤◌, ◌++◌, ◌∷◌, ◌*◌, [], ◌↔◌, ℕ, Err, IfErr, IfNone, IfOk, IfSome, List, OnErr, OnOk, Some, None, Contains, ◌+◌, ◌⊎◌, length};
+ghost use Rattle.std.specs.Prelude.{◌≡◌, ◌≤◌, ◌++◌, ◌∷◌, ◌*◌, [], ◌↔◌, ℕ, Err, IfErr, IfNone, IfOk, IfSome, OnErr, OnOk, Some, None, ◌+◌, ◌⊎◌, length};
 ghost use Rattle.go_board.specs.Grids.{stone_at};
 ghost use Rattle.go_board.specs.Points.{IsOn};
 ghost use Rattle.go_game.specs.Counts.{IsAsBefore, IsLogged, IsTakenBack, most_for};
 ghost use Rattle.go_history.specs.Histories.{IsChangedAt, IsUnchanged, number_at};
-ghost use Rattle.go_game.specs.Prisoners.{share_of};
+ghost use Rattle.go_game.specs.Prisoners.{share_of, stones_taken};
 ghost use Rattle.go_game.specs.Standings.{IsLegal, IsOccupied, IsOffBoard, IsRepeat, present, with_move, without_last};
-ghost use Rattle.go_game.specs.Playing.{stones_taken};
 
 use crate::step::Step;
 use crate::{Game, PlayError};

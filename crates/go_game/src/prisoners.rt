@@ -11,7 +11,8 @@ pub struct Prisoners {
 
 impl Prisoners {
     ghost use Rattle.go_board.specs.declared.colour.Colour.TheVariants.{Black, White};
-    ghost use Rattle.go_game.specs.Prisoners.{prisoners_in, share_of};
+    ghost use Rattle.go_game.specs.Prisoners.{share_of};
+    ghost use Rattle.go_game.specs.inner.Counters.{prisoners_in};
 
     /// Those of one colour.
     pub fn of(self, colour: Colour) -> u64

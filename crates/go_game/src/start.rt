@@ -1,12 +1,11 @@
 //! Games that start from a grid.
-ghost use Rattle.std.specs.Prelude.{◌≡◌, ◌<◌, ◌≤◌, ◌+◌, ◌*◌, ℕ, Err, IfOk, IsErrOf, None, OnOk, false, length, replicate};
-ghost use Rattle.go_board.specs.Clearing.{AreAlive, IsFirstDead};
-ghost use Rattle.go_board.specs.Reaching.{is_dead};
-ghost use Rattle.go_board.specs.Points.{number_of};
+ghost use Rattle.std.specs.Prelude.{◌≡◌, ◌<◌, ◌≤◌, ◌+◌, ◌*◌, Err, IfOk, IsErrOf, None, OnOk, length, replicate};
+ghost use Rattle.go_board.specs.Living.{AreAlive, IsFirstDead};
 ghost use Rattle.go_board.specs.declared.colour.Colour.{Colour};
 ghost use Rattle.go_board.specs.declared.point.Point.{Point};
 ghost use Rattle.go_board.specs.declared.size.TheConstants.{MAX_LINES};
-ghost use Rattle.go_chains.specs.Sound.{IsKept, grid_of};
+ghost use Rattle.go_chains.specs.Sound.{IsKept};
+ghost use Rattle.go_chains.specs.Boards.{grid_of};
 ghost use Rattle.go_game.specs.inner.Building.{IsFront};
 ghost use Rattle.go_game.specs.Standings.{empty_start, started};
 

@@ -11,8 +11,8 @@ use Rattle.go_board.specs.declared.vertex.Vertex.TheVariants.{Pass, At}
 use Rattle.go_board.specs.Colours.{Colouring, colour_at}
 use Rattle.go_board.specs.Points.{IsOn, number_of, point_at}
 use Rattle.go_board.specs.Reaching.{is_dead}
-use Rattle.go_game.specs.declared.errors.PlayError.{PlayError}
-use Rattle.go_game.specs.declared.errors.PlayError.TheVariants as play
+use Rattle.go_game.specs.declared.error.PlayError.{PlayError}
+use Rattle.go_game.specs.declared.error.PlayError.TheVariants as play
 use Rattle.go_game.specs.Standings.{IsFirstAt, IsLegal, Seen, Standing, board_of, seen_after, stood_of, with_move}
 use Rattle.go_sgf.specs.BoardValues.{vertex_in, points_of}
 use Rattle.go_sgf.specs.Record.{Trees}

@@ -24,7 +24,7 @@ use Rattle.go_sgf.specs.Record.{Property}
 use Rattle.go_record.specs.Games.{IsGameOf, komi_in, lines_in}
 use Rattle.go_record.specs.MainLine.{Event, events_from, events_of, move_met, move_event, setup_event, stones}
 use Rattle.go_record.specs.Records.{colour_letter, move_node, point_value, points_coloured, stones_property, game_tree, vertex_value}
-use Rattle.go_board.specs.Clearing.{AreAlive}
+use Rattle.go_board.specs.Living.{AreAlive}
 use Rattle.go_record.specs.Walks.{Begins, Outcome, Plays, SetsUp, colour_stated}
 use Rattle.go_record.proofs.Lines.{game_walks}
 use Rattle.go_record.proofs.Painting.{all_below, points_read, set_by_numbers, set_numbers, start_back, vertex_read}

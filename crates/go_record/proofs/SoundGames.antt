@@ -26,7 +26,7 @@ use Rattle.go_record.specs.declared.error.RecordError.{RecordError}
 use Rattle.go_record.specs.Games.{IsGameOf, Needs, OrElse, is_blank_value, is_go_value, komi_in, lines_in, number_by, value_at_root}
 use Rattle.go_record.specs.declared.root.TheConstants.{USUAL_LINES}
 use Rattle.go_record.specs.MainLine.{Event, stones, turn, move_met}
-use Rattle.go_board.specs.Clearing.{AreAlive}
+use Rattle.go_board.specs.Living.{AreAlive}
 use Rattle.go_record.specs.Walks.{Begins, OrBad, Outcome, Plays, SetsUp, colour_stated, start_of, with_points}
 
 from_bad : {X : Type 0} (node : ℕ) (o : Option X) (s : Standing) (Later : X → Type 0) (P : Type 0) → ((x : X) → o ≡ Some x → Later x → P) → OrBad node o (Ok s) Later → P

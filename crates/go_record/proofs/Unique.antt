@@ -9,11 +9,11 @@ use Rattle.go_board.specs.declared.colour.Colour.{Colour}
 use Rattle.go_board.specs.declared.point.Point.{Point}
 use Rattle.go_board.specs.declared.vertex.Vertex.{Vertex}
 use Rattle.go_board.specs.declared.vertex.Vertex.TheVariants.{Pass, At}
-use Rattle.go_board.specs.Clearing.{IsFirstDead}
+use Rattle.go_board.specs.Living.{IsFirstDead}
 use Rattle.go_board.specs.Colours.{Colouring}
 use Rattle.go_board.specs.Points.{IsOn, number_of, point_at}
-use Rattle.go_game.specs.declared.errors.PlayError.{PlayError}
-use Rattle.go_game.specs.declared.errors.PlayError.TheVariants as play
+use Rattle.go_game.specs.declared.error.PlayError.{PlayError}
+use Rattle.go_game.specs.declared.error.PlayError.TheVariants as play
 use Rattle.go_game.specs.Standings.{IsFirstAt, IsLegal, IsOccupied, IsOffBoard, Seen, Standing, with_move}
 use Rattle.go_sgf.specs.BoardValues.{vertex_in, points_of}
 use Rattle.go_sgf.specs.Record.{Trees}

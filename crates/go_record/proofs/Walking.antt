@@ -9,8 +9,8 @@ use Rattle.go_board.specs.declared.colour.Colour.{Colour}
 use Rattle.go_board.specs.declared.point.Point.{Point}
 use Rattle.go_board.specs.declared.vertex.Vertex.{Vertex}
 use Rattle.go_board.specs.Colours.{Colouring}
-use Rattle.go_game.specs.declared.errors.PlayError.{PlayError}
-use Rattle.go_game.specs.declared.errors.PlayError.TheVariants as play
+use Rattle.go_game.specs.declared.error.PlayError.{PlayError}
+use Rattle.go_game.specs.declared.error.PlayError.TheVariants as play
 use Rattle.go_game.specs.Standings.{GameValue, IsLegal, IsOccupied, IsOffBoard, IsRepeat, Standing, with_move}
 use Rattle.go_sgf.specs.BoardValues.{vertex_in, points_of}
 use Rattle.go_record.specs.declared.error.RecordError.{RecordError}
@@ -19,7 +19,7 @@ use Rattle.go_record.specs.declared.state.Left.{Left}
 use Rattle.go_record.specs.declared.state.Left.TheVariants.{All, Moves, Nothing}
 use Rattle.go_record.specs.MainLine.{Event, stones, turn, move_met}
 use Rattle.go_record.specs.inner.Progress.{Goes, GoesFrom, Passes, WalkedGame, Stops, Walked, is_nothing, playing, seen}
-use Rattle.go_board.specs.Clearing.{AreAlive}
+use Rattle.go_board.specs.Living.{AreAlive}
 use Rattle.go_record.specs.Walks.{Begins, IsDeadSetup, IsReason, IsRefused, Outcome, Plays, SetsUp, colour_stated, start_of, with_points}
 
 -- ---- what is looked at

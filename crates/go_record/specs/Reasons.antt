@@ -1,8 +1,8 @@
 -- Why a move of a record isn't legal, as a text that goes on behind the move.
 use Rattle.std.specs.Prelude.{ℕ, List, ◌++◌, codes}
 use Rattle.std.specs.Fmt.{decimal}
-use Rattle.go_game.specs.declared.errors.PlayError.{PlayError}
-use Rattle.go_game.specs.declared.errors.PlayError.TheVariants.{Occupied, OffBoard, Repeats, Memory}
+use Rattle.go_game.specs.declared.error.PlayError.{PlayError}
+use Rattle.go_game.specs.declared.error.PlayError.TheVariants.{Occupied, OffBoard, Repeats, Memory}
 
 abbrev pub reason_text : PlayError → List ℕ
 reason_text Occupied = codes "is on a stone"

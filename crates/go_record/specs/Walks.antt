@@ -1,17 +1,16 @@
 -- What comes of the events of a main line: a standing, or why it has none.
-use Rattle.std.specs.Prelude.{◌≡◌, ◌+◌, ℕ, ℤ, Bool, not, ◌&&◌, ◌||◌, ◌⊎◌, if◌then◌else◌, List, [], ◌∷◌, Option, Some, None, Result, Ok, Err, codes, length, slice_set}
+use Rattle.std.specs.Prelude.{◌≡◌, ◌+◌, ℕ, ℤ, Bool, not, ◌&&◌, ◌⊎◌, if◌then◌else◌, List, [], ◌∷◌, Option, Some, None, Result, Ok, Err, length, slice_set}
 use Rattle.std.specs.List.{list_any}
-use Rattle.std.specs.Str.{str_eq_ignore_ascii_case}
 use Rattle.go_board.specs.declared.colour.Colour.{Colour}
 use Rattle.go_board.specs.declared.colour.Colour.TheVariants.{Black, White}
 use Rattle.go_board.specs.declared.point.Point.{Point}
 use Rattle.go_board.specs.declared.vertex.Vertex.{Vertex}
-use Rattle.go_board.specs.Clearing.{IsFirstDead, AreAlive}
-use Rattle.go_board.specs.Colours.{Colouring}
+use Rattle.go_board.specs.Living.{IsFirstDead, AreAlive}
+use Rattle.go_board.specs.Colours.{Colouring, colour_named}
 use Rattle.go_board.specs.Points.{number_of}
 use Rattle.go_board.specs.Reaching.{has_colour, points}
-use Rattle.go_game.specs.declared.errors.PlayError.{PlayError}
-use Rattle.go_game.specs.declared.errors.PlayError.TheVariants.{Occupied, OffBoard, Repeats, Memory}
+use Rattle.go_game.specs.declared.error.PlayError.{PlayError}
+use Rattle.go_game.specs.declared.error.PlayError.TheVariants.{Occupied, OffBoard, Repeats, Memory}
 use Rattle.go_game.specs.declared.superko.Superko.TheVariants.{Positional}
 use Rattle.go_game.specs.Standings.{IsLegal, IsOccupied, IsOffBoard, IsRepeat, Standing, with_move}
 use Rattle.go_sgf.specs.BoardValues.{vertex_in, points_of}
@@ -56,15 +55,6 @@ Plays s (move_met node colour value ∷ events) outcome =
 abbrev pub with_points : ℕ → Option Colour → Colouring → List Point → Colouring
 with_points n c g [] = g
 with_points n c g (p ∷ ps) = with_points n c (slice_set g (number_of n p) c) ps
-
-abbrev pub is_colour_word : List ℕ → List ℕ → Bool
-is_colour_word word name = str_eq_ignore_ascii_case word name
-
--- the colour that a word names in any case
-abbrev pub colour_named : List ℕ → Option Colour
-colour_named word =
-    if is_colour_word word (codes "b") || is_colour_word word (codes "black") then Some Black
-    else (if is_colour_word word (codes "w") || is_colour_word word (codes "white") then Some White else None)
 
 -- with white space at both ends skipped
 abbrev pub colour_stated : List ℕ → Option Colour

@@ -1,4 +1,4 @@
-ghost use Rattle.std.specs.Prelude.{◌≡◌, ◌≢◌, ◌≤ℤ◌, ◌-ℤ◌, Err, IfErr, IfOk, IfSome, bytes_eq, negsuc, option_map, pos};
+ghost use Rattle.std.specs.Prelude.{◌≡◌, ◌≢◌, ◌-ℤ◌, Err, IfErr, IfOk, IfSome, bytes_eq, option_map, pos};
 ghost use Rattle.go_board.specs.Komi.{IsKomi};
 ghost use Rattle.go_sgf.specs.View.{collection_of};
 ghost use Rattle.go_record.specs.declared.error.RecordError.TheVariants.{Memory};

@@ -1,4 +1,4 @@
-ghost use Rattle.std.specs.Prelude.{◌≡◌, ◌==◌, ◌<◌, ◌≤ℤ◌, Err, IfErr, IfOk, IfSome, ℕ, Option, length, negsuc, option_map, pos, position};
+ghost use Rattle.std.specs.Prelude.{◌≡◌, ◌==◌, ◌<◌, Err, IfErr, IfOk, IfSome, ℕ, Option, length, position};
 ghost use Rattle.go_board.specs.Komi.{IsKomi};
 ghost use Rattle.go_sgf.specs.View.{collection_of};
 ghost use Rattle.go_record.specs.inner.Progress.{Says};

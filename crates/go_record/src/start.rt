@@ -4,7 +4,7 @@ ghost use Rattle.go_board.specs.Points.{IsOn};
 ghost use Rattle.go_board.specs.Reaching.{is_same};
 ghost use Rattle.go_sgf.specs.BoardValues.{points_of};
 ghost use Rattle.go_sgf.specs.Rectangles.{listed};
-ghost use Rattle.go_record.specs.Walks.{colour_named, colour_stated, opening_mover, holds_stones, is_colour_word, with_points};
+ghost use Rattle.go_record.specs.Walks.{colour_stated, opening_mover, holds_stones, with_points};
 
 use go_board::{Colour, Grid, Point};
 use go_sgf::{Rectangle, Row, Values, points_in, trim};
@@ -50,25 +50,7 @@ fn set_row(grid: &mut Grid, colour: Option<Colour>, row: Row)
 pub(crate) fn colour_of(value: &[u8]) -> Option<Colour>
     ensures { result ≡ colour_stated value.now }
 {
-    colour_named(trim(value))
-}
-
-fn colour_named(word: &[u8]) -> Option<Colour>
-    ensures { result ≡ colour_named word.now }
-{
-    if is_word(word, b"b") || is_word(word, b"black") {
-        return Some(Colour::Black);
-    }
-    if is_word(word, b"w") || is_word(word, b"white") {
-        return Some(Colour::White);
-    }
-    None
-}
-
-fn is_word(word: &[u8], name: &[u8]) -> bool
-    ensures { result ≡ is_colour_word word.now name.now }
-{
-    word.eq_ignore_ascii_case(name)
+    Colour::named(trim(value))
 }
 
 /// The colour that moves first: the one given, else White over black stones alone, else Black.

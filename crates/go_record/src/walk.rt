@@ -1,10 +1,10 @@
-ghost use Rattle.std.specs.Prelude.{◌≡◌, ◌≢◌, [], ◌∷◌, Err, IfErr, IfOk, List, Ok, OnOk, ◌+◌, ◌↔◌, IsTrue, Some, false, true};
+ghost use Rattle.std.specs.Prelude.{◌≡◌, ◌≢◌, [], ◌∷◌, Err, IfErr, IfOk, List, Ok, OnOk, ◌+◌, Some, true};
 ghost use Rattle.go_record.specs.declared.error.RecordError.{RecordError};
 ghost use Rattle.go_record.specs.declared.error.RecordError.TheVariants.{Memory};
-ghost use Rattle.go_record.specs.MainLine.{events_from, events_of, Event, move_met, move_event, setup_event, stones, turn};
+ghost use Rattle.go_record.specs.MainLine.{events_of, Event, move_met, move_event, setup_event, stones, turn};
 ghost use Rattle.go_record.specs.inner.Progress.{Goes, GoesFrom, Walked, is_nothing, playing};
 ghost use Rattle.go_game.specs.Standings.{GameValue};
-ghost use Rattle.go_board.specs.Clearing.{AreAlive};
+ghost use Rattle.go_board.specs.Living.{AreAlive};
 ghost use Rattle.go_record.specs.Walks.{IsDeadSetup, Outcome, Plays, start_of};
 ghost use Rattle.std.specs.List.{flat_map};
 

@@ -10,8 +10,8 @@ use Rattle.go_sgf.specs.Stands.{opened, in_node, named, gap, in_value, after, cl
 use Rattle.go_sgf.specs.inner.Outcome.{outcome, Meets, IsWithin, here}
 use Rattle.go_sgf.specs.inner.Reads.{ReadsValues, ReadsProperty, ReadsNode, ReadsNodes}
 use Rattle.go_sgf.specs.PartsIn.{is_letter_first}
-use Rattle.go_sgf.specs.declared.fault.Fault.{Fault}
-use Rattle.go_sgf.specs.declared.fault.Fault.TheVariants.{Memory, End, Unexpected, TooDeep}
+use Rattle.go_sgf.specs.declared.error.Fault.{Fault}
+use Rattle.go_sgf.specs.declared.error.Fault.TheVariants.{Memory, End, Unexpected, TooDeep}
 use Rattle.go_sgf.specs.declared.limits.TheConstants.{MAX_DEPTH}
 use Rattle.go_sgf.proofs.Machine as machine
 use Rattle.go_sgf.proofs.Parts.{AllByRecursion-push, SpellsParts-append, letter_same, no_space_first, no_space_after, rest_le, length-after_space}

@@ -5,8 +5,8 @@ use Rattle.go_sgf.specs.Record.{is_upper_byte, is_lower}
 use Rattle.go_sgf.specs.Spelling.{without_space, is_space}
 use Rattle.go_sgf.specs.Stands.{State, StateAt, step, outside, on_space, on_open, on_close, on_semicolon, on_bracket, on_upper, on_lower, up, run, opened, in_node, low, named, gap, in_value, escape, after, closed, whole, IsUnfinished, IsAtDepth}
 use Rattle.go_sgf.specs.inner.Outcome.{outcome, outcome_on, IsWithin, left_of}
-use Rattle.go_sgf.specs.declared.fault.Fault.{Fault}
-use Rattle.go_sgf.specs.declared.fault.Fault.TheVariants.{Memory, End, Unexpected, TooDeep}
+use Rattle.go_sgf.specs.declared.error.Fault.{Fault}
+use Rattle.go_sgf.specs.declared.error.Fault.TheVariants.{Memory, End, Unexpected, TooDeep}
 use Rattle.go_sgf.proofs.Machine as machine
 
 -- ---- where a step leads

@@ -9,8 +9,8 @@ use Rattle.go_sgf.specs.inner.Outcome.{outcome, left_of, error_at, Meets}
 use Rattle.go_sgf.specs.inner.Reads.{ReadsTree}
 use Rattle.go_sgf.specs.Refusals.{StopsAt, EndsAt, StandsNoLonger, StandsTooDeep, IsRefusal}
 use Rattle.go_sgf.specs.View.{chain}
-use Rattle.go_sgf.specs.declared.fault.Fault.{Fault}
-use Rattle.go_sgf.specs.declared.fault.Fault.TheVariants.{Memory, End, Unexpected, TooDeep}
+use Rattle.go_sgf.specs.declared.error.Fault.{Fault}
+use Rattle.go_sgf.specs.declared.error.Fault.TheVariants.{Memory, End, Unexpected, TooDeep}
 use Rattle.go_sgf.specs.declared.limits.TheConstants.{MAX_DEPTH}
 use Rattle.go_sgf.proofs.Growing.{Grown, chain-push, depth-push, parts-push}
 use Rattle.go_sgf.proofs.Outcomes.{tree_outcome}

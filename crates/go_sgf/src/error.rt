@@ -1,7 +1,6 @@
 ghost use Rattle.std.specs.Prelude.{◌≡◌};
-ghost use Rattle.go_sgf.specs.declared.error.SgfError.TheVariants.{Memory};
 
-use std::alloc::AllocError;
+use std::alloc::{AllocError, AllocFailed};
 use thiserror::Error;
 
 /// Why a source can't be read. A place is a byte's number in the source, from 0.
@@ -28,9 +27,40 @@ pub enum SgfError {
 }
 
 impl From<AllocError> for SgfError {
+    ghost use Rattle.go_sgf.specs.declared.error.SgfError.TheVariants.{Memory};
+
     ghost from_gives = { λ _ error. error ≡ Memory };
 
     fn from(_: AllocError) -> SgfError {
         SgfError::Memory
+    }
+}
+
+/// Why reading stops, by how many bytes of the source are left there.
+#[derive(Clone, Copy)]
+pub(crate) enum Fault {
+    Memory,
+    End,
+    Unexpected(usize),
+    TooDeep(usize),
+}
+
+impl From<AllocError> for Fault {
+    ghost use Rattle.go_sgf.specs.declared.error.Fault.TheVariants.{Memory};
+
+    ghost from_gives = { λ _ fault. fault ≡ Memory };
+
+    fn from(_: AllocError) -> Fault {
+        Fault::Memory
+    }
+}
+
+impl<T: Drop> From<AllocFailed<T>> for Fault {
+    ghost use Rattle.go_sgf.specs.declared.error.Fault.TheVariants.{Memory};
+
+    ghost from_gives = { λ _ fault. fault ≡ Memory };
+
+    fn from(_: AllocFailed<T>) -> Fault {
+        Fault::Memory
     }
 }

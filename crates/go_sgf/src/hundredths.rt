@@ -1,10 +1,9 @@
-ghost use Rattle.std.specs.Prelude.{◌≡◌, ◌+◌, ◌-◌, ◌*◌, ◌<◌, ◌≤◌, ◌==◌, ◌++◌, ◌≤ℤ◌, codes, drop, length, min, negsuc, option_map, position, pos, IfSome, slice_index_or, take, true, unwrap_or};
+ghost use Rattle.std.specs.Prelude.{◌≡◌, ◌+◌, ◌-◌, ◌*◌, ◌<◌, ◌≤◌, ◌==◌, drop, length, min, option_map, position, IfSome, slice_index_or, true};
 ghost use Rattle.std.specs.Char.{is_ascii_digit};
 ghost use Rattle.std.specs.List.{list_all};
-ghost use Rattle.go_board.specs.Decimals.{digits_value};
 ghost use Rattle.go_board.specs.Komi.{IsKomi};
 ghost use Rattle.go_board.specs.declared.decimals.TheConstants.{MAX_KOMI};
-ghost use Rattle.go_sgf.specs.Numbers.{decimals_in, hundredths_in, hundredths_by, is_decimal, komi_of, point_place, size_by, size_of_number, whole_part, with_sign};
+ghost use Rattle.go_sgf.specs.Numbers.{hundredths_in, hundredths_by, is_decimal, komi_of, point_place, size_by, size_of_number, with_sign};
 
 use crate::numbers::trim;
 use go_board::{MAX_KOMI, are_digits, value_of_digits, with_digit};

@@ -23,7 +23,7 @@
 
 mod cooking;
 mod error;
-mod fault;
+
 mod hundredths;
 pub mod laws;
 mod limits;

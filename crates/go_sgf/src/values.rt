@@ -1,5 +1,5 @@
 ghost use Rattle.std.specs.Prelude.{◌≡◌, ◌<◌, ◌≤◌, ◌∷◌, ◌++◌, [], ℕ, Err, IfNone, IfSome, Some, length, false};
-ghost use Rattle.go_sgf.specs.declared.fault.Fault.TheVariants.{End};
+ghost use Rattle.go_sgf.specs.declared.error.Fault.TheVariants.{End};
 ghost use Rattle.go_sgf.specs.declared.limits.TheConstants.{MAX_DEPTH};
 ghost use Rattle.go_sgf.specs.inner.Outcome.{IsWithin, outcome};
 ghost use Rattle.go_sgf.specs.PartsIn.{nodes_at, parts_from, parts_in, properties_at, values_at};

@@ -5,7 +5,7 @@ use Rattle.go_game.specs.Standings.{Standing}
 use Rattle.goref_lines.specs.Kept.{kept}
 use Rattle.goref_session.specs.Contents.{Content, nothing, missing}
 use Rattle.goref.specs.Shelves.{Pair}
-use Rattle.goref_session.specs.Answers.{Said, Reply, wanted}
+use Rattle.goref_session.specs.Replies.{Said, Reply, wanted}
 use Rattle.goref_session.specs.Laws.{SomeReply}
 use Rattle.goref.specs.Conversation.{AsksShelf, Conversation, ends, quits, goes_on}
 use Rattle.goref.specs.inner.Progress.{GetsTo}

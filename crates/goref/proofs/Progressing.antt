@@ -11,9 +11,9 @@ use Rattle.goref_lines.specs.Kept.{Kept, kept}
 use Rattle.goref.specs.Lines.{lines, complete_lines, unfinished_line, if_any, HasNoEnd}
 use Rattle.goref_session.specs.Contents.{Content}
 use Rattle.goref.specs.Shelves.{Pair, then_pairs}
-use Rattle.goref_session.specs.Answers.{Said, Reply, wanted}
+use Rattle.goref_session.specs.Replies.{Said, Reply, wanted}
 use Rattle.goref_session.specs.Laws.{SomeReply}
-use Rattle.goref_session.specs.Replies.{flow_of}
+use Rattle.goref_session.specs.Answered.{flow_of}
 use Rattle.goref.specs.Conversation.{AsksShelf, Conversation, ends, quits, goes_on, Converses, BreaksOff}
 use Rattle.goref.specs.inner.Progress.{GetsTo, Progress, Proceeds, Responds, Finishes}
 use Rattle.goref.proofs.Lines.{complete_lines-nil, unfinished_line-nil, complete_lines_more, unfinished_line_more, complete_lines_end, unfinished_line_end, lines_later, Later}

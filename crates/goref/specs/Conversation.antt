@@ -5,7 +5,7 @@ use Rattle.go_game.specs.Standings.{Standing}
 use Rattle.goref_lines.specs.Kept.{kept}
 use Rattle.goref_session.specs.Contents.{Content, nothing}
 use Rattle.goref.specs.Shelves.{Pair, then_pairs}
-use Rattle.goref_session.specs.Answers.{Said, Reply, wanted}
+use Rattle.goref_session.specs.Replies.{Said, Reply, wanted}
 
 -- what is asked of the shelf for a line: its file, where it wants one
 abbrev pub AsksShelf : Option (List ℕ) → Content → List Pair → Type 0

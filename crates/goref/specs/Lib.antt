@@ -4,11 +4,12 @@ pub mod Conversation
 pub mod Runs
 pub mod Limits
 pub mod inner
+pub use Rattle.goref_lines.specs.Words
 pub use Rattle.goref_lines.specs.Kept
 pub use Rattle.goref_session.specs.Starts
 pub use Rattle.goref_session.specs.Contents
-pub use Rattle.goref_session.specs.Answers
 pub use Rattle.goref_session.specs.Replies
+pub use Rattle.goref_session.specs.Answered
 pub use Rattle.goref_session.specs.declared.fetched.Fetched
 pub use Rattle.goref_session.specs.declared.flow.Flow
 pub use Rattle.goref_tools.specs.Tools

@@ -1,8 +1,8 @@
 -- What a run did when it came to its end.
 use Rattle.std.specs.Prelude.{◌≡◌, ◌≤◌, ℕ, ◌+◌, List, Option, Result, Err, length}
 use Rattle.go_board.specs.Device.{after_bytes}
-use Rattle.goref.specs.declared.fault.RunError.{RunError}
-use Rattle.goref.specs.declared.fault.RunError.TheVariants.{Read, Write}
+use Rattle.goref.specs.declared.error.RunError.{RunError}
+use Rattle.goref.specs.declared.error.RunError.TheVariants.{Read, Write}
 use Rattle.go_game.specs.Standings.{Standing}
 use Rattle.goref.specs.Lines.{lines, complete_lines}
 use Rattle.goref.specs.Shelves.{Pair}

@@ -22,12 +22,12 @@
 //! all others that the clauses cite, so that who calls this crate can prove with them as well.
 #![tactic(auto)]
 
-mod fault;
+mod error;
 pub mod laws;
 mod runs;
 mod shelf;
 
-pub use fault::RunError;
+pub use error::RunError;
 pub use goref_cli::{Task, task_of};
 pub use goref_lines::{LINE_LIMIT, Line};
 pub use goref_session::{Fetched, Flow, Session, wants};

@@ -5,11 +5,11 @@ ghost use Rattle.goref_session.specs.Starts.{begun};
 ghost use Rattle.goref.specs.Lines.{HasNoEnd, lines};
 ghost use Rattle.goref_session.specs.Contents.{content_of};
 ghost use Rattle.goref.specs.Shelves.{Pair};
-ghost use Rattle.goref.specs.Conversation.{Converses, BreaksOff};
+ghost use Rattle.goref.specs.Conversation.{Converses};
 ghost use Rattle.goref.specs.inner.Progress.{Fetches, Responds, Progress, Proceeds, Finishes};
 ghost use Rattle.goref.specs.Runs.{AnswersComplete, AnswersFront, ReadsAtLeast, read_failures_after, write_failures_after};
 
-use crate::fault::RunError;
+use crate::error::RunError;
 use crate::shelf::Shelf;
 use go_board::{Failed, Sink, Size, Source, WriteFault};
 use goref_lines::Line;

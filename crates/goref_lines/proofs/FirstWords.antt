@@ -4,7 +4,7 @@ use Rattle.std.specs.Prelude.{filter}
 use Rattle.std.specs.List.{slice_split, onto_first, prefix_len}
 use Rattle.std.proofs.lemmas.Bool.Decides.{nat_tests}
 use Rattle.std.proofs.lemmas.List.Splits.{slice_split-cons_yes}
-use Rattle.goref_lines.specs.Kept.{is_plain_space, has_bytes, words}
+use Rattle.goref_lines.specs.Words.{is_plain_space, has_bytes, words}
 
 -- how many bytes stand before the first space
 abbrev word_len : List ℕ → ℕ

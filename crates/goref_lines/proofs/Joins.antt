@@ -4,7 +4,8 @@ use Rattle.std.specs.Prelude.{filter}
 use Rattle.std.specs.List.{slice_split, join_with_byte}
 use Rattle.std.proofs.lemmas.List.{append-nil}
 use Rattle.std.proofs.lemmas.List.Elements.{filter-append}
-use Rattle.goref_lines.specs.Kept.{has_bytes, is_plain_space, words, single_spaced, ends_with_space}
+use Rattle.goref_lines.specs.Kept.{ends_with_space}
+use Rattle.goref_lines.specs.Words.{has_bytes, is_plain_space, words, single_spaced}
 use Rattle.goref_lines.specs.inner.Front.{with_space}
 use Rattle.goref_lines.proofs.Splits.{onto_last, HasParts, slice_split_push_yes, slice_split_push_no}
 

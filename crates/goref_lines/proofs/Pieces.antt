@@ -9,7 +9,8 @@ use Rattle.std.proofs.lemmas.Bool.Decides.{nat_tests}
 use Rattle.std.specs.Prelude.{slice_index}
 use Rattle.memchr.specs.Find.{IsFirstByte, is_byte}
 use Rattle.goref_lines.specs.declared.line.TheConstants.{LINE_LIMIT}
-use Rattle.goref_lines.specs.Kept.{is_control_byte, is_hash, is_plain_space, spaced, printable, before_comment, cleaned, has_bytes, single_spaced, ends_with_space, Kept, kept}
+use Rattle.goref_lines.specs.Kept.{is_control_byte, is_hash, spaced, printable, before_comment, cleaned, ends_with_space, Kept, kept}
+use Rattle.goref_lines.specs.Words.{is_plain_space, has_bytes, single_spaced}
 use Rattle.goref_lines.specs.inner.Front.{AreOfWord, KeepsFront, is_word_byte, last_of, space_after, with_space}
 use Rattle.goref_lines.proofs.Joins.{has_trailing_space, joined_push_space, joined_push_byte, has_trailing_space_push_byte}
 use Rattle.goref_lines.proofs.Pushes.{before_comment_none, kept_comment, kept_hash, plain, plain_is, plain_before, has_comment_is, spaced_other}

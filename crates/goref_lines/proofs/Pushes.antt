@@ -6,7 +6,8 @@ use Rattle.std.proofs.lemmas.List.{append-nil, map-append, take_all, length-take
 use Rattle.std.proofs.lemmas.List.Elements.{filter-append}
 use Rattle.std.proofs.lemmas.Bool.Decides.{nat_tests}
 use Rattle.goref_lines.specs.declared.line.TheConstants.{LINE_LIMIT}
-use Rattle.goref_lines.specs.Kept.{is_control_byte, is_hash, is_plain_space, spaced, printable, before_comment, cleaned, has_bytes, single_spaced, ends_with_space, Kept, kept}
+use Rattle.goref_lines.specs.Kept.{is_control_byte, is_hash, spaced, printable, before_comment, cleaned, ends_with_space, Kept, kept}
+use Rattle.goref_lines.specs.Words.{is_plain_space, has_bytes, single_spaced}
 use Rattle.goref_lines.specs.inner.Front.{KeepsFront, with_space}
 use Rattle.goref_lines.proofs.Joins.{has_trailing_space, joined_push_space, joined_push_byte, has_trailing_space_push_space, has_trailing_space_push_byte}
 

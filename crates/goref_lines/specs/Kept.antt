@@ -1,7 +1,8 @@
 -- What a line keeps: controls out, the comment off, tabs as spaces, cut into words at spaces,
 -- joined by single spaces, and of that as many bytes as a line may have.
-use Rattle.std.specs.Prelude.{ℕ, ◌==◌, ◌&&◌, ◌||◌, not, nat_lt, Bool, true, false, if◌then◌else◌, List, [], ◌∷◌, map, filter, take, length}
-use Rattle.std.specs.List.{slice_split, join_with_byte, list_any}
+use Rattle.std.specs.Prelude.{ℕ, ◌==◌, ◌&&◌, ◌||◌, not, nat_lt, Bool, false, if◌then◌else◌, List, [], ◌∷◌, map, filter, take, length}
+use Rattle.std.specs.List.{list_any}
+use Rattle.goref_lines.specs.Words.{has_bytes, is_plain_space, single_spaced}
 use Rattle.goref_lines.specs.declared.line.TheConstants.{LINE_LIMIT}
 
 -- a control: a byte below 32 other than HT, or 127
@@ -11,9 +12,6 @@ is_control_byte b = (nat_lt b 32 && not (b == 9)) || b == 127
 -- `#`, which begins a comment
 abbrev pub is_hash : ℕ → Bool
 is_hash b = b == 35
-
-abbrev pub is_plain_space : ℕ → Bool
-is_plain_space b = b == 32
 
 -- a byte with HT as a space
 abbrev pub spaced : ℕ → ℕ
@@ -31,18 +29,6 @@ before_comment (b ∷ line) = if is_hash b then [] else b ∷ before_comment lin
 -- a line without controls and comment, and with spaces for tabs
 abbrev pub cleaned : List ℕ → List ℕ
 cleaned line = map spaced (before_comment (printable line))
-
-abbrev pub has_bytes : List ℕ → Bool
-has_bytes [] = false
-has_bytes (b ∷ bs) = true
-
--- the words of a text: what stands between its spaces and is not empty
-abbrev pub words : List ℕ → List (List ℕ)
-words text = filter has_bytes (slice_split is_plain_space text)
-
--- the words of a text, joined by single spaces
-abbrev pub single_spaced : List ℕ → List ℕ
-single_spaced text = join_with_byte 32 (words text)
 
 -- whether the last byte of a text is a space
 abbrev pub ends_with_space : List ℕ → Bool

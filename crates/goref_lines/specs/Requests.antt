@@ -1,6 +1,6 @@
 -- What the words of a line ask for: a command with an id and arguments.
 use Rattle.std.specs.Prelude.{ℕ, if◌then◌else◌, List, [], ◌∷◌, Option, Some, None, option_and_then, position, take}
-use Rattle.goref_lines.specs.Kept.{is_plain_space}
+use Rattle.goref_lines.specs.Words.{is_plain_space}
 use Rattle.go_board.specs.Decimals.{is_int, digits_value, int_of}
 
 pub record Asked : Type 0 where

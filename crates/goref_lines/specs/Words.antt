@@ -1,15 +1,18 @@
--- What colour a word of a command names.
-use Rattle.std.specs.Prelude.{ℕ, ◌||◌, Bool, if◌then◌else◌, List, Option, Some, None, codes}
-use Rattle.std.specs.Str.{str_eq_ignore_ascii_case}
-use Rattle.go_board.specs.declared.colour.Colour.{Colour}
-use Rattle.go_board.specs.declared.colour.Colour.TheVariants.{Black, White}
+-- The words of a text.
+use Rattle.std.specs.Prelude.{ℕ, ◌==◌, Bool, true, false, List, [], ◌∷◌, filter}
+use Rattle.std.specs.List.{slice_split, join_with_byte}
 
--- a word is this name in any case
-abbrev pub is_same_word : List ℕ → List ℕ → Bool
-is_same_word word name = str_eq_ignore_ascii_case word name
+abbrev pub is_plain_space : ℕ → Bool
+is_plain_space b = b == 32
 
--- the colour that a word names
-abbrev pub colour_spelled : List ℕ → Option Colour
-colour_spelled word =
-    if is_same_word word (codes "b") || is_same_word word (codes "black") then Some Black
-    else (if is_same_word word (codes "w") || is_same_word word (codes "white") then Some White else None)
+abbrev pub has_bytes : List ℕ → Bool
+has_bytes [] = false
+has_bytes (b ∷ bs) = true
+
+-- the words of a text: what stands between its spaces and is not empty
+abbrev pub words : List ℕ → List (List ℕ)
+words text = filter has_bytes (slice_split is_plain_space text)
+
+-- the words of a text, joined by single spaces
+abbrev pub single_spaced : List ℕ → List ℕ
+single_spaced text = join_with_byte 32 (words text)

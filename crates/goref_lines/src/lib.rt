@@ -1,15 +1,13 @@
 //! The lines of the Go Text Protocol: what is kept of a line, its words and what they ask for.
 #![tactic(auto)]
 
-mod cursor;
 pub mod laws;
 mod line;
 mod request;
 mod stones;
 mod words;
 
-pub use cursor::Words;
 pub use line::{LINE_LIMIT, Line};
 pub use request::{Request, id_of_cut};
 pub use stones::{ListError, read_stones};
-pub use words::read_colour;
+pub use words::Words;

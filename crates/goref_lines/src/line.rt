@@ -1,6 +1,7 @@
 ghost use Rattle.std.specs.Prelude.{◌≡◌, ◌+◌, ◌<◌, ◌≤◌, ℕ, List, [], ◌∷◌, ◌++◌, length, take, false, true};
 ghost use Rattle.std.specs.List.{list_any, prefix_len};
-ghost use Rattle.goref_lines.specs.Kept.{Kept, has_bytes, kept, is_control_byte, is_hash, is_plain_space, printable, spaced};
+ghost use Rattle.goref_lines.specs.Kept.{Kept, kept, is_control_byte, is_hash, printable, spaced};
+ghost use Rattle.goref_lines.specs.Words.{has_bytes, is_plain_space};
 ghost use Rattle.goref_lines.specs.inner.Front.{AreOfWord, KeepsFront, is_word_byte, last_of, with_space};
 
 use arrayvec::ArrayVec;

@@ -1,8 +1,8 @@
 ghost use Rattle.std.specs.Prelude.{◌≡◌, ◌<◌, IfSome, length, option_copied, position, slice_get};
-ghost use Rattle.goref_lines.specs.Kept.{is_plain_space, words};
+ghost use Rattle.goref_lines.specs.Words.{is_plain_space, words};
 ghost use Rattle.goref_lines.specs.Requests.{Asked, asked_by, id_before_space};
 
-use crate::cursor::Words;
+use crate::words::Words;
 use go_board::read_int;
 use std::marker::Model;
 

@@ -5,7 +5,7 @@ ghost use Rattle.go_board.specs.Points.{IsOn, number_of};
 ghost use Rattle.goref_lines.specs.Stones.{spelled, stones_listed, with_first};
 ghost use Rattle.goref_lines.specs.inner.Gathered.{may_follow, gathers};
 
-use crate::cursor::Words;
+use crate::words::Words;
 use arrayvec::ArrayVec;
 use go_board::{MAX_POINTS, Point, Size, Vertex, VertexError, read_vertex};
 use std::marker::Model;

@@ -1,8 +1,61 @@
-ghost use Rattle.std.specs.Prelude.{◌≡◌, option_copied, slice_get};
-ghost use Rattle.goref_lines.specs.Kept.{words};
-ghost use Rattle.goref_lines.specs.Words.{is_same_word, colour_spelled};
+ghost use Rattle.std.specs.Prelude.{◌≡◌, ◌≤◌, ◌∷◌, [], IfNone, IfSome, length, not, option_copied, slice_get};
+ghost use Rattle.std.specs.List.{prefix_len};
+ghost use Rattle.goref_lines.specs.Words.{is_plain_space, words};
 
-use go_board::Colour;
+use std::marker::Model;
+
+/// The words of a text that are still to come.
+#[derive(Drop)]
+pub struct Words<'a> {
+    /// Words that are joined by single spaces.
+    text: &'a [u8],
+}
+
+impl<'a> Model for Words<'a> {
+    ghost use Rattle.std.specs.Prelude.{ℕ, List};
+    ghost use Rattle.goref_lines.specs.Words.{words};
+
+    ghost Value = { List (List ℕ) };
+
+    ghost view = { λ w. words w.text.now };
+}
+
+impl<'a> Words<'a> {
+    /// All the words of a text.
+    pub(crate) fn of(text: &'a [u8]) -> Words<'a>
+        ensures { result ≡ words text.entry.now }
+    {
+        Words { text }
+    }
+
+    /// Takes the next word, or gives none where no word is left.
+    pub fn next_word(&mut self) -> Option<&'a [u8]>
+        ensures none { IfNone result ((self.old ≡ []) × (self.new ≡ [])) }
+        ensures some { IfSome result (λ w. self.old ≡ w.now ∷ self.new) }
+    {
+        let (_, text) = self.text.split_at(count_spaces(self.text));
+        let (word, rest) = text.split_at(word_len(text));
+        self.text = rest;
+        if word.is_empty() {
+            return None;
+        }
+        Some(word)
+    }
+
+    /// The word at this place among those that are still to come, the first at 0.
+    pub(crate) fn word(&self, place: usize) -> Option<&'a [u8]>
+        ensures { option_copied result ≡ slice_get self.now place }
+    {
+        word(self.text, place)
+    }
+
+    /// The same words, to be taken again.
+    pub(crate) fn again(&self) -> Words<'a>
+        ensures { result ≡ self.now }
+    {
+        Words { text: self.text }
+    }
+}
 
 /// The word of a text at this place, the first at 0.
 pub(crate) fn word(text: &[u8], place: usize) -> Option<&[u8]>
@@ -13,21 +66,18 @@ pub(crate) fn word(text: &[u8], place: usize) -> Option<&[u8]>
         .nth(place)
 }
 
-/// The colour that a word names.
-pub fn read_colour(word: &[u8]) -> Option<Colour>
-    ensures { result ≡ colour_spelled word.now }
+/// How many spaces a text begins with.
+fn count_spaces(text: &[u8]) -> usize
+    ensures value { result ≡ prefix_len is_plain_space text.now }
+    ensures bound { result ≤ length text.now }
 {
-    if is_named(word, b"b") || is_named(word, b"black") {
-        return Some(Colour::Black);
-    }
-    if is_named(word, b"w") || is_named(word, b"white") {
-        return Some(Colour::White);
-    }
-    None
+    text.iter().take_while(|byte| **byte == b' ').count()
 }
 
-fn is_named(word: &[u8], name: &[u8]) -> bool
-    ensures { result ≡ is_same_word word.now name.now }
+/// How many bytes stand before the first space of a text.
+fn word_len(text: &[u8]) -> usize
+    ensures value { result ≡ prefix_len (λ b. not (is_plain_space b)) text.now }
+    ensures bound { result ≤ length text.now }
 {
-    word.eq_ignore_ascii_case(name)
+    text.iter().take_while(|byte| **byte != b' ').count()
 }

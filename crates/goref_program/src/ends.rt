@@ -1,5 +1,5 @@
 //! What is told of the end of a task, and the exit status that follows it.
-ghost use Rattle.std.specs.Prelude.{◌≡◌, ◌⊎◌, IfSome, Ok, OnOk};
+ghost use Rattle.std.specs.Prelude.{◌≡◌, ◌⊎◌, Ok, OnOk};
 ghost use Rattle.clap.specs.Values.{kind_of};
 ghost use Rattle.goref_program.specs.Status.{end_status, fault_status, words_status};
 ghost use Rattle.goref_program.specs.declared.ends.Fault.TheVariants.{Run, Tool};
@@ -54,7 +54,7 @@ impl From<ToolError> for Fault {
 }
 
 /// Tells of a fault in one line, where there is one, and gives the exit status.
-pub fn told<E: Write>(end: Result<(), Fault>, errors: &mut E) -> u8
+pub fn tell<E: Write>(end: Result<(), Fault>, errors: &mut E) -> u8
     ensures status { result ≡ end_status end }
     ensures silent { OnOk end (errors.new ≡ errors.old) }
 {
@@ -68,7 +68,7 @@ pub fn told<E: Write>(end: Result<(), Fault>, errors: &mut E) -> u8
 }
 
 /// Tells why no task came of the words, or the help that they asked for, and gives the exit status.
-pub fn explained<O: Write, E: Write>(error: &clap::Error, output: &mut O, errors: &mut E) -> u8
+pub fn explain<O: Write, E: Write>(error: &clap::Error, output: &mut O, errors: &mut E) -> u8
     ensures status { (result ≡ words_status (kind_of error.now))
         ⊎ ((words_status (kind_of error.now) ≡ 0) × (result ≡ 3)) }
 {
@@ -76,14 +76,14 @@ pub fn explained<O: Write, E: Write>(error: &clap::Error, output: &mut O, errors
         let _ = write!(errors, "{error}");
         return REFUSED;
     }
-    match shown(error, output) {
+    match show(error, output) {
         Ok(()) => 0,
         Err(_) => FAULT,
     }
 }
 
 /// Writes a text of help whole.
-fn shown<O: Write>(error: &clap::Error, output: &mut O) -> std::io::Result<()> {
+fn show<O: Write>(error: &clap::Error, output: &mut O) -> std::io::Result<()> {
     write!(output, "{error}")?;
     output.flush()
 }

@@ -7,11 +7,11 @@ mod ends;
 mod files;
 mod tasks;
 
-use ends::{REFUSED, explained, told};
+use ends::{REFUSED, explain, tell};
 use files::NamedFiles;
 use goref::task_of;
 use std::process::ExitCode;
-use tasks::obeyed;
+use tasks::obey;
 
 fn main(rt: HostRuntime) -> ExitCode {
     ExitCode::from(status(&rt))
@@ -24,7 +24,7 @@ fn status(rt: &HostRuntime) -> u8 {
         None => return unreadable(rt),
     };
     match words.iter().map(|word| word.as_str()).collect(rt.alloc()) {
-        Ok(views) => ended(rt, &views),
+        Ok(views) => obey_words(rt, &views),
         Err(_) => unreadable(rt),
     }
 }
@@ -45,14 +45,14 @@ fn unreadable(rt: &HostRuntime) -> u8
 }
 
 /// Does what the words ask on the standard streams, and gives the exit status.
-fn ended(rt: &HostRuntime, words: &Vec<&str>) -> u8 {
+fn obey_words(rt: &HostRuntime, words: &Vec<&str>) -> u8 {
     match task_of(rt.alloc(), words.as_slice()) {
         Ok(task) => {
             let mut files = NamedFiles::new(rt.alloc(), rt);
-            let end = obeyed(rt.alloc(), task, rt.stdin(), rt.stdout(), &mut files);
-            told(end, &mut rt.stderr())
+            let end = obey(rt.alloc(), task, rt.stdin(), rt.stdout(), &mut files);
+            tell(end, &mut rt.stderr())
         }
-        Err(error) => explained(&error, &mut rt.stdout(), &mut rt.stderr()),
+        Err(error) => explain(&error, &mut rt.stdout(), &mut rt.stderr()),
     }
 }
 

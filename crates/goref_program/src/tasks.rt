@@ -8,14 +8,14 @@ use std::io::{Read, Write};
 
 /// Does a task: reads from the one stream, writes to the other, and fetches the files that a
 /// session wants from the shelf.
-pub fn obeyed<A: Allocator + Copy, R: Read + Drop, W: Write + Drop, S: Shelf<A>>(
+pub fn obey<A: Allocator + Copy, R: Read + Drop, W: Write + Drop, S: Shelf<A>>(
     alloc: A,
     task: Task,
     input: R,
     output: W,
     shelf: &mut S,
 ) -> Result<(), Fault> {
-    done(
+    perform(
         alloc,
         task,
         &mut Input::new(input),
@@ -25,7 +25,7 @@ pub fn obeyed<A: Allocator + Copy, R: Read + Drop, W: Write + Drop, S: Shelf<A>>
 }
 
 /// Does a task on devices.
-fn done<A: Allocator + Copy, R: Source, W: Sink, S: Shelf<A>>(
+fn perform<A: Allocator + Copy, R: Source, W: Sink, S: Shelf<A>>(
     alloc: A,
     task: Task,
     input: &mut R,

@@ -1,9 +1,9 @@
 mod streams;
 mod words;
 
-use crate::ends::{Fault, explained, told};
+use crate::ends::{Fault, explain, tell};
 use crate::files::NamedFiles;
-use crate::tasks::obeyed;
+use crate::tasks::obey;
 use go_board::Size;
 use go_sgf::MAX_RECORD;
 use goref::{Fetched, Shelf, Task, task_of};
@@ -66,8 +66,8 @@ fn comes_to(
     let mut output = Page::new(rt.alloc(), room);
     let mut errors = Page::new(rt.alloc(), 1_000);
     let mut files = NamedFiles::new(rt.alloc(), rt);
-    let end = obeyed(rt.alloc(), task, input, &mut output, &mut files);
-    told(end, &mut errors) == status
+    let end = obey(rt.alloc(), task, input, &mut output, &mut files);
+    tell(end, &mut errors) == status
         && output.bytes.as_slice() == written
         && errors.bytes.as_slice() == line
 }
@@ -154,7 +154,7 @@ fn explained_to(rt: &HostRuntime, words: &[&str], room: usize) -> Option<(usize,
     let mut output = Page::new(rt.alloc(), room);
     let mut errors = Page::new(rt.alloc(), 10_000);
     let error = task_of(rt.alloc(), words).err()?;
-    let status = explained(&error, &mut output, &mut errors);
+    let status = explain(&error, &mut output, &mut errors);
     Some((output.bytes.len(), errors.bytes.len(), status))
 }
 
@@ -189,7 +189,7 @@ fn words_that_name_no_task(rt: HostRuntime) {
 fn nothing_is_told_of_an_end(rt: HostRuntime) {
     let mut errors = Page::new(rt.alloc(), 1_000);
     let end: Result<(), Fault> = Ok(());
-    assert_eq!(rt; told(end, &mut errors), 0);
+    assert_eq!(rt; tell(end, &mut errors), 0);
     assert!(rt; errors.bytes.is_empty());
 }
 

@@ -6,7 +6,7 @@ use Rattle.go_board.specs.declared.colour.Colour.TheVariants.{Black, White}
 use Rattle.go_board.specs.Colours.{Colouring, colour_at, letter_of}
 use Rattle.go_board.specs.Vertices.{column_letters}
 use Rattle.go_game.specs.Standings.{Standing, board_of, mover_of}
-use Rattle.go_game.specs.Playing.{prisoners_of}
+use Rattle.go_game.specs.Prisoners.{prisoners_of}
 use Rattle.go_game.specs.Scores.{hundredths_word}
 
 -- a point of the diagram: X for black, O for white

@@ -1,9 +1,8 @@
 ghost use Rattle.std.specs.Prelude.{◌≡◌, ◌<◌, decimal};
 ghost use Rattle.std.specs.List.{flat_map};
 ghost use Rattle.go_board.specs.Pens.{Writes};
-ghost use Rattle.go_board.specs.Vertices.{column_letters};
 ghost use Rattle.go_game.specs.Standings.{board_of};
-ghost use Rattle.goref_results.specs.Diagrams.{diagram, diagram_of, letters_text, mark_of, marks_text, padding_of, prisoners_text, right_in_two, row_text, rows_text, setting_text, spaced_letter, turn_text};
+ghost use Rattle.goref_results.specs.Diagrams.{diagram, letters_text, mark_of, marks_text, padding_of, prisoners_text, right_in_two, row_text, rows_text, setting_text, spaced_letter, turn_text};
 
 use go_board::{COLUMN_LETTERS, Colour, Pen, Point, Sink, Size};
 use go_game::{Game, hundredths_text};

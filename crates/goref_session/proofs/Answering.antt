@@ -6,11 +6,12 @@ use Rattle.go_board.specs.declared.device.WriteFault.{WriteFault}
 use Rattle.goref_session.specs.declared.flow.Flow.{Flow}
 use Rattle.goref_session.specs.declared.flow.Flow.TheVariants.{More}
 use Rattle.go_game.specs.Standings.{Standing}
-use Rattle.goref_lines.specs.Kept.{Kept, has_bytes}
+use Rattle.goref_lines.specs.Kept.{Kept}
+use Rattle.goref_lines.specs.Words.{has_bytes}
 use Rattle.goref_session.specs.Contents.{Content}
 use Rattle.goref_session.specs.Decisions.{Decided}
-use Rattle.goref_session.specs.Answers.{silent, spoken, line_id, Reply, DecidesLine, is_end, decision_text}
-use Rattle.goref_session.specs.Replies.{Answered, flow_of}
+use Rattle.goref_session.specs.Replies.{silent, spoken, line_id, Reply, DecidesLine, is_end, decision_text}
+use Rattle.goref_session.specs.Answered.{Answered, flow_of}
 
 -- a line without words
 pub answered_silent : (s : Standing) (k : Kept) (content : Content) (taken : Option (List ℕ)) → has_bytes k.text ≡ false → Answered s s k content (Ok More) taken taken

@@ -5,9 +5,10 @@ use Rattle.std.specs.List.{AllByRecursion}
 use Rattle.std.proofs.lemmas.Bool.{both_ways, cases_Bool, eqb-true, leb-true}
 use Rattle.std.proofs.lemmas.List.Elements.{All-from_recursion}
 use Rattle.go_game.specs.Standings.{Standing}
-use Rattle.goref_lines.specs.Kept.{Kept, has_bytes}
+use Rattle.goref_lines.specs.Kept.{Kept}
+use Rattle.goref_lines.specs.Words.{has_bytes}
 use Rattle.goref_results.specs.Results.{result_text}
-use Rattle.goref_session.specs.Answers.{Reply, Said, decision_text, fact_text, id_text, line_id, refusal_text}
+use Rattle.goref_session.specs.Replies.{Reply, Said, decision_text, fact_text, id_text, line_id, refusal_text}
 use Rattle.goref_session.specs.Contents.{Content}
 use Rattle.goref_session.specs.Laws.{AnswersEnd, EndsAtEmptyLine, PlainAnswers}
 use Rattle.goref_session.specs.declared.decision.Decision.{Decision}

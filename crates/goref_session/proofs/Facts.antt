@@ -13,7 +13,7 @@ use Rattle.go_board.specs.Points.{point_at}
 use Rattle.go_board.specs.Reaching.{points}
 use Rattle.go_board.specs.Vertices.{column_letters, vertex_word}
 use Rattle.go_game.specs.Handicaps.{fixed}
-use Rattle.go_game.specs.Playing.{prisoners_of}
+use Rattle.go_game.specs.Prisoners.{prisoners_of}
 use Rattle.go_game.specs.Scores.{margin_of, score_word}
 use Rattle.go_game.specs.Standings.{Standing, board_of, mover_of}
 use Rattle.go_record.specs.Records.{record_body}
@@ -21,7 +21,7 @@ use Rattle.goref_results.specs.ChainLines.{chain_line, spaced_vertex, stone_text
 use Rattle.goref_results.specs.Diagrams.{diagram, letters_text, mark_of, marks_text, padding_of, prisoners_text, right_in_two, row_text, rows_text, setting_text, spaced_letter, spaced_mark, turn_text}
 use Rattle.goref_results.specs.Places.{places_text, point_word}
 use Rattle.goref_results.specs.Plays.{number_word, plays_text}
-use Rattle.goref_session.specs.Answers.{fact_text}
+use Rattle.goref_session.specs.Replies.{fact_text}
 use Rattle.goref_session.specs.Telling.{topic_text, truth_text}
 use Rattle.goref_session.specs.declared.command.Topic.{Topic}
 use Rattle.goref_session.specs.declared.command.Topic.TheVariants.{Protocol, Program, Release, Commands, Score, Board, Chains, Record}

@@ -8,8 +8,8 @@ use Rattle.go_board.specs.declared.vertex.Move.{Move}
 use Rattle.go_board.specs.declared.vertex.Vertex.{Vertex}
 use Rattle.go_board.specs.declared.vertex.Vertex.TheVariants.{Pass, At}
 use Rattle.go_board.specs.Points.{number_of}
-use Rattle.go_game.specs.declared.errors.PlayError.{PlayError}
-use Rattle.go_game.specs.declared.errors.PlayError.TheVariants.{OffBoard, Occupied, Repeats, Memory}
+use Rattle.go_game.specs.declared.error.PlayError.{PlayError}
+use Rattle.go_game.specs.declared.error.PlayError.TheVariants.{OffBoard, Occupied, Repeats, Memory}
 use Rattle.go_game.specs.Legal.{is_legal}
 use Rattle.go_game.specs.Standings.{IsLegal, IsOccupied, IsOffBoard, IsRepeat, Standing, seen_after, stood_of, with_move}
 use Rattle.goref_session.specs.declared.decision.Decision.TheVariants.{Done, Refused}

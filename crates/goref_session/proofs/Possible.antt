@@ -2,9 +2,10 @@
 use Rattle.std.proofs.Common.{◌≡◌, inl, inr, Bool, true, false, List, ℕ, Option, Some, None, refl}
 use Rattle.std.specs.Option.{option_and_then}
 use Rattle.go_game.specs.Standings.{Standing}
-use Rattle.goref_lines.specs.Kept.{Kept, has_bytes, words}
+use Rattle.goref_lines.specs.Kept.{Kept}
+use Rattle.goref_lines.specs.Words.{has_bytes, words}
 use Rattle.goref_lines.specs.Requests.{asked_by}
-use Rattle.goref_session.specs.Answers.{DecidesLine, Reply, Said, line_id, silent, spoken}
+use Rattle.goref_session.specs.Replies.{DecidesLine, Reply, Said, line_id, silent, spoken}
 use Rattle.goref_session.specs.Commands.{command_of}
 use Rattle.goref_session.specs.Contents.{Content, bytes, missing, no_memory, nothing, too_large}
 use Rattle.goref_session.specs.Laws.{SomeReply}

@@ -2,8 +2,9 @@
 use Rattle.std.specs.Prelude.{◌≡◌, ◌≢◌, ◌≤◌, ℕ, ◌⊎◌, true, false, List, [], ◌++◌, Option, codes}
 use Rattle.std.specs.List.{All}
 use Rattle.go_game.specs.Standings.{Standing}
-use Rattle.goref_lines.specs.Kept.{Kept, has_bytes}
-use Rattle.goref_session.specs.Answers.{Reply, Said}
+use Rattle.goref_lines.specs.Kept.{Kept}
+use Rattle.goref_lines.specs.Words.{has_bytes}
+use Rattle.goref_session.specs.Replies.{Reply, Said}
 use Rattle.goref_session.specs.Contents.{Content}
 use Rattle.goref_session.specs.Record.{Loads, LoadsNone}
 

@@ -9,6 +9,6 @@ pub mod Record
 pub mod Time
 pub mod Telling
 pub mod Table
-pub mod Answers
 pub mod Replies
+pub mod Answered
 pub mod Laws

@@ -6,8 +6,8 @@ use Rattle.go_board.specs.declared.vertex.Vertex.{Vertex}
 use Rattle.go_game.specs.Choices.{chosen}
 use Rattle.go_game.specs.Legal.{is_legal}
 use Rattle.go_game.specs.Standings.{IsOccupied, IsOffBoard, Standing, with_move, without_last}
-use Rattle.go_game.specs.declared.errors.PlayError.{PlayError}
-use Rattle.go_game.specs.declared.errors.PlayError.TheVariants.{OffBoard, Occupied, Repeats, Memory}
+use Rattle.go_game.specs.declared.error.PlayError.{PlayError}
+use Rattle.go_game.specs.declared.error.PlayError.TheVariants.{OffBoard, Occupied, Repeats, Memory}
 use Rattle.goref_session.specs.Decisions.{Decided, comes_to, keeps}
 use Rattle.goref_session.specs.declared.decision.Decision.TheVariants.{Tells, Refused}
 use Rattle.goref_session.specs.declared.decision.Fact.TheVariants.{Choice, Plays}

@@ -21,7 +21,7 @@ use Rattle.goref_session.specs.declared.decision.Refusal.TheVariants.{UnknownCom
 use Rattle.goref_lines.specs.Requests.{Asked}
 use Rattle.goref_lines.specs.Stones.{stones_listed}
 use Rattle.go_board.specs.Decimals.{int_of}
-use Rattle.goref_lines.specs.Words.{colour_spelled}
+use Rattle.go_board.specs.Colours.{colour_named}
 
 -- what may be decided on a command with these arguments, the content being what was fetched for it
 abbrev pub DecidesOn : Standing → Command → List (List ℕ) → Content → Decided → Type 0
@@ -32,10 +32,10 @@ DecidesOn s Boardsize arguments content d = d ≡ decided_size s (option_and_the
 DecidesOn s ClearBoard arguments content d = d ≡ comes_to (emptied s s.lines)
 DecidesOn s Komi arguments content d = d ≡ decided_komi s (option_and_then hundredths_by (slice_get arguments 0))
 DecidesOn s Play arguments content d =
-    DecidesPlay s (option_and_then colour_spelled (slice_get arguments 0)) (option_and_then vertex_of (slice_get arguments 1)) d
-DecidesOn s Genmove arguments content d = MayDecide s (decided_genmove s (option_and_then colour_spelled (slice_get arguments 0))) d
+    DecidesPlay s (option_and_then colour_named (slice_get arguments 0)) (option_and_then vertex_of (slice_get arguments 1)) d
+DecidesOn s Genmove arguments content d = MayDecide s (decided_genmove s (option_and_then colour_named (slice_get arguments 0))) d
 DecidesOn s Undo arguments content d = d ≡ decided_undo s s.moves
-DecidesOn s RegGenmove arguments content d = MayDecide s (decided_choice s (option_and_then colour_spelled (slice_get arguments 0))) d
+DecidesOn s RegGenmove arguments content d = MayDecide s (decided_choice s (option_and_then colour_named (slice_get arguments 0))) d
 DecidesOn s Loadsgf arguments content d = DecidesLoad s (load_of arguments) content d
 DecidesOn s FixedHandicap arguments content d = MayDecide s (decided_fixed s (option_and_then int_of (slice_get arguments 0))) d
 DecidesOn s PlaceFreeHandicap arguments content d = MayDecide s (decided_free s (option_and_then int_of (slice_get arguments 0))) d
@@ -43,8 +43,8 @@ DecidesOn s SetFreeHandicap arguments content d = MayDecide s (decided_stones s 
 DecidesOn s TimeSettings arguments content d =
     d ≡ decided_settings s (option_and_then int_of (slice_get arguments 0)) (option_and_then int_of (slice_get arguments 1)) (option_and_then int_of (slice_get arguments 2))
 DecidesOn s TimeLeft arguments content d =
-    d ≡ decided_left s (option_and_then colour_spelled (slice_get arguments 0)) (option_and_then int_of (slice_get arguments 1)) (option_and_then int_of (slice_get arguments 2))
-DecidesOn s Legal arguments content d = MayDecide s (decided_legal s (option_and_then colour_spelled (slice_get arguments 0))) d
+    d ≡ decided_left s (option_and_then colour_named (slice_get arguments 0)) (option_and_then int_of (slice_get arguments 1)) (option_and_then int_of (slice_get arguments 2))
+DecidesOn s Legal arguments content d = MayDecide s (decided_legal s (option_and_then colour_named (slice_get arguments 0))) d
 DecidesOn s Superko arguments content d = d ≡ decided_superko s s.moves (option_and_then rule_of (slice_get arguments 0))
 
 -- what may be decided on a name, which may be that of no command

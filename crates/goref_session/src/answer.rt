@@ -1,7 +1,7 @@
 ghost use Rattle.std.specs.Prelude.{◌≡◌, ◌++◌, codes};
 ghost use Rattle.go_board.specs.Device.{Sent, failures_after};
 ghost use Rattle.go_board.specs.Pens.{Writes};
-ghost use Rattle.goref_session.specs.Answers.{decision_text, fact_text, id_text, refusal_text};
+ghost use Rattle.goref_session.specs.Replies.{decision_text, fact_text, id_text, refusal_text};
 ghost use Rattle.goref_results.specs.Results.{result_text};
 
 use crate::commands::play::put_choice;

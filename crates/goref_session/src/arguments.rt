@@ -7,11 +7,11 @@ ghost use Rattle.go_sgf.specs.Numbers.{hundredths_by};
 ghost use Rattle.goref_session.specs.Record.{number_asked};
 ghost use Rattle.goref_session.specs.Setup.{rule_of};
 ghost use Rattle.go_board.specs.Decimals.{int_of};
-ghost use Rattle.goref_lines.specs.Words.{colour_spelled};
+ghost use Rattle.go_board.specs.Colours.{colour_named};
 
 use go_board::{Colour, Size, Vertex, VertexError, read_int, read_vertex};
 use go_game::Superko;
-use goref_lines::{Request, read_colour};
+use goref_lines::Request;
 
 pub fn int_argument(request: &Request, place: u16) -> Option<u32>
     ensures { result ≡ option_and_then int_of (slice_get request.now.arguments place) }
@@ -36,10 +36,10 @@ pub fn number_argument(request: &Request, place: u16) -> Option<Option<u32>>
 }
 
 pub fn colour_argument(request: &Request, place: u16) -> Option<Colour>
-    ensures { result ≡ option_and_then colour_spelled (slice_get request.now.arguments place) }
+    ensures { result ≡ option_and_then colour_named (slice_get request.now.arguments place) }
 {
     match request.argument(place) {
-        Some(word) => read_colour(word),
+        Some(word) => Colour::named(word),
         None => None,
     }
 }

@@ -1,5 +1,5 @@
 ghost use Rattle.std.specs.Prelude.{◌≡◌, option_copied};
-ghost use Rattle.goref_session.specs.Answers.{wanted};
+ghost use Rattle.goref_session.specs.Replies.{wanted};
 
 use crate::commands::record::{asks_to_load, load_asked};
 use goref_lines::{Line, Request};

@@ -1,9 +1,9 @@
 ghost use Rattle.std.specs.Prelude.{◌≡◌};
 ghost use Rattle.go_board.specs.Device.{failures_after};
 ghost use Rattle.go_game.specs.Standings.{Standing};
-ghost use Rattle.goref_session.specs.Answers.{DecidesLine, is_end, line_id};
+ghost use Rattle.goref_session.specs.Replies.{DecidesLine, is_end, line_id};
 ghost use Rattle.goref_session.specs.Contents.{content_of};
-ghost use Rattle.goref_session.specs.Replies.{Answered, flow_of};
+ghost use Rattle.goref_session.specs.Answered.{Answered, flow_of};
 ghost use Rattle.goref_session.specs.Starts.{begun};
 ghost use Rattle.goref_session.specs.Table.{Decides};
 

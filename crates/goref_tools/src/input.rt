@@ -1,4 +1,4 @@
-ghost use Rattle.std.specs.Prelude.{◌≡◌, ◌≤◌, ◌+◌, ◌⊎◌, IfErr, IfOk, ⊤};
+ghost use Rattle.std.specs.Prelude.{◌≡◌, ◌≤◌, ◌+◌, ◌⊎◌, IfErr, IfOk};
 ghost use Rattle.goref_tools.specs.Tools.{IsInput, Reads, read_failures_after};
 ghost use Rattle.goref_tools.specs.declared.error.ToolError.TheVariants.{Memory, Read};
 

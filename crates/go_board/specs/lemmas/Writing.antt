@@ -2,8 +2,8 @@
 use Rattle.std.specs.Prelude.{◌≡◌, ℕ, List, [], ◌++◌, Option, Some, None, Bool, true, false, if◌then◌else◌, refl, Result, Ok, Err}
 use Rattle.std.proofs.Common.{sym, ap, subst, append_assoc, ◌∙◌}
 use Rattle.std.proofs.lemmas.List.{append-nil}
-use Rattle.go_board.specs.Device.{then_bytes, TakesFront, Sent, failures_after, Wrote, Place, place, Adds}
-use Rattle.go_board.specs.Pens.{Writes, place_of}
+use Rattle.go_board.specs.Device.{then_bytes, TakesFront, Sent, failures_after}
+use Rattle.go_board.specs.Pens.{Wrote, Place, place, Adds, Writes, place_of}
 use Rattle.go_board.specs.declared.device.Sink.{Ghosts}
 use Rattle.go_board.specs.declared.device.WriteFault.{WriteFault}
 use Rattle.go_board.specs.declared.pen.Pen.{Pen}

@@ -5,7 +5,7 @@ use Rattle.std.specs.List.{range_with_len}
 use Rattle.go_board.specs.Points.{point_at}
 use Rattle.go_board.specs.Reaching.{points}
 use Rattle.go_chains.specs.inner.Parts.{is_in_part, points_left}
-use Rattle.go_chains.specs.Sound.{BoardValue}
+use Rattle.go_chains.specs.Boards.{BoardValue}
 use Rattle.go_chains.specs.declared.chain_points.Part.{Part}
 
 module _ (test : ℕ → Bool) where

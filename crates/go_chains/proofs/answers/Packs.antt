@@ -10,7 +10,7 @@ use Rattle.go_board.specs.declared.size.TheConstants.{MAX_LINES, MAX_POINTS}
 use Rattle.go_board.specs.Colours.{Colouring, colour_at}
 use Rattle.go_board.specs.Packs.{byte_of, code_of, packed_of, colour_coded}
 use Rattle.go_chains.specs.Cells.{code_at}
-use Rattle.go_chains.specs.Sound.{colouring_of}
+use Rattle.go_chains.specs.Boards.{colouring_of}
 use Rattle.go_chains.proofs.rules.Sound.{colouring-at, length-colouring}
 use Rattle.go_chains.proofs.answers.Queries.{code_none, zero_cell}
 

@@ -19,7 +19,8 @@ use Rattle.go_board.specs.Reaching.{is_liberty_of, joined, points}
 use Rattle.go_chains.specs.Cells.{code_at, label_of, lib_of, next_of, size_of, word_of}
 use Rattle.go_chains.specs.inner.Parts.{is_labelled}
 use Rattle.go_chains.specs.Rings.{ring_from}
-use Rattle.go_chains.specs.Sound.{IsKept, IsStoneOf, colouring_of}
+use Rattle.go_chains.specs.Sound.{IsKept}
+use Rattle.go_chains.specs.Boards.{IsStoneOf, colouring_of}
 use Rattle.go_chains.specs.inner.Tables.{IsStone, tables_of}
 use Rattle.go_chains.proofs.rules.Sound.{IsKept-tidy, colouring-at, far_stone, length-colouring, length-ring_from, of_stone, stone-kept, tidy-kept, colouring-inside}
 use Rattle.go_chains.proofs.rules.Counting.{counted}

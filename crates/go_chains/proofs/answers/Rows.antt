@@ -10,7 +10,7 @@ use Rattle.go_board.specs.declared.colour.Colour.{Colour}
 use Rattle.go_board.specs.Colours.{colour_at}
 use Rattle.go_board.specs.Packs.{colour_coded}
 use Rattle.go_chains.specs.Cells.{code_at}
-use Rattle.go_chains.specs.Sound.{colouring_of}
+use Rattle.go_chains.specs.Boards.{colouring_of}
 use Rattle.go_chains.proofs.rules.Sound.{colouring-at}
 
 -- one column more of a row

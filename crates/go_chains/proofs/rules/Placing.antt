@@ -12,7 +12,8 @@ use Rattle.go_board.specs.Packs.{code_of, colour_coded}
 use Rattle.go_chains.specs.inner.Beside.{AreBeside}
 use Rattle.go_chains.specs.Cells.{code_at, label_of, size_of}
 use Rattle.go_chains.specs.Playing.{stones_beside, stones_captured}
-use Rattle.go_chains.specs.Sound.{IsKept, colouring_of}
+use Rattle.go_chains.specs.Sound.{IsKept}
+use Rattle.go_chains.specs.Boards.{colouring_of}
 use Rattle.go_chains.specs.inner.Steps.{CountsTaken, IsCapturing, IsCleared, IsConnectedTo, IsPlaced}
 use Rattle.go_chains.specs.inner.Tables.{IsDead, IsStone, IsTidy, AreChainsWhole, Tables, tables_of}
 use Rattle.go_chains.proofs.rules.Sound.{IsKept-tidy, alive-kept, tidy-kept, whole-kept}

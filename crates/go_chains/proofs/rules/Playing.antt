@@ -12,7 +12,7 @@ use Rattle.go_board.specs.Paths.{IsAdjacent, Reaches}
 use Rattle.go_board.specs.Reaching.{after_clearing, cleared, has_colour, is_same, is_taken, reaches}
 use Rattle.go_board.specs.Packs.{colour_coded}
 use Rattle.go_chains.specs.Cells.{code_at}
-use Rattle.go_chains.specs.Sound.{colouring_of}
+use Rattle.go_chains.specs.Boards.{colouring_of}
 use Rattle.go_chains.specs.inner.Steps.{IsCleared}
 use Rattle.go_chains.specs.inner.Tables.{ReachesEmpty}
 use Rattle.go_chains.proofs.rules.Sound.{chain_of, colouring-at, colouring-inside, empty_of, length-colouring, of_chain, of_empty, value-injective}

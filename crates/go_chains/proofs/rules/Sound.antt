@@ -14,7 +14,8 @@ use Rattle.go_board.specs.Packs.{colour_coded}
 use Rattle.go_chains.specs.Rings.{steps, ring_from, IsOnRing}
 use Rattle.go_chains.specs.inner.Tables.{IsStone, Links, IsJoined, IsTidy, AreChainsWhole, tables_of}
 use Rattle.go_chains.specs.Cells.{code_at, label_of, next_of, size_of, lib_of}
-use Rattle.go_chains.specs.Sound.{AreSound, IsChainLiberty, IsKept, IsStoneOf, colouring_of}
+use Rattle.go_chains.specs.Sound.{AreSound, IsChainLiberty, IsKept}
+use Rattle.go_chains.specs.Boards.{IsStoneOf, colouring_of}
 use Rattle.go_chains.proofs.tables.Whole.{label-linked}
 
 pub length-ring_from : (next : ℕ → ℕ) (n p : ℕ) → length (ring_from next n p) ≡ n

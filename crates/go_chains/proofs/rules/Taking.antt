@@ -14,7 +14,7 @@ use Rattle.go_board.specs.Packs.{colour_coded}
 use Rattle.go_chains.specs.Cells.{code_at, label_of, next_of, size_of}
 use Rattle.go_chains.specs.Playing.{is_beside_own, stones_beside}
 use Rattle.go_chains.specs.Rings.{ring_from}
-use Rattle.go_chains.specs.Sound.{colouring_of}
+use Rattle.go_chains.specs.Boards.{colouring_of}
 use Rattle.go_chains.specs.inner.Steps.{CountsTaken}
 use Rattle.go_chains.specs.inner.Tables.{IsJoined, IsStone, IsTidy, Links, tables_of}
 use Rattle.go_chains.proofs.rules.Sound.{IsOn-Contains, chain_of, colouring-at, colouring-inside, length-ring_from, ring_from-apart}

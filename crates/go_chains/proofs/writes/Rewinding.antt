@@ -7,7 +7,7 @@ use Rattle.std.proofs.lemmas.List.Elements.{All-append}
 use Rattle.go_chains.specs.declared.cells.TheConstants.{COUNT}
 use Rattle.go_chains.specs.declared.change.Change.{Change}
 use Rattle.go_chains.specs.Cells.{CellsValue}
-use Rattle.go_chains.specs.Sound.{BoardValue}
+use Rattle.go_chains.specs.Boards.{BoardValue}
 
 -- of two lists of changes the second is put back first
 pub rewound-append : (cells : List ℕ) (xs ys : List Change) → rewound cells (xs ++ ys) ≡ rewound (rewound cells ys) xs

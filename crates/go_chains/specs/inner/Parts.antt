@@ -8,7 +8,7 @@ use Rattle.go_board.specs.Packs.{colour_coded}
 use Rattle.go_chains.specs.declared.chain_points.Part.{Part}
 use Rattle.go_chains.specs.declared.chain_points.Part.TheVariants.{Stones, Liberties}
 use Rattle.go_chains.specs.Cells.{code_at, label_of, lib_of}
-use Rattle.go_chains.specs.Sound.{BoardValue}
+use Rattle.go_chains.specs.Boards.{BoardValue}
 
 -- a point of this colour and label is a stone with label l
 abbrev pub is_labelled : Option Colour → ℕ → ℕ → Bool

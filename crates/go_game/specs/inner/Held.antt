@@ -10,14 +10,14 @@ use Rattle.go_board.specs.Colours.{Colouring, colour_at}
 use Rattle.go_board.specs.Grids.{GridValue}
 use Rattle.go_board.specs.Points.{IsOn, number_of}
 use Rattle.go_chains.specs.declared.change.Change.{Change}
-use Rattle.go_chains.specs.Sound.{BoardValue, IsKept, colouring_of}
+use Rattle.go_chains.specs.Sound.{IsKept}
+use Rattle.go_chains.specs.Boards.{BoardValue, colouring_of}
 use Rattle.go_history.specs.Histories.{HistoryValue}
 use Rattle.go_game.specs.declared.step.Step.{Step}
 use Rattle.go_game.specs.declared.superko.Superko.{Superko}
 use Rattle.go_game.specs.inner.Histories.{StandsFor}
 use Rattle.go_game.specs.Standings.{IsSound, Standing, after_move, stood_of}
-use Rattle.go_game.specs.Prisoners.{share_of}
-use Rattle.go_game.specs.Playing.{prisoners_of, taken_by}
+use Rattle.go_game.specs.Prisoners.{share_of, prisoners_of, taken_by}
 use Rattle.go_game.specs.inner.Trails.{WentThrough}
 
 abbrev pub made_of : Step → Move

@@ -9,7 +9,8 @@ use Rattle.go_board.specs.Reaching.{moved}
 use Rattle.go_chains.specs.declared.cells.TheConstants.{COUNT}
 use Rattle.go_chains.specs.declared.change.Change.{Change}
 use Rattle.go_chains.specs.Rewound.{NamesCells, rewound}
-use Rattle.go_chains.specs.Sound.{IsKept, colouring_of}
+use Rattle.go_chains.specs.Sound.{IsKept}
+use Rattle.go_chains.specs.Boards.{colouring_of}
 
 -- the turn leads from these cells to the next, and takes its changes off the front of the plays: a pass has none,
 -- and a play's changes put back give the cells before it

@@ -4,8 +4,8 @@ use Rattle.go_sgf.specs.Spelling.{without_space}
 use Rattle.go_sgf.specs.Stands.{State, StateAt, step, closed}
 use Rattle.go_sgf.specs.declared.error.SgfError.{SgfError}
 use Rattle.go_sgf.specs.declared.error.SgfError.TheVariants as error
-use Rattle.go_sgf.specs.declared.fault.Fault.{Fault}
-use Rattle.go_sgf.specs.declared.fault.Fault.TheVariants.{Memory, End, Unexpected, TooDeep}
+use Rattle.go_sgf.specs.declared.error.Fault.{Fault}
+use Rattle.go_sgf.specs.declared.error.Fault.TheVariants.{Memory, End, Unexpected, TooDeep}
 
 -- what comes of a step: what is left where the tree is whole, a fault, or what goes on
 abbrev pub outcome_on : ℕ → Option StateAt → ℕ → List ℕ → (StateAt → Result (List ℕ) Fault) → Result (List ℕ) Fault

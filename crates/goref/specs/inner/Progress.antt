@@ -9,8 +9,8 @@ use Rattle.goref_lines.specs.Kept.{Kept, kept}
 use Rattle.goref.specs.Lines.{lines, complete_lines, unfinished_line}
 use Rattle.goref_session.specs.Contents.{Content}
 use Rattle.goref.specs.Shelves.{Pair, then_pairs}
-use Rattle.goref_session.specs.Answers.{wanted}
-use Rattle.goref_session.specs.Replies.{Answered}
+use Rattle.goref_session.specs.Replies.{wanted}
+use Rattle.goref_session.specs.Answered.{Answered}
 use Rattle.goref.specs.Conversation.{AsksShelf, Conversation, Converses, BreaksOff}
 
 -- whatever follows from the standing now, all of it is one session from the first standing

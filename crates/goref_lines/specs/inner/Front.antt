@@ -1,7 +1,8 @@
 -- The words in which the private functions of a line say how it grows.
 use Rattle.std.specs.Prelude.{◌≡◌, ℕ, nat_lt, ◌&&◌, not, Bool, true, if◌then◌else◌, List, [], ◌∷◌, Option, Some, None, take, length}
 use Rattle.std.specs.List.{list_all}
-use Rattle.goref_lines.specs.Kept.{is_control_byte, is_hash, is_plain_space, spaced}
+use Rattle.goref_lines.specs.Kept.{is_control_byte, is_hash, spaced}
+use Rattle.goref_lines.specs.Words.{is_plain_space}
 use Rattle.goref_lines.specs.declared.line.TheConstants.{LINE_LIMIT}
 
 -- the front of a text that is kept, and whether the text is longer

@@ -5,7 +5,7 @@ ghost use Rattle.go_board.specs.Pens.{Writes};
 ghost use Rattle.go_board.specs.Vertices.{vertex_of, vertex_word};
 ghost use Rattle.goref_session.specs.Decisions.{MayDecide};
 ghost use Rattle.goref_session.specs.Play.{DecidesPlay, decided_choice, decided_genmove, decided_legal, decided_undo, move_refusal};
-ghost use Rattle.goref_lines.specs.Words.{colour_spelled};
+ghost use Rattle.go_board.specs.Colours.{colour_named};
 ghost use Rattle.goref_results.specs.Results.{result_text};
 
 use crate::arguments::{colour_argument, vertex_argument};
@@ -19,7 +19,7 @@ use std::alloc::Allocator;
 
 pub fn decide_play<A: Allocator + Copy>(game: &mut Game<A>, request: &Request) -> Decision
     ensures { DecidesPlay game.old.standing
-        (option_and_then colour_spelled (slice_get request.now.arguments 0))
+        (option_and_then colour_named (slice_get request.now.arguments 0))
         (option_and_then vertex_of (slice_get request.now.arguments 1))
         (record { decision = result; standing = game.new.standing }) }
 {
@@ -58,7 +58,7 @@ fn refusal_of(error: PlayError) -> Refusal
 
 pub fn decide_genmove<A: Allocator + Copy>(game: &mut Game<A>, request: &Request) -> Decision
     ensures { MayDecide game.old.standing (decided_genmove game.old.standing
-        (option_and_then colour_spelled (slice_get request.now.arguments 0)))
+        (option_and_then colour_named (slice_get request.now.arguments 0)))
         (record { decision = result; standing = game.new.standing }) }
 {
     match colour_argument(request, 0) {
@@ -84,7 +84,7 @@ fn play_choice<A: Allocator + Copy>(game: &mut Game<A>, colour: Colour) -> Decis
 /// `reg_genmove`: the choice is told, and isn't played.
 pub fn decide_choice<A: Allocator + Copy>(game: &mut Game<A>, request: &Request) -> Decision
     ensures { MayDecide game.old.standing (decided_choice game.old.standing
-        (option_and_then colour_spelled (slice_get request.now.arguments 0)))
+        (option_and_then colour_named (slice_get request.now.arguments 0)))
         (record { decision = result; standing = game.new.standing }) }
 {
     match colour_argument(request, 0) {
@@ -116,7 +116,7 @@ pub fn decide_undo<A: Allocator + Copy>(game: &mut Game<A>) -> Decision
 
 pub fn decide_legal<A: Allocator + Copy>(game: &mut Game<A>, request: &Request) -> Decision
     ensures { MayDecide game.old.standing (decided_legal game.old.standing
-        (option_and_then colour_spelled (slice_get request.now.arguments 0)))
+        (option_and_then colour_named (slice_get request.now.arguments 0)))
         (record { decision = result; standing = game.new.standing }) }
 {
     match colour_argument(request, 0) {

@@ -4,7 +4,7 @@ ghost use Rattle.std.specs.Option.{option_and_then};
 ghost use Rattle.go_game.specs.Standings.{Standing};
 ghost use Rattle.goref_session.specs.Time.{decided_left, decided_settings};
 ghost use Rattle.go_board.specs.Decimals.{int_of};
-ghost use Rattle.goref_lines.specs.Words.{colour_spelled};
+ghost use Rattle.go_board.specs.Colours.{colour_named};
 
 use crate::arguments::{colour_argument, int_argument};
 use crate::decision::{Decision, Refusal};
@@ -28,7 +28,7 @@ pub fn decide_settings(request: &Request) -> Decision
 
 pub fn decide_left(request: &Request) -> Decision
     ensures { (s : Standing) → record { decision = result; standing = s } ≡ decided_left s
-        (option_and_then colour_spelled (slice_get request.now.arguments 0))
+        (option_and_then colour_named (slice_get request.now.arguments 0))
         (option_and_then int_of (slice_get request.now.arguments 1))
         (option_and_then int_of (slice_get request.now.arguments 2)) }
 {

@@ -2,7 +2,7 @@ use Rattle.std.proofs.Common.{arith, ◌≡◌, ◌<◌, ◌≤◌, ◌+◌, ◌
 use Rattle.std.proofs.Math.ListN.{get_or}
 use Rattle.go_board.specs.Points.{number_of}
 use Rattle.go_board.specs.Colours.{colour_at}
-use Rattle.go_board.specs.Clearing.{is_area_marked}
+use Rattle.go_board.specs.inner.Areas.{is_area_marked}
 use Rattle.go_board.specs.Reaching.{is_area}
 use Rattle.go_board.proofs.Counted.{area_counted, area_is, area_more}
 use Rattle.go_board.proofs.plain.area_of.Goals as goal

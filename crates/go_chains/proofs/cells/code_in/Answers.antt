@@ -2,7 +2,7 @@ use Rattle.std.proofs.Common.{arith, ◌≡◌, ◌∙◌, ap, sym}
 use Rattle.go_board.specs.Colours.{colour_at}
 use Rattle.go_board.specs.declared.size.TheConstants.{MAX_LINES}
 use Rattle.go_board.specs.Packs.{code_of}
-use Rattle.go_chains.specs.Sound.{colouring_of}
+use Rattle.go_chains.specs.Boards.{colouring_of}
 use Rattle.go_chains.proofs.answers.Packs.{code-at, code-past}
 use Rattle.go_chains.proofs.cells.code_in.Goals as goal
 

@@ -2,7 +2,7 @@ use Rattle.std.proofs.Common.{arith, ◌*◌, inl, inr, sym}
 use Rattle.go_board.specs.Paths.{IsAdjacent}
 use Rattle.go_chains.specs.inner.Tables.{tables_of}
 use Rattle.go_chains.specs.Playing.{stones_beside, stones_captured}
-use Rattle.go_chains.specs.Sound.{colouring_of}
+use Rattle.go_chains.specs.Boards.{colouring_of}
 use Rattle.go_chains.proofs.rules.Sound.{tidy-kept}
 use Rattle.go_chains.proofs.writes.Editing.{Edited_next, Edited_within}
 use Rattle.go_chains.proofs.writes.Neighbours.{apart, inside}

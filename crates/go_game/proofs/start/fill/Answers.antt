@@ -1,5 +1,5 @@
 use Rattle.std.proofs.Common.{arith, ◌≡◌, ◌∙◌, ◌*◌, ℕ, ap}
-use Rattle.go_chains.specs.Sound.{grid_of}
+use Rattle.go_chains.specs.Boards.{grid_of}
 use Rattle.go_game.proofs.Building.{front_all, front_none}
 use Rattle.go_game.proofs.start.fill.Goals as goal
 

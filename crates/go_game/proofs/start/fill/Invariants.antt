@@ -1,5 +1,6 @@
 use Rattle.std.proofs.Common.{◌≡◌}
-use Rattle.go_chains.specs.Sound.{IsKept, grid_of}
+use Rattle.go_chains.specs.Sound.{IsKept}
+use Rattle.go_chains.specs.Boards.{grid_of}
 use Rattle.go_game.specs.inner.Building.{IsFront}
 use Rattle.go_game.proofs.start.fill.Given as goal
 

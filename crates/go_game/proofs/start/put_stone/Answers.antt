@@ -2,7 +2,7 @@ use Rattle.std.proofs.Common.{◌≡◌, ◌∙◌, ◌+◌, ◌*◌, ℕ, Some,
 use Rattle.go_board.specs.Colours.{colour_at}
 use Rattle.go_board.specs.Points.{number_of}
 use Rattle.go_board.specs.Reaching.{moved}
-use Rattle.go_chains.specs.Sound.{grid_of}
+use Rattle.go_chains.specs.Boards.{grid_of}
 use Rattle.go_game.specs.inner.Building.{IsFront}
 use Rattle.go_game.proofs.Building.{front_stone, moved_part}
 use Rattle.go_game.proofs.start.put_stone.Goals as goal

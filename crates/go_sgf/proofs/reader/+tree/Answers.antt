@@ -1,7 +1,7 @@
 use Rattle.std.proofs.Common.{◌≡◌, ◌<◌, ◌++◌, ℕ, map, sym, ap, subst, ◌∙◌, length, Err, arith}
 use Rattle.std.proofs.lemmas.Result.{err_from_is_err_and}
 use Rattle.std.specs.List.{flat_map}
-use Rattle.go_sgf.specs.declared.fault.Fault.TheVariants.{TooDeep}
+use Rattle.go_sgf.specs.declared.error.Fault.TheVariants.{TooDeep}
 use Rattle.go_sgf.specs.declared.limits.TheConstants.{MAX_DEPTH}
 use Rattle.go_sgf.specs.inner.Outcome.{outcome}
 use Rattle.go_sgf.specs.Spelling.{node_parts, parts}

@@ -1,4 +1,4 @@
-use Rattle.std.proofs.Common.{◌∙◌, [], ◌++◌, refl, sym, ap, arith}
+use Rattle.std.proofs.Common.{◌∙◌, [], ◌++◌, refl, sym, ap, arith, rules}
 use Rattle.std.proofs.lemmas.List.{append-nil, length-append}
 use Rattle.go_board.specs.Device.{after_bytes}
 use Rattle.go_board.specs.declared.device.Failed.{Failed}
@@ -77,3 +77,9 @@ loop-preserved g c =
       read_failures = c.in-Ok.ensures.failures ∙ now.read_failures;
       write_failures = c.in-Ok-More.ensures.failures ∙ now.write_failures;
     }
+
+pub returns-in-Err-clause-ok : goal.returns-in-Err-clause-ok
+returns-in-Err-clause-ok g c = search rules
+
+pub returns-in-Err-clause-read_failures : goal.returns-in-Err-clause-read_failures
+returns-in-Err-clause-read_failures g c = search rules

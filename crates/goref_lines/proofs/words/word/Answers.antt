@@ -3,7 +3,7 @@ use Rattle.std.specs.Prelude.{filter, slice_get}
 use Rattle.std.specs.List.{slice_split}
 use Rattle.std.proofs.lemmas.Iterator.Consumers.{nth_from_yields_List, YieldsList-from_filter, YieldsList-at}
 use Rattle.std.proofs.lemmas.Iterator.Splits.{YieldsList-from_slice_split}
-use Rattle.goref_lines.specs.Kept.{is_plain_space, has_bytes}
+use Rattle.goref_lines.specs.Words.{is_plain_space, has_bytes}
 use Rattle.goref_lines.proofs.Pushes.{has_bytes_is}
 use Rattle.goref_lines.proofs.words.word.Goals as goal
 

@@ -3,7 +3,7 @@ use Rattle.std.proofs.lemmas.List.{length-replicate}
 use Rattle.go_board.specs.declared.rows.TheConstants.{ROWS}
 use Rattle.go_board.specs.declared.colour.Colour.TheVariants.{Black, White}
 use Rattle.go_board.specs.Colours.{colour_at}
-use Rattle.go_chains.specs.Sound.{grid_of}
+use Rattle.go_chains.specs.Boards.{grid_of}
 use Rattle.go_chains.proofs.answers.Rows.{none_in, rows_more}
 use Rattle.go_chains.proofs.board.Board.area.Goals as goal
 

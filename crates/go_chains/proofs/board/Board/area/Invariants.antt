@@ -3,7 +3,7 @@ use Rattle.go_board.specs.declared.colour.Colour.TheVariants.{Black, White}
 use Rattle.go_board.specs.declared.rows.TheConstants.{ROWS}
 use Rattle.go_board.specs.Colours.{colour_at}
 use Rattle.go_board.specs.Rows.{IsIn}
-use Rattle.go_chains.specs.Sound.{grid_of}
+use Rattle.go_chains.specs.Boards.{grid_of}
 use Rattle.go_chains.proofs.board.Board.area.Given as goal
 
 abbrev pub invariant-loop-row : goal.invariant-loop-row

@@ -1,7 +1,7 @@
 use Rattle.std.proofs.Common.{◌≡◌, ◌*◌, ◌<◌, ◌+◌, ◌∙◌, ap, subst, sym, ℕ}
 use Rattle.go_board.specs.lemmas.Squares.{square-le}
 use Rattle.go_board.specs.Packs.{byte_of}
-use Rattle.go_chains.specs.Sound.{BoardValue, grid_of}
+use Rattle.go_chains.specs.Boards.{BoardValue, grid_of}
 use Rattle.go_chains.proofs.answers.Packs.{byte_within}
 use Rattle.go_chains.proofs.board.Board.byte_at.Goals as goal
 

@@ -1,6 +1,6 @@
 use Rattle.std.proofs.Common.{◌≡◌, ◌<◌, ◌*◌, ℕ, length}
 use Rattle.go_board.specs.Colours.{colour_at}
-use Rattle.go_chains.specs.Sound.{grid_of}
+use Rattle.go_chains.specs.Boards.{grid_of}
 use Rattle.go_chains.proofs.board.Board.grid.Given as goal
 
 abbrev pub invariant-loop-number : goal.invariant-loop-number

@@ -1,7 +1,7 @@
 use Rattle.std.proofs.Common.{◌≡◌, ◌∙◌, ◌/◌, ap, slice_index}
 use Rattle.go_board.specs.Points.{number_of}
 use Rattle.go_chains.specs.Cells.{word_of}
-use Rattle.go_chains.specs.Sound.{BoardValue}
+use Rattle.go_chains.specs.Boards.{BoardValue}
 use Rattle.go_chains.proofs.answers.Queries.{bit_read, liberty_answers}
 use Rattle.go_chains.proofs.board.Board.is_liberty.Goals as goal
 

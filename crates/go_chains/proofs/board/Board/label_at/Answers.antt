@@ -1,7 +1,7 @@
 use Rattle.std.proofs.Common.{arith, ◌≡◌, ap, sym, subst, ◌∙◌}
 use Rattle.go_board.specs.Points.{number_of}
 use Rattle.go_chains.specs.Cells.{label_of}
-use Rattle.go_chains.specs.Sound.{BoardValue, IsStoneOf, grid_of}
+use Rattle.go_chains.specs.Boards.{BoardValue, IsStoneOf, grid_of}
 use Rattle.go_chains.proofs.answers.Queries.{label-small}
 use Rattle.go_chains.proofs.board.Board.label_at.Goals as goal
 

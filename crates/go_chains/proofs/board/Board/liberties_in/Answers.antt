@@ -1,7 +1,7 @@
 use Rattle.std.proofs.Common.{arith, ◌≡◌, ◌<◌, ◌^◌, ◌∙◌, ap, bit_and, slice_index}
 use Rattle.std.proofs.lemmas.Nat.{and_le_l}
 use Rattle.go_chains.specs.Cells.{word_of}
-use Rattle.go_chains.specs.Sound.{BoardValue}
+use Rattle.go_chains.specs.Boards.{BoardValue}
 use Rattle.go_chains.proofs.answers.Liberties.{ones_counted}
 use Rattle.go_chains.proofs.board.Board.liberties_in.Goals as goal
 

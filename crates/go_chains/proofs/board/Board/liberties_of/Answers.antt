@@ -4,7 +4,7 @@ use Rattle.std.specs.List.{range_with_len}
 use Rattle.go_board.specs.Points.{number_of}
 use Rattle.go_board.specs.Reaching.{is_liberty_of}
 use Rattle.go_board.specs.declared.size.TheConstants.{MAX_POINTS}
-use Rattle.go_chains.specs.Sound.{grid_of}
+use Rattle.go_chains.specs.Boards.{grid_of}
 use Rattle.go_chains.specs.inner.Words.{free_in_word, is_marked_free}
 use Rattle.go_chains.proofs.answers.Liberties.{words_counted, words_more}
 use Rattle.go_chains.proofs.answers.Queries.{liberty_answers, points-kept}

@@ -1,7 +1,7 @@
 use Rattle.std.proofs.Common.{◌∙◌}
 use Rattle.go_board.specs.Points.{number_of}
 use Rattle.go_board.specs.Reaching.{is_liberty_of}
-use Rattle.go_chains.specs.Sound.{grid_of}
+use Rattle.go_chains.specs.Boards.{grid_of}
 use Rattle.go_chains.specs.declared.chain_points.Part.TheVariants.{Liberties}
 use Rattle.go_chains.proofs.answers.ChainPoints.{left-all}
 use Rattle.go_chains.proofs.answers.Queries.{liberty_answers}

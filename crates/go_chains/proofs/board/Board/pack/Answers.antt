@@ -6,7 +6,7 @@ use Rattle.std.proofs.Math.ListN.{length-set}
 use Rattle.go_board.specs.declared.pack.TheConstants.{PACK_BYTES}
 use Rattle.go_board.specs.PackBytes.{bytes_of}
 use Rattle.go_board.specs.Packs.{byte_of}
-use Rattle.go_chains.specs.Sound.{grid_of}
+use Rattle.go_chains.specs.Boards.{grid_of}
 use Rattle.go_chains.proofs.answers.Queries.{byte_none}
 use Rattle.go_chains.proofs.board.Board.pack.Goals as goal
 

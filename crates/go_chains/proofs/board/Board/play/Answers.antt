@@ -2,7 +2,7 @@ use Rattle.std.proofs.Common.{arith, ◌≡◌, ◌-◌, ◌∙◌, ℕ, ap, len
 use Rattle.go_board.specs.Points.{number_of}
 use Rattle.go_chains.specs.Playing.{most_of}
 use Rattle.go_chains.specs.Rewound.{Logged}
-use Rattle.go_chains.specs.Sound.{BoardValue, colouring_of, grid_of}
+use Rattle.go_chains.specs.Boards.{BoardValue, colouring_of, grid_of}
 use Rattle.go_chains.proofs.writes.Rewinding.{closed}
 use Rattle.go_chains.proofs.board.Board.play.Goals as goal
 

@@ -1,6 +1,7 @@
 use Rattle.std.proofs.Common.{sym, subst}
 use Rattle.go_chains.specs.Rewound.{rewound}
-use Rattle.go_chains.specs.Sound.{BoardValue, IsKept}
+use Rattle.go_chains.specs.Sound.{IsKept}
+use Rattle.go_chains.specs.Boards.{BoardValue}
 use Rattle.go_chains.proofs.answers.Queries.{last_split}
 use Rattle.go_chains.proofs.board.Board.rewind.Goals as goal
 

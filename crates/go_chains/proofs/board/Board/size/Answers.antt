@@ -1,5 +1,5 @@
 use Rattle.std.proofs.Common.{length, ap, sym, ◌∙◌}
-use Rattle.go_chains.specs.Sound.{grid_of}
+use Rattle.go_chains.specs.Boards.{grid_of}
 use Rattle.go_chains.proofs.rules.Sound.{length-colouring}
 use Rattle.go_chains.proofs.board.Board.size.Goals as goal
 

@@ -3,7 +3,7 @@ use Rattle.go_board.specs.declared.colour.Colour.TheVariants.{Black, White}
 use Rattle.go_board.specs.Colours.{colour_at}
 use Rattle.go_board.specs.Packs.{colour_coded}
 use Rattle.go_chains.specs.Cells.{code_at}
-use Rattle.go_chains.specs.Sound.{BoardValue, grid_of}
+use Rattle.go_chains.specs.Boards.{BoardValue, grid_of}
 use Rattle.go_chains.proofs.answers.Rows.{column_more, place_low, read_as}
 use Rattle.go_chains.proofs.board.Board.stones_in.Goals as goal
 

@@ -2,7 +2,7 @@ use Rattle.std.proofs.Common.{Some, ◌≡◌, ◌<◌, ◌*◌, ◌+◌, ◌↔
 use Rattle.std.specs.Int.{bit_at}
 use Rattle.go_board.specs.declared.colour.Colour.TheVariants.{Black, White}
 use Rattle.go_board.specs.Colours.{colour_at}
-use Rattle.go_chains.specs.Sound.{grid_of}
+use Rattle.go_chains.specs.Boards.{grid_of}
 use Rattle.go_chains.proofs.board.Board.stones_in.Given as goal
 
 abbrev pub invariant-loop-col : goal.invariant-loop-col

@@ -2,7 +2,7 @@ use Rattle.std.proofs.Common.{arith, ◌≡◌, ◌≤◌, ◌∙◌, ap}
 use Rattle.go_board.specs.Points.{number_of}
 use Rattle.go_board.specs.declared.size.TheConstants.{MAX_POINTS}
 use Rattle.go_chains.specs.Cells.{size_of}
-use Rattle.go_chains.specs.Sound.{BoardValue}
+use Rattle.go_chains.specs.Boards.{BoardValue}
 use Rattle.go_chains.proofs.answers.Queries.{size_counts, size_few}
 use Rattle.go_chains.proofs.board.Board.stones_of.Goals as goal
 

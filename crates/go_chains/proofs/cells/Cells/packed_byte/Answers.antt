@@ -2,7 +2,7 @@ use Rattle.std.proofs.Common.{◌∙◌, List, ap, slice_index, ℕ}
 use Rattle.go_board.specs.Packs.{byte_of}
 use Rattle.go_board.specs.declared.size.TheConstants.{MAX_LINES}
 use Rattle.go_chains.specs.Cells.{CellsValue}
-use Rattle.go_chains.specs.Sound.{colouring_of}
+use Rattle.go_chains.specs.Boards.{colouring_of}
 use Rattle.go_chains.proofs.answers.Packs.{byte-at}
 use Rattle.go_chains.proofs.cells.Cells.packed_byte.Goals as goal
 

@@ -3,7 +3,7 @@ use Rattle.go_board.specs.declared.size.TheConstants.{MAX_LINES}
 use Rattle.go_board.specs.Grids.{GridValue}
 use Rattle.go_board.specs.PackBytes.{bytes_of}
 use Rattle.go_board.specs.Packs.{packed_of}
-use Rattle.go_board.specs.Clearing.{AreAlive}
+use Rattle.go_board.specs.Living.{AreAlive}
 use Rattle.go_game.specs.Standings.{GameValue, Standing}
 use Rattle.go_game.proofs.Beginning.{keeping_anew}
 use Rattle.go_game.proofs.game.Game.begin_from.Goals as goal

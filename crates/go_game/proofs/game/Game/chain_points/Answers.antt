@@ -4,7 +4,7 @@ use Rattle.go_board.specs.declared.point.Point.{Point}
 use Rattle.go_board.specs.Chains.{members}
 use Rattle.go_board.specs.Colours.{Colouring, colour_at}
 use Rattle.go_board.specs.Points.{number_of, point_at}
-use Rattle.go_chains.specs.Sound.{grid_of}
+use Rattle.go_chains.specs.Boards.{grid_of}
 use Rattle.go_game.specs.Standings.{GameValue, board_of}
 use Rattle.go_game.proofs.Keeping.{seen_as, some_of}
 use Rattle.go_game.proofs.game.Game.chain_points.Goals as goal

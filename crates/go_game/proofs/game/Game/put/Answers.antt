@@ -3,11 +3,11 @@ use Rattle.go_board.specs.PackBytes.{bytes_of}
 use Rattle.std.proofs.Math.ListN.{length-map}
 use Rattle.go_board.specs.declared.vertex.Vertex.TheVariants.{At}
 use Rattle.go_board.specs.Points.{number_of}
-use Rattle.go_chains.specs.Sound.{grid_of}
+use Rattle.go_chains.specs.Boards.{grid_of}
 use Rattle.go_chains.specs.Playing.{most_of}
 use Rattle.go_game.specs.Counts.{IsLogged, most_for}
 use Rattle.go_game.specs.inner.Held.{IsPlayable, made_of}
-use Rattle.go_game.specs.Playing.{stones_taken}
+use Rattle.go_game.specs.Prisoners.{stones_taken}
 use Rattle.go_game.specs.Standings.{GameValue, IsLegal, IsRepeat, board_of, mover_by}
 use Rattle.go_game.proofs.Counting.{logged_put, seen, twice}
 use Rattle.go_game.proofs.Played.{room_held}

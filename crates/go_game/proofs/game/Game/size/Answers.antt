@@ -1,5 +1,6 @@
 use Rattle.std.proofs.Common.{◌≡◌, ◌∙◌, ap, length, map, sym, subst, rules}
-use Rattle.go_chains.specs.Sound.{IsKept, colouring_of}
+use Rattle.go_chains.specs.Sound.{IsKept}
+use Rattle.go_chains.specs.Boards.{colouring_of}
 use Rattle.go_game.specs.inner.Held.{made_of}
 use Rattle.go_game.specs.Standings.{GameValue, board_of}
 use Rattle.go_game.proofs.Counting.{as_many}

@@ -1,5 +1,5 @@
 use Rattle.std.proofs.Common.{◌≡◌, ap, Err, rules}
-use Rattle.go_game.specs.declared.errors.SetupError.TheVariants.{NoLiberty}
+use Rattle.go_game.specs.declared.error.SetupError.TheVariants.{NoLiberty}
 use Rattle.go_game.proofs.game.Game.start_from.Goals as goal
 
 pub returns-in-Err-clause-no_liberty : goal.returns-in-Err-clause-no_liberty

@@ -1,5 +1,5 @@
 ghost use Rattle.std.specs.Prelude.{◌≡◌};
-ghost use Rattle.go_chains.specs.declared.errors.PlaceError.TheVariants.{Memory};
+ghost use Rattle.go_chains.specs.declared.error.PlaceError.TheVariants.{Memory};
 
 use std::alloc::AllocError;
 use thiserror::Error;

@@ -1,6 +1,6 @@
 use Rattle.std.proofs.Common.{◌≡◌, ◌∙◌, sym}
 use Rattle.goref_lines.proofs.FirstWords.{first_word, behind_word, behind_spaces, word_comes, no_word_comes}
-use Rattle.goref_lines.proofs.cursor.Words.next_word.Goals as goal
+use Rattle.goref_lines.proofs.words.Words.next_word.Goals as goal
 
 pub returns-then-is_empty-clause-none : goal.returns-then-is_empty-clause-none
 returns-then-is_empty-clause-none c =

@@ -13,7 +13,8 @@ pub enum PlayError {
     /// The point is past the board's edge.
     #[error("the point is off the board")]
     OffBoard,
-    /// The play repeats the colouring that stood first after this many moves.
+    /// The play leaves what the superko rule saw before, a position or a situation, which stood
+    /// first after this many moves.
     #[error("the play repeats the position after {0} moves")]
     Repeats(usize),
     /// There was no memory for the move.
@@ -33,7 +34,7 @@ pub enum SetupError {
 }
 
 impl From<AllocError> for SetupError {
-    ghost use Rattle.go_game.specs.declared.errors.SetupError.TheVariants.{Memory};
+    ghost use Rattle.go_game.specs.declared.error.SetupError.TheVariants.{Memory};
 
     ghost from_gives = { λ _ error. error ≡ Memory };
 
