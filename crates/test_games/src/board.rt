@@ -18,49 +18,73 @@ fn point(rt: &impl Abort, size: Size, word: &[u8]) -> Point
     }
 }
 
-fn play(rt: &impl Abort, grid: &mut Grid, colour: Colour, word: &[u8]) -> Taken {
-    let at = point(rt, grid.size(), word);
-    place(grid, colour, at)
+/// A play: its colour, the word of its point, and the stones that it takes.
+type Play = (Colour, &'static [u8], Taken);
+
+const NONE: Taken = Taken { theirs: 0, own: 0 };
+
+/// Makes each play, and asserts how many stones it takes.
+fn plays(rt: &impl Abort, grid: &mut Grid, steps: &[Play]) {
+    for (number, (colour, word, taken)) in steps.iter().enumerate() {
+        let at = point(rt, grid.size(), word);
+        assert!(rt; place(grid, *colour, at) == *taken, "play {number}");
+    }
 }
 
-fn colour_at(rt: &impl Abort, grid: &Grid, word: &[u8]) -> Option<Colour> {
-    grid.get(point(rt, grid.size(), word))
+/// Asserts which colour stands at each of these points, if one does.
+fn shows(rt: &impl Abort, grid: &Grid, colours: &[(&'static [u8], Option<Colour>)]) {
+    for (number, (word, colour)) in colours.iter().enumerate() {
+        let at = point(rt, grid.size(), word);
+        assert!(rt; grid.get(at) == *colour, "point {number}");
+    }
 }
 
-/// Asserts how many stones a play takes.
-fn takes(rt: &impl Abort, grid: &mut Grid, colour: Colour, word: &[u8], taken: Taken) {
-    assert!(rt; play(rt, grid, colour, word) == taken);
-}
-
-/// Asserts which colour stands at a point, if one does.
-fn shows(rt: &impl Abort, grid: &Grid, word: &[u8], colour: Option<Colour>) {
-    assert!(rt; colour_at(rt, grid, word) == colour);
-}
+/// How many points a board of so many lines has, if there is one.
+const SIZES: &[(u8, Option<u16>)] = &[
+    (0, None),
+    (1, Some(1)),
+    (19, Some(361)),
+    (25, Some(625)),
+    (26, None),
+];
 
 #[test]
 fn sizes(rt: HostRuntime) {
-    assert!(rt; Size::new(0).is_none());
-    assert!(rt; Size::new(1).is_some());
-    assert!(rt; Size::new(25).is_some());
-    assert!(rt; Size::new(26).is_none());
-    assert_eq!(rt; size_of(&rt, 1).points(), 1);
-    assert_eq!(rt; size_of(&rt, 19).points(), 361);
-    assert_eq!(rt; size_of(&rt, 25).points(), 625);
+    for (lines, points) in SIZES {
+        let size = Size::new(*lines);
+        assert!(rt; size.map(|size| size.points()) == *points, "{lines} lines");
+    }
 }
+
+/// A word, and the vertex that it spells or why it spells none.
+type Reading = (&'static [u8], Result<Vertex, VertexError>);
+
+/// Asserts what words spell on so many lines.
+fn reads(rt: &impl Abort, lines: u8, readings: &[Reading]) {
+    let size = size_of(rt, lines);
+    for (number, (word, vertex)) in readings.iter().enumerate() {
+        assert!(rt; read_vertex(word, size) == *vertex, "word {number}");
+    }
+}
+
+const LAST: Point = Point { col: 24, row: 24 };
+
+const ON_THE_LARGEST_BOARD: &[Reading] = &[
+    (b"z25", Ok(Vertex::At(LAST))),
+    (b"Z26", Err(VertexError::Malformed)),
+];
 
 #[test]
 fn the_last_point_of_the_largest_board(rt: HostRuntime) {
     let size = size_of(&rt, 25);
-    let last = Point { col: 24, row: 24 };
-    assert!(rt; last.on(size));
+    assert!(rt; LAST.on(size));
     assert!(rt; !Point { col: 25, row: 24 }.on(size));
     assert!(rt; !Point { col: 24, row: 25 }.on(size));
-    assert!(rt; Point::nth(size, 624) == Some(last));
+    assert!(rt; Point::nth(size, 624) == Some(LAST));
     assert!(rt; Point::nth(size, 625).is_none());
-    assert!(rt; read_vertex(b"z25", size) == Ok(Vertex::At(last)));
-    assert!(rt; read_vertex(b"Z26", size) == Err(VertexError::Malformed));
-    assert!(rt; read_vertex(b"Z25", size_of(&rt, 24)) == Err(VertexError::OffBoard));
-    assert!(rt; vertex_text(Vertex::At(last)).as_str() == "Z25");
+    reads(&rt, 25, ON_THE_LARGEST_BOARD);
+    reads(&rt, 24, &[(b"Z25", Err(VertexError::OffBoard))]);
+    assert!(rt; vertex_text(Vertex::At(LAST)).as_str() == "Z25");
     has_neighbours(
         &rt,
         size,
@@ -69,50 +93,32 @@ fn the_last_point_of_the_largest_board(rt: HostRuntime) {
     );
 }
 
+const CORNER: Vertex = Vertex::At(Point { col: 0, row: 4 });
+
+const ON_NINE_LINES: &[Reading] = &[
+    (b"A05", Ok(CORNER)),
+    (b"a5", Ok(CORNER)),
+    (b"j9", Ok(Vertex::At(Point { col: 8, row: 8 }))),
+    (b"pAsS", Ok(Vertex::Pass)),
+    (b"k1", Err(VertexError::OffBoard)),
+    (b"a25", Err(VertexError::OffBoard)),
+    (b"t19", Err(VertexError::OffBoard)),
+    (b"Z25", Err(VertexError::OffBoard)),
+];
+
 #[test]
 fn vertices(rt: HostRuntime) {
-    let nine = size_of(&rt, 9);
-    let corner = Ok(Vertex::At(Point { col: 0, row: 4 }));
-    assert!(rt; read_vertex(b"A05", nine) == corner);
-    assert!(rt; read_vertex(b"a5", nine) == corner);
-    assert!(rt; read_vertex(b"j9", nine) == Ok(Vertex::At(Point { col: 8, row: 8 })));
-    assert!(rt; read_vertex(b"pAsS", nine) == Ok(Vertex::Pass));
-    for word in [
-        b"k1".as_slice(),
-        b"a25".as_slice(),
-        b"t19".as_slice(),
-        b"Z25".as_slice(),
-    ] {
-        assert!(rt; read_vertex(word, nine) == Err(VertexError::OffBoard));
-    }
+    reads(&rt, 9, ON_NINE_LINES);
 }
+
+const MALFORMED: &[&[u8]] = &[
+    b"", b"a", b"i5", b"I5", b"a26", b"a0", b"a00", b"5b", b"a123", b"a5b", b"a-1", b"passs",
+];
 
 #[test]
 fn malformed_vertices(rt: HostRuntime) {
-    let nine = size_of(&rt, 9);
-    for word in [
-        b"".as_slice(),
-        b"a".as_slice(),
-        b"i5".as_slice(),
-        b"I5".as_slice(),
-    ] {
-        assert!(rt; read_vertex(word, nine) == Err(VertexError::Malformed));
-    }
-    for word in [
-        b"a26".as_slice(),
-        b"a0".as_slice(),
-        b"a00".as_slice(),
-        b"5b".as_slice(),
-    ] {
-        assert!(rt; read_vertex(word, nine) == Err(VertexError::Malformed));
-    }
-    for word in [
-        b"a123".as_slice(),
-        b"a5b".as_slice(),
-        b"a-1".as_slice(),
-        b"passs".as_slice(),
-    ] {
-        assert!(rt; read_vertex(word, nine) == Err(VertexError::Malformed));
+    for word in MALFORMED {
+        reads(&rt, 9, &[(word, Err(VertexError::Malformed))]);
     }
 }
 
@@ -150,57 +156,45 @@ fn neighbours_in_order(rt: HostRuntime) {
     has_neighbours(&rt, size_of(&rt, 1), b"a1", [].as_slice());
 }
 
+const CAPTURE: &[Play] = &[
+    (Colour::Black, b"A1", NONE),
+    (Colour::White, b"B1", NONE),
+    (Colour::White, b"A2", Taken { theirs: 1, own: 0 }),
+];
+
+const CAPTURED: &[(&[u8], Option<Colour>)] = &[
+    (b"A1", None),
+    (b"B1", Some(Colour::White)),
+    (b"A2", Some(Colour::White)),
+    (b"B2", None),
+];
+
 #[test]
 fn two_by_two_capture(rt: HostRuntime) {
     let mut grid = Grid::new(size_of(&rt, 2));
-    takes(
-        &rt,
-        &mut grid,
-        Colour::Black,
-        b"A1",
-        Taken { theirs: 0, own: 0 },
-    );
-    takes(
-        &rt,
-        &mut grid,
-        Colour::White,
-        b"B1",
-        Taken { theirs: 0, own: 0 },
-    );
-    takes(
-        &rt,
-        &mut grid,
-        Colour::White,
-        b"A2",
-        Taken { theirs: 1, own: 0 },
-    );
-    shows(&rt, &grid, b"A1", None);
-    shows(&rt, &grid, b"B1", Some(Colour::White));
-    shows(&rt, &grid, b"A2", Some(Colour::White));
-    shows(&rt, &grid, b"B2", None);
+    plays(&rt, &mut grid, CAPTURE);
+    shows(&rt, &grid, CAPTURED);
 }
+
+const SUICIDE: &[Play] = &[
+    (Colour::Black, b"A1", NONE),
+    (Colour::White, b"A2", NONE),
+    (Colour::White, b"B2", NONE),
+    (Colour::White, b"C1", NONE),
+    (Colour::Black, b"B1", Taken { theirs: 0, own: 2 }),
+];
+
+const AFTER_SUICIDE: &[(&[u8], Option<Colour>)] = &[
+    (b"A1", None),
+    (b"B1", None),
+    (b"C1", Some(Colour::White)),
+];
 
 #[test]
 fn suicide_of_several(rt: HostRuntime) {
     let mut grid = Grid::new(size_of(&rt, 3));
-    for (colour, word) in [
-        (Colour::Black, b"A1".as_slice()),
-        (Colour::White, b"A2".as_slice()),
-        (Colour::White, b"B2".as_slice()),
-        (Colour::White, b"C1".as_slice()),
-    ] {
-        takes(&rt, &mut grid, colour, word, Taken { theirs: 0, own: 0 });
-    }
-    takes(
-        &rt,
-        &mut grid,
-        Colour::Black,
-        b"B1",
-        Taken { theirs: 0, own: 2 },
-    );
-    shows(&rt, &grid, b"A1", None);
-    shows(&rt, &grid, b"B1", None);
-    shows(&rt, &grid, b"C1", Some(Colour::White));
+    plays(&rt, &mut grid, SUICIDE);
+    shows(&rt, &grid, AFTER_SUICIDE);
     let a2 = point(&rt, grid.size(), b"A2");
     assert!(rt; same_chain(&grid, a2, point(&rt, grid.size(), b"B2")));
     assert!(rt; !same_chain(&grid, a2, point(&rt, grid.size(), b"C1")));
@@ -215,7 +209,7 @@ fn has_areas(rt: &impl Abort, grid: &Grid, black: u16, white: u16) {
 fn area_of_one_stone(rt: HostRuntime) {
     let mut grid = Grid::new(size_of(&rt, 9));
     has_areas(&rt, &grid, 0, 0);
-    let _ = play(&rt, &mut grid, Colour::Black, b"E5");
+    plays(&rt, &mut grid, &[(Colour::Black, b"E5", NONE)]);
     has_areas(&rt, &grid, 81, 0);
     assert!(rt; first_dead(&grid).is_none());
 }

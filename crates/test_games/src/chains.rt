@@ -7,7 +7,7 @@ use go_board::{Colour, Grid, Meter, Point, Size, plain};
 use go_chains::{Board, Log, PlaceError};
 use rand_core::Rng;
 use rand_pcg::Pcg32;
-use std::alloc::Allocator;
+use std::alloc::{Allocator, Global};
 use std::process::Abort;
 use test_allocator::Failing;
 
@@ -133,7 +133,7 @@ fn explore<A: Allocator + Copy>(
 }
 
 /// Explores a board of so many lines, from no stone.
-fn explore_board(rt: &impl Abort, alloc: impl Allocator + Copy, lines: u8, left: u32, depth: u16) {
+fn explore_board(rt: &impl Abort, alloc: Global, lines: u8, left: u32, depth: u16) {
     let size = size_of(rt, lines);
     let mut board = Board::new(size);
     let mut log = Log::new(alloc);
@@ -229,12 +229,18 @@ fn script<A: Allocator + Copy>(rt: &impl Abort, board: &mut Board, log: &mut Log
     refused
 }
 
-/// Whether the script comes to a request for memory with this number; that one alone is refused.
-fn meets_request(rt: &impl Abort, alloc: impl Allocator + Copy, number: u64) -> bool {
-    let failing = Failing::new(alloc, number);
+/// The script on four lines, with a log that takes its memory from here. How many plays were
+/// refused.
+fn script_by(rt: &impl Abort, alloc: impl Allocator + Copy) -> u32 {
     let mut board = Board::new(size_of(rt, 4));
-    let mut log = Log::new(&failing);
-    let refused = script(rt, &mut board, &mut log);
+    let mut log = Log::new(alloc);
+    script(rt, &mut board, &mut log)
+}
+
+/// Whether the script comes to a request for memory with this number; that one alone is refused.
+fn meets_request(rt: &impl Abort, alloc: Global, number: u64) -> bool {
+    let failing = Failing::new(alloc, number);
+    let refused = script_by(rt, &failing);
     let is_met = !failing.waits();
     assert_eq!(rt; refused, u32::from(is_met), "request {number}");
     is_met

@@ -1,4 +1,4 @@
-use crate::games::{plays_at, size_of, turn};
+use crate::games::{CAPTURE, Step, example, follow, size_of};
 use crate::twins::{assert_same, assert_whole, plays};
 use go_board::{Colour, Move, Point, Taken, Vertex};
 use go_game::Game;
@@ -6,78 +6,64 @@ use std::alloc::{AllocError, Allocator, Global};
 use std::process::Abort;
 use test_allocator::Failing;
 
-/// The colour's choice is what the word spells, and it is played.
-fn chooses<A: Allocator + Copy>(
-    rt: &impl Abort,
-    game: &mut Game<A>,
-    colour: Colour,
-    word: &[u8],
-) -> Taken {
-    let made = turn(rt, game.size(), colour, word);
-    assert!(rt; game.choose(colour).expect(rt, "memory") == made.vertex);
-    game.play(made).expect(rt, "a legal move")
-}
+const ON_ONE_POINT: &[Step] = &[
+    Step::Chooses(Colour::Black, b"pass"),
+    Step::Forbids(Colour::Black, b"a1"),
+];
 
-/// Whether a colour may play where the word says.
-pub fn is_legal<A: Allocator + Copy>(
-    rt: &impl Abort,
-    game: &mut Game<A>,
-    colour: Colour,
-    word: &[u8],
-) -> bool {
-    let made = turn(rt, game.size(), colour, word);
-    game.legal(made).expect(rt, "memory")
-}
+const ON_THREE_LINES: &[Step] = &[
+    Step::Chooses(Colour::Black, b"B2"),
+    Step::HasTaken { black: 0, moves: 0 },
+    Step::Chooses(Colour::Black, b"B2"),
+    Step::Plays(Colour::Black, b"B2"),
+    Step::Chooses(Colour::White, b"A1"),
+    Step::Plays(Colour::White, b"A1"),
+];
 
 #[test]
 fn choice_on_tiny_boards(rt: HostRuntime) {
     let mut game = Game::new(rt.alloc(), size_of(&rt, 1));
-    assert!(rt; game.choose(Colour::Black).expect(&rt, "memory") == Vertex::Pass);
-    assert!(rt; !is_legal(&rt, &mut game, Colour::Black, b"a1"));
-
+    follow(&rt, &mut game, ON_ONE_POINT);
     game.resize(size_of(&rt, 3));
-    let centre = turn(&rt, game.size(), Colour::Black, b"B2").vertex;
-    assert!(rt; game.choose(Colour::Black).expect(&rt, "memory") == centre);
-    assert_eq!(rt; game.move_count(), 0);
-    chooses(&rt, &mut game, Colour::Black, b"B2");
-    chooses(&rt, &mut game, Colour::White, b"A1");
+    follow(&rt, &mut game, ON_THREE_LINES);
     assert!(rt; game.margin() == 0);
 }
+
+const ON_TWO_LINES: &[Step] = &[
+    Step::Chooses(Colour::Black, b"A1"),
+    Step::Plays(Colour::Black, b"A1"),
+    Step::Chooses(Colour::White, b"B2"),
+    Step::Plays(Colour::White, b"B2"),
+    Step::Chooses(Colour::Black, b"B1"),
+    Step::Plays(Colour::Black, b"B1"),
+    Step::Chooses(Colour::White, b"A2"),
+    Step::Takes(Colour::White, b"A2", Taken { theirs: 2, own: 0 }),
+    Step::Chooses(Colour::Black, b"A1"),
+    Step::Plays(Colour::Black, b"A1"),
+];
 
 #[test]
 fn choice_on_two_lines(rt: HostRuntime) {
     let mut game = Game::new(rt.alloc(), size_of(&rt, 2));
-    let none = Taken { theirs: 0, own: 0 };
-    assert!(rt; chooses(&rt, &mut game, Colour::Black, b"A1") == none);
-    assert!(rt; chooses(&rt, &mut game, Colour::White, b"B2") == none);
-    assert!(rt; chooses(&rt, &mut game, Colour::Black, b"B1") == none);
-    assert!(rt; chooses(&rt, &mut game, Colour::White, b"A2") == Taken { theirs: 2, own: 0 });
-    assert!(rt; chooses(&rt, &mut game, Colour::Black, b"A1") == none);
+    follow(&rt, &mut game, ON_TWO_LINES);
     for _ in 0..5 {
         assert!(rt; game.undo().is_some());
     }
     assert!(rt; game.undo().is_none());
 }
 
-/// Asserts on which points of two lines a colour may play: on A1, B1, A2 and B2, in this order.
-fn has_legal<A: Allocator + Copy>(
-    rt: &impl Abort,
-    game: &mut Game<A>,
-    colour: Colour,
-    legal: [bool; 4],
-) {
-    let [first, second, third, fourth] = legal;
-    assert!(rt; is_legal(rt, game, colour, b"A1") == first);
-    assert!(rt; is_legal(rt, game, colour, b"B1") == second);
-    assert!(rt; is_legal(rt, game, colour, b"A2") == third);
-    assert!(rt; is_legal(rt, game, colour, b"B2") == fourth);
-}
+const ALL_OPEN: &[Step] = &[
+    Step::Allows(Colour::White, b"A1"),
+    Step::Allows(Colour::White, b"B1"),
+    Step::Allows(Colour::White, b"A2"),
+    Step::Allows(Colour::White, b"B2"),
+    Step::Allows(Colour::White, b"pass"),
+];
 
 #[test]
 fn legal_plays_on_two_lines(rt: HostRuntime) {
     let mut game = Game::new(rt.alloc(), size_of(&rt, 2));
-    has_legal(&rt, &mut game, Colour::White, [true; 4]);
-    assert!(rt; is_legal(&rt, &mut game, Colour::White, b"pass"));
+    follow(&rt, &mut game, ALL_OPEN);
     let off = Move {
         colour: Colour::White,
         vertex: Vertex::At(Point { col: 2, row: 0 }),
@@ -86,24 +72,31 @@ fn legal_plays_on_two_lines(rt: HostRuntime) {
     assert_eq!(rt; game.move_count(), 0);
 }
 
+const AFTER_A_CAPTURE: &[Step] = &[
+    Step::Forbids(Colour::Black, b"A1"),
+    Step::Forbids(Colour::Black, b"B1"),
+    Step::Forbids(Colour::Black, b"A2"),
+    Step::Forbids(Colour::Black, b"B2"),
+    Step::Allows(Colour::White, b"A1"),
+    Step::Forbids(Colour::White, b"B1"),
+    Step::Forbids(Colour::White, b"A2"),
+    Step::Allows(Colour::White, b"B2"),
+    Step::Chooses(Colour::Black, b"pass"),
+    Step::HasTaken { black: 1, moves: 3 },
+];
+
 #[test]
 fn legal_plays_after_a_capture(rt: HostRuntime) {
-    let mut game = Game::new(rt.alloc(), size_of(&rt, 2));
-    plays_at(&rt, &mut game, Colour::Black, b"A1");
-    plays_at(&rt, &mut game, Colour::White, b"B1");
-    plays_at(&rt, &mut game, Colour::White, b"A2");
-    has_legal(&rt, &mut game, Colour::Black, [false; 4]);
-    has_legal(&rt, &mut game, Colour::White, [true, false, false, true]);
-    assert!(rt; game.choose(Colour::Black).expect(&rt, "memory") == Vertex::Pass);
-    assert_eq!(rt; game.move_count(), 3);
+    let game = Game::new(rt.alloc(), size_of(&rt, 2));
+    example(&rt, game, &[CAPTURE, AFTER_A_CAPTURE]);
 }
 
 /// Asks for the choice, which is this move; and again where there was no memory. How many times
 /// there was none. The game answers as its twin does, before and after.
-fn asks_choice<A: Allocator + Copy, B: Allocator + Copy>(
+fn asks_choice<A: Allocator + Copy>(
     rt: &impl Abort,
     game: &mut Game<A>,
-    twin: &mut Game<B>,
+    twin: &mut Game<Global>,
     made: Move,
 ) -> u32 {
     let mut refused = 0u32;
@@ -117,10 +110,10 @@ fn asks_choice<A: Allocator + Copy, B: Allocator + Copy>(
 }
 
 /// Asks whether a move is legal, as it is; else as `asks_choice`.
-fn asks_legal<A: Allocator + Copy, B: Allocator + Copy>(
+fn asks_legal<A: Allocator + Copy>(
     rt: &impl Abort,
     game: &mut Game<A>,
-    twin: &mut Game<B>,
+    twin: &mut Game<Global>,
     made: Move,
 ) -> u32 {
     let mut refused = 0u32;
@@ -134,10 +127,10 @@ fn asks_legal<A: Allocator + Copy, B: Allocator + Copy>(
 }
 
 /// Asks for a move, and plays it in both games. How many calls were refused.
-fn asks_and_plays<A: Allocator + Copy, B: Allocator + Copy>(
+fn asks_and_plays<A: Allocator + Copy>(
     rt: &impl Abort,
     game: &mut Game<A>,
-    twin: &mut Game<B>,
+    twin: &mut Game<Global>,
     made: Move,
     is_chosen: bool,
 ) -> u32 {
@@ -159,9 +152,9 @@ const A2: Point = Point { col: 0, row: 1 };
 const B2: Point = Point { col: 1, row: 1 };
 
 /// Five moves on two lines, each asked for and then played. How many calls were refused.
-fn five_moves<A: Allocator + Copy, B: Allocator + Copy>(
+fn five_moves<A: Allocator + Copy>(
     rt: &impl Abort,
-    alloc: B,
+    alloc: Global,
     game: &mut Game<A>,
     is_chosen: bool,
 ) -> u32 {
@@ -178,11 +171,21 @@ fn five_moves<A: Allocator + Copy, B: Allocator + Copy>(
     refused
 }
 
+/// The five moves in a game that takes its memory from here. How many calls were refused.
+fn five_moves_by(
+    rt: &impl Abort,
+    alloc: Global,
+    failing: impl Allocator + Copy,
+    is_chosen: bool,
+) -> u32 {
+    let mut game = Game::new(failing, size_of(rt, 2));
+    five_moves(rt, alloc, &mut game, is_chosen)
+}
+
 /// Whether the five moves come to a request for memory with this number; that one alone is refused.
 fn meets_request(rt: &impl Abort, alloc: Global, number: u64, is_chosen: bool) -> bool {
     let failing = Failing::new(alloc, number);
-    let mut game = Game::new(&failing, size_of(rt, 2));
-    let refused = five_moves(rt, alloc, &mut game, is_chosen);
+    let refused = five_moves_by(rt, alloc, &failing, is_chosen);
     let is_met = !failing.waits();
     assert_eq!(rt; refused, u32::from(is_met), "request {number}");
     is_met

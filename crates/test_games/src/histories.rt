@@ -38,6 +38,18 @@ fn history_of(rt: &impl Abort, alloc: Global, moves: u16) -> Result<History<Glob
     Ok(history)
 }
 
+/// A note: the stone and the mover of its key, its number, and the number that is found.
+type Note = (u16, Option<Colour>, usize, Option<usize>);
+
+/// Makes each note, and asserts what is found.
+fn notes(rt: &impl Abort, history: &mut History<Global>, notes: &[Note]) -> Result<(), AllocError> {
+    for (stone, mover, number, stood) in notes {
+        let found = history.note(&key_before(rt, *stone, *mover), *number)?;
+        assert!(rt; found == *stood, "stone {stone}, number {number}");
+    }
+    Ok(())
+}
+
 #[test]
 fn what_is_noted_is_found(rt: HostRuntime) -> Result<(), Fail> {
     let mut history = history_of(&rt, rt.alloc(), 300)?;
@@ -85,33 +97,43 @@ fn begun_anew_the_start_alone_is_found(rt: HostRuntime) -> Result<(), Fail> {
     Ok(())
 }
 
+/// Numbers that other keys have.
+const OTHER_NUMBERS: &[(u16, usize)] = &[(3, 0), (3, 3), (3, 5), (3, 9), (NO_STONE, 0)];
+
+const STILL_FOUND: &[Note] = &[(3, None, 10, Some(4)), (NO_STONE, None, 10, Some(0))];
+
 #[test]
 fn another_number_is_not_taken_back(rt: HostRuntime) -> Result<(), Fail> {
     let mut history = history_of(&rt, rt.alloc(), 9)?;
-    for number in [0, 3, 5, 9] {
-        history.forget_at(&key_with(&rt, 3), number);
+    for (stone, number) in OTHER_NUMBERS {
+        history.forget_at(&key_with(&rt, *stone), *number);
     }
-    history.forget_at(&key_with(&rt, NO_STONE), 0);
-    assert!(rt; history.note(&key_with(&rt, 3), 10)? == Some(4));
-    assert!(rt; history.note(&key_with(&rt, NO_STONE), 10)? == Some(0));
+    notes(&rt, &mut history, STILL_FOUND)?;
     history.forget_at(&key_with(&rt, 3), 4);
-    assert!(rt; history.note(&key_with(&rt, 3), 10)?.is_none());
+    notes(&rt, &mut history, &[(3, None, 10, None)])?;
     Ok(())
 }
 
+/// After a start with Black to move: the same stone with each mover.
+const EACH_MOVER: &[Note] = &[
+    (5, Some(Colour::White), 1, None),
+    (5, None, 2, None),
+    (5, Some(Colour::Black), 3, Some(0)),
+    (5, Some(Colour::White), 3, Some(1)),
+    (5, None, 3, Some(2)),
+];
+
+const WHITE_FORGOTTEN: &[Note] = &[
+    (5, Some(Colour::Black), 3, Some(0)),
+    (5, None, 3, Some(2)),
+    (5, Some(Colour::White), 3, None),
+];
+
 #[test]
 fn movers_are_told_apart(rt: HostRuntime) -> Result<(), Fail> {
-    let start = key_before(&rt, 5, Some(Colour::Black));
-    let mut history = History::new(rt.alloc(), start);
-    let white = key_before(&rt, 5, Some(Colour::White));
-    assert!(rt; history.note(&white, 1)?.is_none());
-    assert!(rt; history.note(&key_with(&rt, 5), 2)?.is_none());
-    assert!(rt; history.note(&start, 3)? == Some(0));
-    assert!(rt; history.note(&white, 3)? == Some(1));
-    assert!(rt; history.note(&key_with(&rt, 5), 3)? == Some(2));
-    history.forget(&white);
-    assert!(rt; history.note(&start, 3)? == Some(0));
-    assert!(rt; history.note(&key_with(&rt, 5), 3)? == Some(2));
-    assert!(rt; history.note(&white, 3)?.is_none());
+    let mut history = History::new(rt.alloc(), key_before(&rt, 5, Some(Colour::Black)));
+    notes(&rt, &mut history, EACH_MOVER)?;
+    history.forget(&key_before(&rt, 5, Some(Colour::White)));
+    notes(&rt, &mut history, WHITE_FORGOTTEN)?;
     Ok(())
 }

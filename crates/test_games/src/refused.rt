@@ -50,24 +50,45 @@ fn game_by<A: Allocator + Copy>(rt: &impl Abort, alloc: A, superko: Superko, lin
     game
 }
 
-/// Whether turns on so many lines come to a request for memory with this number; that one alone is
-/// refused.
-fn turns_meet(
+/// Turns in a game and its twin. How many calls were refused.
+fn make_turns<A: Allocator + Copy>(
     rt: &impl Abort,
-    alloc: Global,
-    superko: Superko,
-    lines: u8,
+    game: &mut Game<A>,
+    twin: &mut Game<Global>,
     turns: &[Turn],
-    number: u64,
-) -> bool {
-    let failing = Failing::new(alloc, number);
-    let mut game = game_by(rt, &failing, superko, lines);
-    let mut twin = game_by(rt, alloc, superko, lines);
+) -> u32 {
     let mut refused = 0u32;
     for (colour, word) in turns {
         let made = turn(rt, twin.size(), *colour, word);
-        refused = refused.wrapping_add(plays(rt, &mut game, &mut twin, made));
+        refused = refused.wrapping_add(plays(rt, game, twin, made));
     }
+    refused
+}
+
+/// A worked example: the turns on so many lines by a rule.
+#[derive(Clone, Copy)]
+struct Example {
+    superko: Superko,
+    lines: u8,
+    turns: &'static [Turn],
+}
+
+/// The turns of an example in a game that takes its memory from here. How many calls were refused.
+fn turns_by(
+    rt: &impl Abort,
+    alloc: Global,
+    example: Example,
+    failing: impl Allocator + Copy,
+) -> u32 {
+    let mut game = game_by(rt, failing, example.superko, example.lines);
+    let mut twin = game_by(rt, alloc, example.superko, example.lines);
+    make_turns(rt, &mut game, &mut twin, example.turns)
+}
+
+/// Whether an example comes to a request for memory with this number; that one alone is refused.
+fn turns_meet(rt: &impl Abort, alloc: Global, example: Example, number: u64) -> bool {
+    let failing = Failing::new(alloc, number);
+    let refused = turns_by(rt, alloc, example, &failing);
     let is_met = !failing.waits();
     assert_eq!(rt; refused, u32::from(is_met), "request {number}");
     is_met
@@ -75,11 +96,16 @@ fn turns_meet(
 
 /// Each request for memory of turns on so many lines is refused in turn, by both rules, until none
 /// is.
-fn each_of_turns(rt: &impl Abort, alloc: Global, lines: u8, turns: &[Turn]) {
+fn each_of_turns(rt: &impl Abort, alloc: Global, lines: u8, turns: &'static [Turn]) {
     for superko in [Superko::Positional, Superko::Situational] {
+        let example = Example {
+            superko,
+            lines,
+            turns,
+        };
         let mut met = 0u32;
         for number in 1..40u64 {
-            if !turns_meet(rt, alloc, superko, lines, turns, number) {
+            if !turns_meet(rt, alloc, example, number) {
                 break;
             }
             met = met.wrapping_add(1);
@@ -100,7 +126,11 @@ fn each_request_of_a_suicide(rt: HostRuntime) {
 
 /// Asks for a play that repeats the start, and makes it: each again where there was no memory. How
 /// many times there was none.
-fn repeats(rt: &impl Abort, game: &mut Game<&Failing<Global>>, twin: &mut Game<Global>) -> u32 {
+fn repeats<A: Allocator + Copy>(
+    rt: &impl Abort,
+    game: &mut Game<A>,
+    twin: &mut Game<Global>,
+) -> u32 {
     let made = turn(rt, twin.size(), Colour::Black, b"A1");
     let mut refused = 0u32;
     let mut legal = game.legal(made);
@@ -121,13 +151,18 @@ fn repeats(rt: &impl Abort, game: &mut Game<&Failing<Global>>, twin: &mut Game<G
     refused
 }
 
+/// The play on one point, in a game that takes its memory from here. How many calls were refused.
+fn repeats_by(rt: &impl Abort, alloc: Global, failing: impl Allocator + Copy) -> u32 {
+    let mut game = game_by(rt, failing, Superko::Positional, 1);
+    let mut twin = game_by(rt, alloc, Superko::Positional, 1);
+    repeats(rt, &mut game, &mut twin)
+}
+
 /// Whether a play on one point comes to a request for memory with this number; that one alone is
 /// refused.
 fn repetition_meets(rt: &impl Abort, alloc: Global, number: u64) -> bool {
     let failing = Failing::new(alloc, number);
-    let mut game = game_by(rt, &failing, Superko::Positional, 1);
-    let mut twin = game_by(rt, alloc, Superko::Positional, 1);
-    let refused = repeats(rt, &mut game, &mut twin);
+    let refused = repeats_by(rt, alloc, &failing);
     let is_met = !failing.waits();
     assert_eq!(rt; refused, u32::from(is_met), "request {number}");
     is_met
@@ -159,19 +194,37 @@ fn grid_of_stones(rt: &impl Abort) -> Grid {
     grid
 }
 
+/// Asserts that a game from a grid tells what one tells that has enough memory.
+fn starts_as_twin<A: Allocator + Copy>(
+    rt: &impl Abort,
+    alloc: Global,
+    grid: &Grid,
+    game: &Game<A>,
+) {
+    let twin = Game::start_from(alloc, grid, Colour::White).expect(rt, "a start");
+    assert_same(rt, game, &twin);
+}
+
+/// Whether a game from a grid that takes its memory from here begins; there is none if not.
+fn begins_by(rt: &impl Abort, alloc: Global, grid: &Grid, failing: impl Allocator + Copy) -> bool {
+    match Game::start_from(failing, grid, Colour::White) {
+        Ok(game) => {
+            starts_as_twin(rt, alloc, grid, &game);
+            true
+        }
+        Err(why) => {
+            assert!(rt; why == SetupError::Memory);
+            false
+        }
+    }
+}
+
 /// Whether a start comes to a request for memory with this number; that one alone is refused.
 fn start_meets(rt: &impl Abort, alloc: Global, grid: &Grid, number: u64) -> bool {
     let failing = Failing::new(alloc, number);
-    let started = Game::start_from(&failing, grid, Colour::White);
+    let begun = begins_by(rt, alloc, grid, &failing);
     let is_met = !failing.waits();
-    match started {
-        Ok(game) => {
-            let twin = Game::start_from(alloc, grid, Colour::White).expect(rt, "a start");
-            assert!(rt; !is_met, "request {number}");
-            assert_same(rt, &game, &twin);
-        }
-        Err(why) => assert!(rt; why == SetupError::Memory && is_met, "request {number}"),
-    }
+    assert!(rt; begun != is_met, "request {number}");
     is_met
 }
 
@@ -188,22 +241,45 @@ fn each_request_of_a_start(rt: HostRuntime) {
     assert!(rt; met > 2 && met < 59, "{met} requests");
 }
 
-/// Whether a game that begins anew comes to a request for memory with this number; that one alone
-/// is refused. The game has then an empty board of the new size, and can begin anew once more.
-fn anew_meets(rt: &impl Abort, alloc: Global, grid: &Grid, number: u64) -> bool {
-    let failing = Failing::new(alloc, number);
-    let mut game = game_by(rt, &failing, Superko::Situational, 3);
+/// Asserts that a game that had no memory to begin anew from a grid has an empty board of the new
+/// size, as its twin gets, and can begin anew once more.
+fn begins_again<A: Allocator + Copy>(
+    rt: &impl Abort,
+    game: &mut Game<A>,
+    twin: &mut Game<Global>,
+    grid: &Grid,
+) {
+    twin.resize(grid.size());
+    assert_whole(rt, game, twin);
+    assert!(rt; game.begin_from(grid, Colour::White) == Ok(()));
+}
+
+/// Whether a game that takes its memory from here begins anew from a grid at once.
+fn begins_anew_by(
+    rt: &impl Abort,
+    alloc: Global,
+    grid: &Grid,
+    failing: impl Allocator + Copy,
+) -> bool {
+    let mut game = game_by(rt, failing, Superko::Situational, 3);
     let mut twin = game_by(rt, alloc, Superko::Situational, 3);
     let begun = game.begin_from(grid, Colour::White);
-    let is_met = !failing.waits();
-    if is_met {
-        assert!(rt; begun == Err(SetupError::Memory), "request {number}");
-        twin.resize(grid.size());
-        assert_whole(rt, &mut game, &mut twin);
-        assert!(rt; game.begin_from(grid, Colour::White) == Ok(()));
+    if begun != Ok(()) {
+        assert!(rt; begun == Err(SetupError::Memory));
+        begins_again(rt, &mut game, &mut twin, grid);
     }
     assert!(rt; twin.begin_from(grid, Colour::White) == Ok(()));
     assert_same(rt, &game, &twin);
+    begun == Ok(())
+}
+
+/// Whether a game that begins anew comes to a request for memory with this number; that one alone
+/// is refused.
+fn anew_meets(rt: &impl Abort, alloc: Global, grid: &Grid, number: u64) -> bool {
+    let failing = Failing::new(alloc, number);
+    let begun = begins_anew_by(rt, alloc, grid, &failing);
+    let is_met = !failing.waits();
+    assert!(rt; begun != is_met, "request {number}");
     is_met
 }
 

@@ -26,18 +26,23 @@ fn point(rt: &impl Abort, board: &Board, word: &[u8]) -> Point
     p
 }
 
-/// Plays a stone on the point that a word names.
-fn play<A: Allocator + Copy>(
+/// A play: its colour, the word of its point, and what it comes to.
+type Play = (Colour, &'static [u8], Result<Taken, PlaceError>);
+
+const NONE: Taken = Taken { theirs: 0, own: 0 };
+
+/// Makes each play, and asserts what it comes to.
+fn plays<A: Allocator + Copy>(
     rt: &impl Abort,
     board: &mut Board,
     log: &mut Log<A>,
-    colour: Colour,
-    word: &[u8],
-) -> Result<Taken, PlaceError>
-    ensures { board.new.lines ≡ board.old.lines }
-{
-    let p = point(rt, board, word);
-    board.play(log, &mut Meter::new(), colour, p)
+    steps: &[Play],
+) {
+    for (number, (colour, word, outcome)) in steps.iter().enumerate() {
+        let p = point(rt, board, word);
+        let made = board.play(log, &mut Meter::new(), *colour, p);
+        assert!(rt; made == *outcome, "play {number}");
+    }
 }
 
 /// How many stones and how many liberties the chain on the point has that a word names.
@@ -94,29 +99,43 @@ fn new_log(rt: HostRuntime) {
     assert_eq!(rt; Log::new(rt.alloc()).plays(), 0);
 }
 
+/// A stone of Black, which a second one on B1 takes with itself.
+const BEFORE_A_SUICIDE: &[Play] = &[
+    (Colour::Black, b"A1", Ok(NONE)),
+    (Colour::White, b"A2", Ok(NONE)),
+    (Colour::White, b"B2", Ok(NONE)),
+    (Colour::White, b"C1", Ok(NONE)),
+];
+
+/// Plays the suicide, and takes it back.
+fn suicide_taken_back<A: Allocator + Copy>(rt: &impl Abort, board: &mut Board, log: &mut Log<A>) {
+    assert_eq!(rt; board.size().lines(), 3);
+    let b1 = point(rt, board, b"B1");
+    let mut meter = Meter::new();
+    let taken = board
+        .play(log, &mut meter, Colour::Black, b1)
+        .expect(rt, "memory for a play");
+    assert!(rt; taken == Taken { theirs: 0, own: 2 });
+    assert_eq!(rt; log.plays(), 5);
+    assert!(rt; board.colour_at(b1).is_none());
+    board.rewind(log, &mut meter);
+}
+
+/// Asserts the chains that stand before the suicide.
+fn has_chains(rt: &impl Abort, board: &Board) {
+    assert!(rt; chain(rt, board, b"A2") == (2, 4));
+    assert!(rt; same_chain(rt, board, b"A2", b"B2"));
+    assert!(rt; !same_chain(rt, board, b"A2", b"C1"));
+    assert!(rt; is_liberty(rt, board, b"A1", b"B1"));
+}
+
 #[test]
 fn suicide_of_several(rt: HostRuntime) {
     let mut board = board_of(&rt, 3);
     let mut log = Log::new(rt.alloc());
-    let none = Taken { theirs: 0, own: 0 };
-    assert!(rt; play(&rt, &mut board, &mut log, Colour::Black, b"A1") == Ok(none));
-    assert!(rt; play(&rt, &mut board, &mut log, Colour::White, b"A2") == Ok(none));
-    assert!(rt; play(&rt, &mut board, &mut log, Colour::White, b"B2") == Ok(none));
-    assert!(rt; play(&rt, &mut board, &mut log, Colour::White, b"C1") == Ok(none));
-    assert_eq!(rt; board.size().lines(), 3);
-    let b1 = point(&rt, &board, b"B1");
-    let mut meter = Meter::new();
-    let taken = board
-        .play(&mut log, &mut meter, Colour::Black, b1)
-        .expect(&rt, "memory for a play");
-    assert!(rt; taken == Taken { theirs: 0, own: 2 });
-    assert_eq!(rt; log.plays(), 5);
-    assert!(rt; board.colour_at(b1).is_none());
-    board.rewind(&mut log, &mut meter);
-    assert!(rt; chain(&rt, &board, b"A2") == (2, 4));
-    assert!(rt; same_chain(&rt, &board, b"A2", b"B2"));
-    assert!(rt; !same_chain(&rt, &board, b"A2", b"C1"));
-    assert!(rt; is_liberty(&rt, &board, b"A1", b"B1"));
+    plays(&rt, &mut board, &mut log, BEFORE_A_SUICIDE);
+    suicide_taken_back(&rt, &mut board, &mut log);
+    has_chains(&rt, &board);
     assert_eq!(rt; log.plays(), 4);
 }
 
@@ -128,15 +147,18 @@ fn has_chain(rt: &impl Abort, board: &Board, at: &[u8], stones: &[&[u8]], free: 
     assert!(rt; are(rt, board, board.liberty_points(at), free));
 }
 
+const CHAINS: &[Play] = &[
+    (Colour::Black, b"A1", Ok(NONE)),
+    (Colour::White, b"B2", Ok(NONE)),
+    (Colour::White, b"A2", Ok(NONE)),
+    (Colour::White, b"C1", Ok(NONE)),
+];
+
 #[test]
 fn points_of_chains(rt: HostRuntime) {
     let mut board = board_of(&rt, 3);
     let mut log = Log::new(rt.alloc());
-    let none = Taken { theirs: 0, own: 0 };
-    assert!(rt; play(&rt, &mut board, &mut log, Colour::Black, b"A1") == Ok(none));
-    assert!(rt; play(&rt, &mut board, &mut log, Colour::White, b"B2") == Ok(none));
-    assert!(rt; play(&rt, &mut board, &mut log, Colour::White, b"A2") == Ok(none));
-    assert!(rt; play(&rt, &mut board, &mut log, Colour::White, b"C1") == Ok(none));
+    plays(&rt, &mut board, &mut log, CHAINS);
     has_chain(
         &rt,
         &board,
@@ -147,19 +169,20 @@ fn points_of_chains(rt: HostRuntime) {
     has_chain(&rt, &board, b"C1", &[b"C1"], &[b"B1", b"C2"]);
 }
 
+const CAPTURE: &[Play] = &[
+    (Colour::Black, b"A1", Ok(NONE)),
+    (Colour::White, b"B1", Ok(NONE)),
+    (Colour::White, b"A2", Ok(Taken { theirs: 1, own: 0 })),
+    (Colour::Black, b"A1", Ok(Taken { theirs: 0, own: 1 })),
+];
+
 #[test]
 fn two_by_two_capture(rt: HostRuntime) {
     let mut board = board_of(&rt, 2);
     let mut log = Log::new(rt.alloc());
-    let none = Taken { theirs: 0, own: 0 };
-    assert!(rt; play(&rt, &mut board, &mut log, Colour::Black, b"A1") == Ok(none));
-    assert!(rt; play(&rt, &mut board, &mut log, Colour::White, b"B1") == Ok(none));
-    let third = play(&rt, &mut board, &mut log, Colour::White, b"A2");
-    assert!(rt; third == Ok(Taken { theirs: 1, own: 0 }));
-    let alone = play(&rt, &mut board, &mut log, Colour::Black, b"A1");
-    assert!(rt; alone == Ok(Taken { theirs: 0, own: 1 }));
+    plays(&rt, &mut board, &mut log, CAPTURE);
     assert_eq!(rt; log.plays(), 4);
-    let onto = play(&rt, &mut board, &mut log, Colour::Black, b"B1");
-    assert!(rt; onto == Err(PlaceError::Occupied));
+    let onto = [(Colour::Black, b"B1".as_slice(), Err(PlaceError::Occupied))];
+    plays(&rt, &mut board, &mut log, onto.as_slice());
     assert_eq!(rt; log.plays(), 4);
 }

@@ -1,6 +1,6 @@
 //! Drawn games on which every answer is compared with the plain body after each move.
 use crate::drawn::{Seen, any_start, next_move};
-use crate::games::size_of;
+use crate::games::{SUICIDE_OF_ONE, Step, example, size_of};
 use crate::plain_game::PlainGame;
 use go_board::{Colour, Grid, Move, Point, Size, Taken, Vertex, plain};
 use go_game::{Game, PlayError, Superko};
@@ -35,6 +35,12 @@ fn same_turns(rt: &impl Abort, game: &Game<Global>, plain: &PlainGame) {
     assert!(rt; game.superko() == plain.superko);
     assert!(rt; game.start_mover() == plain.first);
     assert!(rt; game.mover() == plain.mover());
+    same_moves(rt, game, plain);
+}
+
+/// Compares the moves that a game tells with the plain body.
+fn same_moves(rt: &impl Abort, game: &Game<Global>, plain: &PlainGame) {
+    let moves = plain.made.len();
     for number in 0..moves {
         let made = plain.made.get(number).map(|(made, _)| *made);
         assert!(rt; game.move_at(number) == made, "move {number}");
@@ -43,7 +49,7 @@ fn same_turns(rt: &impl Abort, game: &Game<Global>, plain: &PlainGame) {
 }
 
 /// Compares the colours that a game tells with the plain body.
-fn same_colours(rt: &impl Abort, game: &Game<Global>, start: &Grid, grid: &Grid) {
+pub fn same_colours(rt: &impl Abort, game: &Game<Global>, start: &Grid, grid: &Grid) {
     let size = game.size();
     assert!(rt; start.size() == size && grid.size() == size);
     for number in 0..size.points() {
@@ -155,16 +161,22 @@ fn same_plays(rt: &impl Abort, game: &mut Game<Global>, plain: &PlainGame, colou
     assert!(rt; chosen == best.vertex);
 }
 
-/// Compares what a game answers with the plain body.
-fn same_answers(rt: &impl Abort, game: &mut Game<Global>, plain: &PlainGame) {
+/// Compares what a game tells with the plain body.
+fn same_tellings(rt: &impl Abort, game: &Game<Global>, plain: &PlainGame) {
     let grid = plain.present();
     same_turns(rt, game, plain);
     same_colours(rt, game, &plain.start, &grid);
     same_prisoners(rt, game, plain);
     same_score(rt, game, &grid);
     same_chains(rt, game, &grid);
-    same_plays(rt, game, plain, Colour::Black);
-    same_plays(rt, game, plain, Colour::White);
+}
+
+/// Compares what a game answers with the plain body.
+fn same_answers(rt: &impl Abort, game: &mut Game<Global>, plain: &PlainGame) {
+    same_tellings(rt, game, plain);
+    for colour in [Colour::Black, Colour::White] {
+        same_plays(rt, game, plain, colour);
+    }
 }
 
 /// Takes moves back on both, if there are so many, and compares everything after each.
@@ -334,22 +346,10 @@ fn the_largest_game_as_the_plain_body(rt: HostRuntime) {
     from_a_start(&rt, rt.alloc(), Superko::Positional, size, 6, 0, &mut seen);
 }
 
+const TWO_PASSES: &[Step] = &[Step::HasTaken { black: 0, moves: 2 }];
+
 #[test]
 fn a_board_of_one_point(rt: HostRuntime) {
-    let mut game = Game::new(rt.alloc(), size_of(&rt, 1));
-    let only = Vertex::At(Point { col: 0, row: 0 });
-    let made = Move {
-        colour: Colour::Black,
-        vertex: only,
-    };
-    assert!(rt; game.play(made) == Err(PlayError::Repeats(0)));
-    for colour in [Colour::Black, Colour::White] {
-        let pass = Move {
-            colour,
-            vertex: Vertex::Pass,
-        };
-        assert!(rt; game.play(pass).is_ok());
-    }
-    assert!(rt; game.play(made) == Err(PlayError::Repeats(0)));
-    assert_eq!(rt; game.move_count(), 2);
+    let game = Game::new(rt.alloc(), size_of(&rt, 1));
+    example(&rt, game, &[SUICIDE_OF_ONE, TWO_PASSES]);
 }

@@ -1,15 +1,11 @@
 //! Two games that must tell the same: one whose memory may be refused, and a twin that has enough.
 use go_board::{Colour, Move, Point, Vertex};
 use go_game::{Game, PlayError};
-use std::alloc::Allocator;
+use std::alloc::{Allocator, Global};
 use std::process::Abort;
 
 /// Two games tell the same moves, and whose turn it is.
-fn same_turns<A: Allocator + Copy, B: Allocator + Copy>(
-    rt: &impl Abort,
-    game: &Game<A>,
-    twin: &Game<B>,
-) {
+fn same_turns<A: Allocator + Copy>(rt: &impl Abort, game: &Game<A>, twin: &Game<Global>) {
     assert!(rt; game.mover() == twin.mover() && game.start_mover() == twin.start_mover());
     assert!(rt; game.is_vacant() == twin.is_vacant());
     assert_eq!(rt; game.move_count(), twin.move_count());
@@ -19,11 +15,7 @@ fn same_turns<A: Allocator + Copy, B: Allocator + Copy>(
 }
 
 /// Two games tell the same colours.
-fn same_colours<A: Allocator + Copy, B: Allocator + Copy>(
-    rt: &impl Abort,
-    game: &Game<A>,
-    twin: &Game<B>,
-) {
+fn same_colours<A: Allocator + Copy>(rt: &impl Abort, game: &Game<A>, twin: &Game<Global>) {
     let size = twin.size();
     for number in 0..size.points() {
         let p = Point::numbered(size, number);
@@ -34,10 +26,10 @@ fn same_colours<A: Allocator + Copy, B: Allocator + Copy>(
 }
 
 /// Two games tell the same chain and the same liberties of a point.
-fn same_chain_of<A: Allocator + Copy, B: Allocator + Copy>(
+fn same_chain_of<A: Allocator + Copy>(
     rt: &impl Abort,
     game: &Game<A>,
-    twin: &Game<B>,
+    twin: &Game<Global>,
     p: Point,
 ) {
     let size = twin.size();
@@ -51,22 +43,14 @@ fn same_chain_of<A: Allocator + Copy, B: Allocator + Copy>(
 }
 
 /// Two games tell the same chains and the same liberties.
-fn same_chains<A: Allocator + Copy, B: Allocator + Copy>(
-    rt: &impl Abort,
-    game: &Game<A>,
-    twin: &Game<B>,
-) {
+fn same_chains<A: Allocator + Copy>(rt: &impl Abort, game: &Game<A>, twin: &Game<Global>) {
     for number in 0..twin.size().points() {
         same_chain_of(rt, game, twin, Point::numbered(twin.size(), number));
     }
 }
 
 /// Two games answer each question alike that takes no memory.
-pub fn assert_same<A: Allocator + Copy, B: Allocator + Copy>(
-    rt: &impl Abort,
-    game: &Game<A>,
-    twin: &Game<B>,
-) {
+pub fn assert_same<A: Allocator + Copy>(rt: &impl Abort, game: &Game<A>, twin: &Game<Global>) {
     assert!(rt; game.size() == twin.size() && game.komi() == twin.komi());
     assert!(rt; game.superko() == twin.superko());
     assert!(rt; game.area() == twin.area() && game.margin() == twin.margin());
@@ -79,10 +63,10 @@ pub fn assert_same<A: Allocator + Copy, B: Allocator + Copy>(
 }
 
 /// In two games a colour may play on the same points.
-fn same_plays<A: Allocator + Copy, B: Allocator + Copy>(
+fn same_plays<A: Allocator + Copy>(
     rt: &impl Abort,
     game: &mut Game<A>,
-    twin: &mut Game<B>,
+    twin: &mut Game<Global>,
     colour: Colour,
 ) {
     let size = twin.size();
@@ -95,10 +79,10 @@ fn same_plays<A: Allocator + Copy, B: Allocator + Copy>(
 }
 
 /// Two games answer each question alike, where there is memory for the answers.
-pub fn assert_whole<A: Allocator + Copy, B: Allocator + Copy>(
+pub fn assert_whole<A: Allocator + Copy>(
     rt: &impl Abort,
     game: &mut Game<A>,
-    twin: &mut Game<B>,
+    twin: &mut Game<Global>,
 ) {
     assert_same(rt, game, twin);
     for colour in [Colour::Black, Colour::White] {
@@ -108,10 +92,10 @@ pub fn assert_whole<A: Allocator + Copy, B: Allocator + Copy>(
 
 /// Makes a move in both games, and again where there was no memory for it in the first, which tells
 /// then what it told before. The answer is the twin's. How many times there was no memory.
-pub fn plays<A: Allocator + Copy, B: Allocator + Copy>(
+pub fn plays<A: Allocator + Copy>(
     rt: &impl Abort,
     game: &mut Game<A>,
-    twin: &mut Game<B>,
+    twin: &mut Game<Global>,
     made: Move,
 ) -> u32 {
     let mut refused = 0u32;
