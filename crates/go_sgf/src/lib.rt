@@ -23,7 +23,6 @@
 
 mod cooking;
 mod error;
-
 mod hundredths;
 pub mod laws;
 mod limits;

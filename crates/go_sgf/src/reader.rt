@@ -8,8 +8,7 @@ ghost use Rattle.go_sgf.specs.Spelling.{Spells, is_first};
 ghost use Rattle.go_sgf.specs.Stands.{after, closed, in_node, named, opened};
 ghost use Rattle.go_sgf.specs.View.{collection_of, tree_of};
 
-use crate::error::SgfError;
-use crate::error::Fault;
+use crate::error::{Fault, SgfError};
 use crate::limits::{MAX_DEPTH, MAX_RECORD};
 use crate::record::{Collection, Tree};
 use crate::scan::{
