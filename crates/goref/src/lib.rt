@@ -9,7 +9,7 @@
 //!   [`ToolError`] says why not. [`read_input`] reads a whole input, up to a record's limit.
 //! - [`task_of`], [`Task`]: what the program's words ask for.
 //!
-//! A session of one line, and a run of two:
+//! A line that is answered, and a whole run:
 //!
 //! ```
 //! let size = Size::new(9).expect(&rt, "a size");
@@ -19,7 +19,7 @@
 //! ```
 //!
 //! What is promised is in the clauses of these calls. `specs/` has the words of runs, and hands on
-//! all others that the clauses cite, so that who calls this crate can prove with them as well.
+//! those of the crates between this one and `go_board`, so that its callers can prove with them.
 #![tactic(auto)]
 
 mod error;
