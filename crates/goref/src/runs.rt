@@ -92,6 +92,41 @@ pub fn run_within<A: Allocator + Copy, R: Source, W: Sink, S: Shelf<A>>(
     ensures one_end { R.ends reader.new ≤ R.ends reader.old + 1 }
 {
     let mut session = Session::new(alloc, size);
+    run_from(limit, &mut session, reader, writer, shelf)
+}
+
+/// As [`run_within`], from where a session stands.
+fn run_from<A: Allocator + Copy, R: Source, W: Sink, S: Shelf<A>>(
+    limit: u64,
+    session: &mut Session<A>,
+    reader: &mut R,
+    writer: &mut W,
+    shelf: &mut S,
+) -> Result<(), RunError>
+    ensures ok { OnOk result (IfSome (R.left reader.old) (λ input.
+        Converses session.old (lines input)
+        (S.given shelf.old) (S.given shelf.new) (W.taken writer.old) (W.taken writer.new))) }
+    ensures read { IsErrOf result RunError.Read →
+        AnswersComplete session.old (R.left reader.old) (R.left reader.new)
+        (S.given shelf.old) (S.given shelf.new) (W.taken writer.old) (W.taken writer.new) }
+    ensures endless { IsErrOf result RunError.Endless →
+        AnswersComplete session.old (R.left reader.old) (R.left reader.new)
+        (S.given shelf.old) (S.given shelf.new) (W.taken writer.old) (W.taken writer.new) }
+    ensures write { IsErrOf result RunError.Write →
+        AnswersFront session.old (R.left reader.old) (R.left reader.new)
+        (S.given shelf.old) (S.given shelf.new) (W.taken writer.old) (W.taken writer.new) }
+    ensures read_failures { R.failures reader.new ≡ read_failures_after result
+        (R.failures reader.old) }
+    ensures write_failures { W.failures writer.new ≡ write_failures_after result
+        (W.failures writer.old) }
+    ensures pulls { R.pulls reader.new ≤ R.pulls reader.old + limit }
+    ensures all_pulls { IsErrOf result RunError.Endless
+        → R.pulls reader.new ≡ R.pulls reader.old + limit }
+    ensures many_bytes { IsErrOf result RunError.Endless
+        → ReadsAtLeast limit (R.left reader.old) (R.left reader.new) }
+    ensures no_end { IsErrOf result RunError.Endless → R.ends reader.new ≡ R.ends reader.old }
+    ensures one_end { R.ends reader.new ≤ R.ends reader.old + 1 }
+{
     let mut line = Line::new();
     let mut buffer = [0u8; 4096];
     for _ in 0..limit {
@@ -100,13 +135,13 @@ pub fn run_within<A: Allocator + Copy, R: Source, W: Sink, S: Shelf<A>>(
             Err(Failed) => return Err(RunError::Read),
         };
         if count == 0 {
-            match end_input(&mut session, &line, writer, shelf) {
+            match end_input(session, &line, writer, shelf) {
                 Ok(()) => return Ok(()),
                 Err(WriteFault) => return Err(RunError::Write),
             }
         }
         let (chunk, _) = buffer.split_at(count);
-        match feed(&mut session, &mut line, chunk, writer, shelf) {
+        match feed(session, &mut line, chunk, writer, shelf) {
             Ok(Flow::More) => {}
             Ok(Flow::Quit) => return Ok(()),
             Err(WriteFault) => return Err(RunError::Write),

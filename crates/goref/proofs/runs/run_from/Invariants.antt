@@ -1,14 +1,13 @@
 use Rattle.std.proofs.Common.{◌≡◌, ◌≤◌, ◌+◌, ℕ, List, length}
 use Rattle.go_board.specs.Device.{after_bytes}
-use Rattle.goref_session.specs.Starts.{begun}
 use Rattle.goref.specs.inner.Progress.{Progress}
-use Rattle.goref.proofs.runs.run_within.Given as goal
+use Rattle.goref.proofs.runs.run_from.Given as goal
 
 abbrev pub invariant-loop : goal.invariant-loop
 invariant-loop g l = record {
   read : List ℕ;
   left : g.R.Source.left l.initial.reader ≡ after_bytes read (g.R.Source.left l.reader);
-  progress : Progress (begun l.fn.size) read l.line l.session
+  progress : Progress l.initial.session read l.line l.session
       (g.S.Shelf.given l.initial.shelf) (g.S.Shelf.given l.shelf) (g.W.Sink.taken l.initial.writer) (g.W.Sink.taken l.writer);
   many : l.counter ≤ length read;
   pulls : g.R.Source.pulls l.reader ≡ g.R.Source.pulls l.initial.reader + l.counter;

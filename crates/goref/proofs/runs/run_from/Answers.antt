@@ -2,19 +2,18 @@ use Rattle.std.proofs.Common.{◌∙◌, [], ◌++◌, refl, sym, ap, arith, rul
 use Rattle.std.proofs.lemmas.List.{append-nil, length-append}
 use Rattle.go_board.specs.Device.{after_bytes}
 use Rattle.go_board.specs.declared.device.Failed.{Failed}
-use Rattle.goref_session.specs.Starts.{begun}
 use Rattle.goref.specs.Lines.{lines}
 use Rattle.goref.specs.Conversation.{Converses}
 use Rattle.goref.proofs.Progressing.{begins}
 use Rattle.go_board.specs.lemmas.Reading.{after_bytes-nil, has_read_more, of_input}
 use Rattle.goref.proofs.Running.{answers_complete, answers_front, no_end_found, of_ended}
-use Rattle.goref.proofs.runs.run_within.Goals as goal
+use Rattle.goref.proofs.runs.run_from.Goals as goal
 
 pub loop-init : goal.loop-init
 loop-init g c = record {
   read = [];
   left = sym (after_bytes-nil (g.R.Source.left c.args.reader.now));
-  progress = rw (c.new-session.ensures, c.new-line.ensures) (begins (begun c.args.size) (g.S.Shelf.given c.args.shelf.now) (g.W.Sink.taken c.args.writer.now));
+  progress = rw c.new-line.ensures (begins c.args.session.now (g.S.Shelf.given c.args.shelf.now) (g.W.Sink.taken c.args.writer.now));
   many = omega arith;
   pulls = omega arith;
   ends = refl;
@@ -43,7 +42,7 @@ pub returns-in-Ok-end_input-clause-ok : goal.returns-in-Ok-end_input-clause-ok
 returns-in-Ok-end_input-clause-ok g c =
     let now = c.loop.invariant in
     let nothing = rw c.if-count-eq0.true at c.in-Ok.ensures.bytes in
-    of_ended (λ input. Converses (begun c.args.size) (lines input) _ _ _ _) now.read (g.R.Source.left c.pull.new.self)
+    of_ended (λ input. Converses c.args.session.now (lines input) _ _ _ _) now.read (g.R.Source.left c.pull.new.self)
     (now.left ∙ ap (after_bytes now.read) (nothing ∙ after_bytes-nil (g.R.Source.left c.pull.new.self)))
     (c.in-Ok.ensures.end c.if-count-eq0.true (omega (arith, c.pull.auto.buffer)))
     (rw c.in-Ok-end_input.is at (c.end_input.ensures.finishes _ now.read _ _ now.progress))
@@ -59,7 +58,7 @@ pub returns-in-Ok-Quit-clause-ok : goal.returns-in-Ok-Quit-clause-ok
 returns-in-Ok-Quit-clause-ok g c =
     let now = c.loop.invariant in
     let chunk = c.split_at.result.0.now in
-    of_input (λ input. Converses (begun c.args.size) (lines input) _ _ _ _) (now.read ++ chunk) (g.R.Source.left c.pull.new.self)
+    of_input (λ input. Converses c.args.session.now (lines input) _ _ _ _) (now.read ++ chunk) (g.R.Source.left c.pull.new.self)
     (has_read_more (g.R.Source.left c.pull.new.self) now.read chunk now.left (c.in-Ok.ensures.bytes ∙ ap (λ xs. after_bytes xs (g.R.Source.left c.pull.new.self)) (sym c.split_at.ensures.front)))
     (rw (c.in-Ok-Quit.is, c.in-Ok-Quit.field-0-is) at (c.feed.ensures.proceeds _ now.read _ _ now.progress))
 
