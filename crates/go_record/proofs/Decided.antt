@@ -14,7 +14,7 @@ use Rattle.go_board.specs.Reaching.{is_dead}
 use Rattle.go_game.specs.declared.error.PlayError.{PlayError}
 use Rattle.go_game.specs.declared.error.PlayError.TheVariants as play
 use Rattle.go_game.specs.Standings.{IsFirstAt, IsLegal, Seen, Standing, board_of, seen_after, stood_of, with_move}
-use Rattle.go_sgf.specs.BoardValues.{vertex_in, points_of}
+use Rattle.go_sgf.specs.BoardValues.{vertex_in, points_by_values}
 use Rattle.go_sgf.specs.Record.{Trees}
 use Rattle.go_record.specs.declared.error.RecordError.{RecordError}
 use Rattle.go_record.specs.declared.error.RecordError.TheVariants.{BadKomi, BadSize, BadValue, DeadSetup, Illegal, NotGo, SetupAfterMove}
@@ -169,7 +169,7 @@ some_setup : (events : List Event) (n : ℕ) (komi : ℤ) (g : Colouring) (given
 unfolding SetsUp
 some_setup [] n komi g given = some_begin n komi g given []
 some_setup (stones node c values ∷ events) n komi g given =
-    some_or_bad node (points_of n values) (λ r ps. SetsUp n komi (with_points n c g ps) given events r) (λ ps. some_setup events n komi (with_points n c g ps) given)
+    some_or_bad node (points_by_values n values) (λ r ps. SetsUp n komi (with_points n c g ps) given events r) (λ ps. some_setup events n komi (with_points n c g ps) given)
 some_setup (turn node value ∷ events) n komi g given =
     some_or_bad node (colour_stated value) (λ r c. SetsUp n komi g (Some c) events r) (λ c. some_setup events n komi g (Some c))
 some_setup (move_met node c value ∷ events) n komi g given = some_begin n komi g given (move_met node c value ∷ events)

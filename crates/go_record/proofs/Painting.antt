@@ -16,7 +16,7 @@ use Rattle.go_board.specs.Colours.{Colouring, colour_at}
 use Rattle.go_board.specs.Points.{IsOn, number_of, point_at}
 use Rattle.go_board.specs.Reaching.{has_colour, is_same}
 use Rattle.go_board.specs.Vertices.{IsOnBoard}
-use Rattle.go_sgf.specs.BoardValues.{both, is_pass_word, names_line, point_in, vertex_in, points_alone, points_by, points_listed, points_of, vertex_by}
+use Rattle.go_sgf.specs.BoardValues.{both, is_pass_word, names_line, point_in, vertex_in, points_alone, points_by, points_listed, points_by_values, vertex_by}
 use Rattle.go_record.specs.Records.{point_value, points_coloured, vertex_value}
 use Rattle.go_record.specs.Walks.{with_points}
 use Rattle.go_record.proofs.Spelled.{NoSpace, all_append, all_weaker, low_no_space, trimmed_same, unequal}
@@ -62,7 +62,7 @@ one_read n p small on =
     ∙ ap (points_alone n) (trimmed_same (point_value n p) (value_clean n p))
     ∙ ap (option_map (λ q. q ∷ [])) (point_read n p small on)
 
-pub points_read : (n : ℕ) (ks : List ℕ) → n ≤ MAX_LINES → AllByRecursion (λ k. k < n * n) ks → points_of n (map (λ k. point_value n (point_at n k)) ks) ≡ Some (map (point_at n) ks)
+pub points_read : (n : ℕ) (ks : List ℕ) → n ≤ MAX_LINES → AllByRecursion (λ k. k < n * n) ks → points_by_values n (map (λ k. point_value n (point_at n k)) ks) ≡ Some (map (point_at n) ks)
 points_read n [] small h = refl
 points_read n (k ∷ ks) small h = ap₂ both (one_read n (point_at n k) small (on_at n k h.0)) (points_read n ks small h.1)
 

@@ -12,7 +12,7 @@ use Rattle.go_board.specs.declared.colour.Colour.{Colour}
 use Rattle.go_board.specs.declared.point.Point.{Point}
 use Rattle.go_board.specs.Colours.{Colouring}
 use Rattle.go_board.specs.Points.{number_of}
-use Rattle.go_sgf.specs.BoardValues.{both, points_listed, points_of}
+use Rattle.go_sgf.specs.BoardValues.{both, points_listed, points_by_values}
 use Rattle.go_record.specs.Walks.{with_points}
 
 pub with_points_append : (n : ℕ) (c : Option Colour) (g : Colouring) (ps qs : List Point) → with_points n c g (ps ++ qs) ≡ with_points n c (with_points n c g ps) qs
@@ -22,7 +22,7 @@ with_points_append n c g (p ∷ ps) qs = with_points_append n c (slice_set g (nu
 -- The points of the values before these are set.
 pub record SetSoFar (n : ℕ) (c : Option Colour) (g : Colouring) (values later : List (List ℕ)) (new : Colouring) : Type 0 where
   pub set : List Point
-  pub split : both (Some set) (points_of n later) ≡ points_of n values
+  pub split : both (Some set) (points_by_values n later) ≡ points_by_values n values
   pub colours : new ≡ with_points n c g set
 
 both_joined : (ps qs : List Point) (o : Option (List Point)) → both (Some (ps ++ qs)) o ≡ both (Some ps) (both (Some qs) o)
@@ -35,7 +35,7 @@ pub set_more : (n : ℕ) (c : Option Colour) (g : Colouring) (values : List (Lis
 set_more n c g values value later new newer ps h is more = record {
   set = h.set ++ ps;
   split =
-      both_joined h.set ps (points_of n later) ∙ ap (λ (o : Option (List Point)). both (Some h.set) (both o (points_of n later))) is ∙ h.split;
+      both_joined h.set ps (points_by_values n later) ∙ ap (λ (o : Option (List Point)). both (Some h.set) (both o (points_by_values n later))) is ∙ h.split;
   colours = more ∙ ap (λ (g : Colouring). with_points n c g ps) h.colours ∙ sym (with_points_append n c g h.set ps);
 }
 

@@ -18,7 +18,7 @@ use Rattle.go_board.specs.Reaching.{is_same, reaches}
 use Rattle.go_game.specs.declared.superko.Superko.TheVariants.{Positional}
 use Rattle.go_board.specs.Komi.{IsKomi}
 use Rattle.go_game.specs.Standings.{IsLegal, IsSound, Standing, with_move}
-use Rattle.go_sgf.specs.BoardValues.{vertex_in, points_of}
+use Rattle.go_sgf.specs.BoardValues.{vertex_in, points_by_values}
 use Rattle.go_sgf.specs.Numbers.{behind_sign, has_minus, hundredths_in, hundredths_by, is_decimal, size_by, size_of_number, trimmed, with_sign, whole_part, decimals_in}
 use Rattle.go_sgf.specs.Record.{Trees}
 use Rattle.go_board.specs.declared.decimals.TheConstants.{MAX_KOMI}
@@ -135,7 +135,7 @@ module _ (P : Standing → Type 0)
   unfolding SetsUp
   after_setup [] n komi g given t size kept whole h = after_begin n komi g given [] t size kept whole h
   after_setup (stones node c values ∷ events) n komi g given t size kept whole h =
-      from_bad node (points_of n values) t _ (P t) (λ ps e k. after_setup events n komi (with_points n c g ps) given t size kept (points_length n c ps g ∙ whole) k) h
+      from_bad node (points_by_values n values) t _ (P t) (λ ps e k. after_setup events n komi (with_points n c g ps) given t size kept (points_length n c ps g ∙ whole) k) h
   after_setup (turn node value ∷ events) n komi g given t size kept whole h =
       from_bad node (colour_stated value) t _ (P t) (λ c e k. after_setup events n komi g (Some c) t size kept whole k) h
   after_setup (move_met node c value ∷ events) n komi g given t size kept whole h = after_begin n komi g given (move_met node c value ∷ events) t size kept whole h

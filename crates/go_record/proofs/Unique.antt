@@ -15,7 +15,7 @@ use Rattle.go_board.specs.Points.{IsOn, number_of, point_at}
 use Rattle.go_game.specs.declared.error.PlayError.{PlayError}
 use Rattle.go_game.specs.declared.error.PlayError.TheVariants as play
 use Rattle.go_game.specs.Standings.{IsFirstAt, IsLegal, IsOccupied, IsOffBoard, Seen, Standing, with_move}
-use Rattle.go_sgf.specs.BoardValues.{vertex_in, points_of}
+use Rattle.go_sgf.specs.BoardValues.{vertex_in, points_by_values}
 use Rattle.go_sgf.specs.Record.{Trees}
 use Rattle.go_record.specs.declared.error.RecordError.{RecordError}
 use Rattle.go_record.specs.declared.error.RecordError.TheVariants.{BadKomi, BadSize, DeadSetup, Illegal, NotGo}
@@ -142,7 +142,7 @@ one_setup : (events : List Event) (n : ℕ) (komi : ℤ) (g : Colouring) (given 
 unfolding SetsUp
 one_setup [] n komi g given a b h k = one_begin n komi g given [] a b h k
 one_setup (stones node c values ∷ events) n komi g given a b h k =
-    one_or_bad node (points_of n values) a b (λ outcome ps. SetsUp n komi (with_points n c g ps) given events outcome)
+    one_or_bad node (points_by_values n values) a b (λ outcome ps. SetsUp n komi (with_points n c g ps) given events outcome)
     (λ ps p q. one_setup events n komi (with_points n c g ps) given a b p q) h k
 one_setup (turn node value ∷ events) n komi g given a b h k =
     one_or_bad node (colour_stated value) a b (λ outcome c. SetsUp n komi g (Some c) events outcome)

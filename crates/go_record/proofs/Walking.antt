@@ -12,7 +12,7 @@ use Rattle.go_board.specs.Colours.{Colouring}
 use Rattle.go_game.specs.declared.error.PlayError.{PlayError}
 use Rattle.go_game.specs.declared.error.PlayError.TheVariants as play
 use Rattle.go_game.specs.Standings.{GameValue, IsLegal, IsOccupied, IsOffBoard, IsRepeat, Standing, with_move}
-use Rattle.go_sgf.specs.BoardValues.{vertex_in, points_of}
+use Rattle.go_sgf.specs.BoardValues.{vertex_in, points_by_values}
 use Rattle.go_record.specs.declared.error.RecordError.{RecordError}
 use Rattle.go_record.specs.declared.error.RecordError.TheVariants.{BadValue, Memory, SetupAfterMove}
 use Rattle.go_record.specs.declared.state.Left.{Left}
@@ -102,12 +102,12 @@ module _ (n : ℕ) (komi : ℤ) (g : Colouring) (given : Option Colour) where
   unfolding SetsUp
   sets_turn_bad node value events e = rw e refl
 
-  pub sets_stones : (node : ℕ) (c : Option Colour) (values : List (List ℕ)) (ps : List Point) (events : List Event) (outcome : Outcome) → points_of n values ≡ Some ps →
+  pub sets_stones : (node : ℕ) (c : Option Colour) (values : List (List ℕ)) (ps : List Point) (events : List Event) (outcome : Outcome) → points_by_values n values ≡ Some ps →
       SetsUp n komi (with_points n c g ps) given events outcome → SetsUp n komi g given (stones node c values ∷ events) outcome
   unfolding SetsUp
   sets_stones node c values ps events outcome e h = rw e h
 
-  pub sets_stones_bad : (node : ℕ) (c : Option Colour) (values : List (List ℕ)) (events : List Event) → points_of n values ≡ None →
+  pub sets_stones_bad : (node : ℕ) (c : Option Colour) (values : List (List ℕ)) (events : List Event) → points_by_values n values ≡ None →
       SetsUp n komi g given (stones node c values ∷ events) (Err (BadValue node))
   unfolding SetsUp
   sets_stones_bad node c values events e = rw e refl

@@ -13,7 +13,7 @@ use Rattle.go_game.specs.declared.error.PlayError.{PlayError}
 use Rattle.go_game.specs.declared.error.PlayError.TheVariants.{Occupied, OffBoard, Repeats, Memory}
 use Rattle.go_game.specs.declared.superko.Superko.TheVariants.{Positional}
 use Rattle.go_game.specs.Standings.{IsLegal, IsOccupied, IsOffBoard, IsRepeat, Standing, with_move}
-use Rattle.go_sgf.specs.BoardValues.{vertex_in, points_of}
+use Rattle.go_sgf.specs.BoardValues.{vertex_in, points_by_values}
 use Rattle.go_sgf.specs.Numbers.{trimmed}
 use Rattle.go_record.specs.declared.error.RecordError.{RecordError}
 use Rattle.go_record.specs.declared.error.RecordError.TheVariants.{BadValue, DeadSetup, Illegal, SetupAfterMove}
@@ -86,7 +86,7 @@ Begins n komi g given events outcome = (AreAlive n g × Plays (start_of n komi g
 unfoldable pub SetsUp : ℕ → ℤ → Colouring → Option Colour → List Event → Outcome → Type 0
 SetsUp n komi g given [] outcome = Begins n komi g given [] outcome
 SetsUp n komi g given (stones node colour values ∷ events) outcome =
-    OrBad node (points_of n values) outcome (λ ps. SetsUp n komi (with_points n colour g ps) given events outcome)
+    OrBad node (points_by_values n values) outcome (λ ps. SetsUp n komi (with_points n colour g ps) given events outcome)
 SetsUp n komi g given (turn node value ∷ events) outcome =
     OrBad node (colour_stated value) outcome (λ c. SetsUp n komi g (Some c) events outcome)
 SetsUp n komi g given (move_met node colour value ∷ events) outcome =

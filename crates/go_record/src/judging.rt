@@ -1,6 +1,5 @@
 ghost use Rattle.std.specs.Prelude.{◌≡◌, ◌≢◌, ◌-ℤ◌, Err, IfErr, IfOk, IfSome, bytes_eq, option_map, pos};
 ghost use Rattle.go_board.specs.Komi.{IsKomi};
-ghost use Rattle.go_sgf.specs.View.{collection_of};
 ghost use Rattle.go_record.specs.declared.error.RecordError.TheVariants.{Memory};
 ghost use Rattle.go_record.specs.Games.{IsGameOf};
 ghost use Rattle.go_record.specs.Verdicts.{IsStated, IsVerdict, is_number_first, margin_spelled, margin_by, size_spelled};
@@ -20,9 +19,9 @@ pub fn judge<A: Allocator + Copy>(
     alloc: A,
     collection: &Collection<'_, A>,
 ) -> Result<Verdict, RecordError>
-    ensures ok { IfOk result (IsVerdict (collection_of collection.now)) }
+    ensures ok { IfOk result (IsVerdict collection.now) }
     ensures err { IfErr result
-        (λ e. e ≢ Memory → IsGameOf (collection_of collection.now) None (Err e)) }
+        (λ e. e ≢ Memory → IsGameOf collection.now None (Err e)) }
 {
     let stated = margin_stated(alloc, collection)?;
     let game = replay(alloc, collection, None)?;
@@ -49,7 +48,7 @@ fn margin_stated<A: Allocator + Copy>(
     alloc: A,
     collection: &Collection<'_, A>,
 ) -> Result<Option<i64>, AllocError>
-    ensures { IfOk result (λ stated. stated ≡ margin_by (collection_of collection.now)) }
+    ensures { IfOk result (λ stated. stated ≡ margin_by collection.now) }
 {
     let text = cook_simple(alloc, root_value(collection, b"RE"))?;
     Ok(margin_in(trim(&text)))

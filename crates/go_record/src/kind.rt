@@ -3,6 +3,7 @@ ghost use Rattle.go_record.specs.MainLine.{leading_value, kind_by};
 
 use go_board::Colour;
 use go_sgf::Property;
+use std::alloc::Allocator;
 
 /// What a property is for.
 #[derive(Clone, Copy)]
@@ -17,7 +18,7 @@ pub(crate) enum Kind {
     Other,
 }
 
-pub(crate) fn kind_of(property: &Property<'_>) -> Kind
+pub(crate) fn kind_of<A: Allocator + Copy>(property: &Property<'_, A>) -> Kind
     ensures { result ≡ kind_by property.now }
 {
     if property.is(b"B") {
@@ -38,11 +39,11 @@ pub(crate) fn kind_of(property: &Property<'_>) -> Kind
 }
 
 /// The first value of a property, or an empty one where it has none.
-pub(crate) fn first_value<'a>(property: &Property<'a>) -> &'a [u8]
+pub(crate) fn first_value<'a, A: Allocator + Copy>(property: &Property<'a, A>) -> &'a [u8]
     ensures { result.now ≡ leading_value property.now.values }
 {
-    match property.values().next() {
-        Some(value) => value,
+    match property.values().first() {
+        Some(value) => *value,
         None => b"",
     }
 }

@@ -1,5 +1,4 @@
 ghost use Rattle.std.specs.Prelude.{◌≡◌, ◌≢◌, ◌+◌, Err, IfErr, IfOk, Ok, OnErr, OnOk, length, true};
-ghost use Rattle.go_sgf.specs.View.{collection_of};
 ghost use Rattle.go_record.specs.declared.error.RecordError.TheVariants.{Memory};
 ghost use Rattle.go_game.specs.Standings.{is_vacant_standing};
 ghost use Rattle.go_record.specs.Games.{IsGameOf};
@@ -12,7 +11,7 @@ use crate::state::{Left, Walk};
 use crate::walk::next;
 use go_board::Grid;
 use go_game::Game;
-use go_sgf::{Collection, Nodes};
+use go_sgf::{Collection, Node};
 use std::alloc::Allocator;
 
 /// The game of a record: that of the main line of its first tree, with the size, komi and start
@@ -25,9 +24,9 @@ pub fn replay<A: Allocator + Copy>(
     number: Option<u32>,
 ) -> Result<Game<A>, RecordError>
     ensures ok { IfOk result
-        (λ game. IsGameOf (collection_of collection.now) number (Ok game.standing)) }
+        (λ game. IsGameOf collection.now number (Ok game.standing)) }
     ensures err { IfErr result
-        (λ e. e ≢ Memory → IsGameOf (collection_of collection.now) number (Err e)) }
+        (λ e. e ≢ Memory → IsGameOf collection.now number (Err e)) }
 {
     let root = root_of(collection)?;
     let mut game = Game::new(alloc, root.size);
@@ -42,9 +41,9 @@ pub fn replay_on<A: Allocator + Copy>(
     number: Option<u32>,
 ) -> Result<(), RecordError>
     ensures ok { OnOk result
-        (IsGameOf (collection_of collection.now) number (Ok game.new.standing)) }
+        (IsGameOf collection.now number (Ok game.new.standing)) }
     ensures err { IfErr result
-        (λ e. e ≢ Memory → IsGameOf (collection_of collection.now) number (Err e)) }
+        (λ e. e ≢ Memory → IsGameOf collection.now number (Err e)) }
     ensures vacant { OnErr result (is_vacant_standing game.new.standing ≡ true) }
 {
     match bring(game, collection, number) {
@@ -63,9 +62,9 @@ fn bring<A: Allocator + Copy>(
     number: Option<u32>,
 ) -> Result<(), RecordError>
     ensures ok { OnOk result
-        (IsGameOf (collection_of collection.now) number (Ok game.new.standing)) }
+        (IsGameOf collection.now number (Ok game.new.standing)) }
     ensures err { IfErr result
-        (λ e. e ≢ Memory → IsGameOf (collection_of collection.now) number (Err e)) }
+        (λ e. e ≢ Memory → IsGameOf collection.now number (Err e)) }
 {
     let root = root_of(collection)?;
     walk_on(game, &root, collection, number)
@@ -78,11 +77,11 @@ fn walk_on<A: Allocator + Copy>(
     collection: &Collection<'_, A>,
     number: Option<u32>,
 ) -> Result<(), RecordError>
-    requires { Says (collection_of collection.now) root.now.size root.now.komi }
+    requires { Says collection.now root.now.size root.now.komi }
     ensures ok { OnOk result
-        (IsGameOf (collection_of collection.now) number (Ok game.new.standing)) }
+        (IsGameOf collection.now number (Ok game.new.standing)) }
     ensures err { IfErr result
-        (λ e. e ≢ Memory → IsGameOf (collection_of collection.now) number (Err e)) }
+        (λ e. e ≢ Memory → IsGameOf collection.now number (Err e)) }
 {
     let mut walk = Walk {
         komi: root.komi,
@@ -113,7 +112,7 @@ fn pass_line<A: Allocator + Copy>(
     collection: &Collection<'_, A>,
 ) -> Result<(), RecordError>
     ensures { Walked result (walk.old, game.old)
-        (events_from 0 (main_line (collection_of collection.now))) (walk.new, game.new) }
+        (events_from 0 (main_line collection.now)) (walk.new, game.new) }
 {
     let mut count = 0;
     let mut current = collection.trees().first();
@@ -128,16 +127,16 @@ fn pass_line<A: Allocator + Copy>(
 fn pass_nodes<A: Allocator + Copy>(
     walk: &mut Walk,
     game: &mut Game<A>,
-    nodes: Nodes<'_>,
+    nodes: &[Node<'_, A>],
     first: usize,
 ) -> Result<usize, RecordError>
     ensures walked { Walked result (walk.old, game.old)
-        (events_from first nodes.entry) (walk.new, game.new) }
-    ensures count { IfOk result (λ count. count ≡ first + length nodes.entry) }
+        (events_from first nodes.now) (walk.new, game.new) }
+    ensures count { IfOk result (λ count. count ≡ first + length nodes.now) }
 {
     let mut count = first;
     for node in nodes {
-        walk.pass_node(game, &node, count)?;
+        walk.pass_node(game, node, count)?;
         count = next(count)?;
     }
     Ok(count)

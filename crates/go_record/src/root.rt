@@ -1,13 +1,12 @@
 ghost use Rattle.std.specs.Prelude.{◌≡◌, ◌==◌, ◌<◌, Err, IfErr, IfOk, IfSome, ℕ, Option, length, position};
 ghost use Rattle.go_board.specs.Komi.{IsKomi};
-ghost use Rattle.go_sgf.specs.View.{collection_of};
 ghost use Rattle.go_record.specs.inner.Progress.{Says};
 ghost use Rattle.go_record.specs.Games.{IsGameOf, is_blank_value, is_go_value, is_number_one, komi_in, lines_in, number_by, value_at_root, number_of_both, value_named};
 
 use crate::error::RecordError;
 use crate::kind::first_value;
 use go_board::Size;
-use go_sgf::{Collection, Properties, hundredths_of, number_of};
+use go_sgf::{Collection, Property, hundredths_of, number_of};
 use std::alloc::Allocator;
 
 /// The lines of a board whose record says nothing of them.
@@ -26,9 +25,9 @@ pub(crate) fn root_of<A: Allocator + Copy>(
     collection: &Collection<'_, A>,
 ) -> Result<Root, RecordError>
     ensures ok { IfOk result
-        (λ root. Says (collection_of collection.now) root.size root.komi) }
+        (λ root. Says collection.now root.size root.komi) }
     ensures err { IfErr result (λ e. (number : Option ℕ)
-        → IsGameOf (collection_of collection.now) number (Err e)) }
+        → IsGameOf collection.now number (Err e)) }
 {
     if !is_go(root_value(collection, b"GM")) {
         return Err(RecordError::NotGo);
@@ -47,23 +46,23 @@ pub(crate) fn root_value<'a, A: Allocator + Copy>(
     collection: &Collection<'a, A>,
     name: &[u8],
 ) -> &'a [u8]
-    ensures { result.now ≡ value_at_root name.now (collection_of collection.now) }
+    ensures { result.now ≡ value_at_root name.now collection.now }
 {
     let Some(tree) = collection.trees().first() else {
         return b"";
     };
-    match tree.nodes().next() {
+    match tree.nodes().first() {
         Some(node) => value_in(name, node.properties()),
         None => b"",
     }
 }
 
-fn value_in<'a>(name: &[u8], properties: Properties<'a>) -> &'a [u8]
-    ensures { result.now ≡ value_named name.now properties.entry }
+fn value_in<'a, A: Allocator + Copy>(name: &[u8], properties: &[Property<'a, A>]) -> &'a [u8]
+    ensures { result.now ≡ value_named name.now properties.now }
 {
     for property in properties {
         if property.is(name) {
-            return first_value(&property);
+            return first_value(property);
         }
     }
     b""

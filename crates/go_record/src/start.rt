@@ -2,21 +2,22 @@ ghost use Rattle.std.specs.Prelude.{◌≡◌, All, IfNone, List, None, OnSome, 
 ghost use Rattle.go_board.specs.declared.point.Point.{Point};
 ghost use Rattle.go_board.specs.Points.{IsOn};
 ghost use Rattle.go_board.specs.Reaching.{is_same};
-ghost use Rattle.go_sgf.specs.BoardValues.{points_of};
+ghost use Rattle.go_sgf.specs.BoardValues.{points_by_values};
+ghost use Rattle.go_sgf.specs.Record.{values_of};
 ghost use Rattle.go_sgf.specs.Rectangles.{listed};
 ghost use Rattle.go_record.specs.Walks.{colour_stated, opening_mover, holds_stones, with_points};
 
 use go_board::{Colour, Grid, Point};
-use go_sgf::{Rectangle, Row, Values, points_in, trim};
+use go_sgf::{Rectangle, Row, points_in, trim};
 
 /// Gives the points of values a colour, or empties them, value by value. None at the first that is
 /// malformed: the points of those before it are set then.
-pub(crate) fn set_points(grid: &mut Grid, colour: Option<Colour>, values: Values<'_>) -> Option<()>
+pub(crate) fn set_points(grid: &mut Grid, colour: Option<Colour>, values: &[&[u8]]) -> Option<()>
     ensures lines { grid.new.lines ≡ grid.old.lines }
     ensures set { OnSome result ((ps : List Point)
-        × (points_of grid.old.lines values.entry ≡ Some ps)
+        × (points_by_values grid.old.lines (values_of values.now) ≡ Some ps)
         × (grid.new.colours ≡ with_points grid.old.lines colour grid.old.colours ps)) }
-    ensures bad { IfNone result (points_of grid.old.lines values.entry ≡ None) }
+    ensures bad { IfNone result (points_by_values grid.old.lines (values_of values.now) ≡ None) }
 {
     let size = grid.size();
     for value in values {

@@ -6,6 +6,7 @@ ghost use Rattle.go_record.specs.inner.Progress.{Goes, GoesFrom, Walked, is_noth
 ghost use Rattle.go_game.specs.Standings.{GameValue};
 ghost use Rattle.go_board.specs.Living.{AreAlive};
 ghost use Rattle.go_record.specs.Walks.{IsDeadSetup, Outcome, Plays, start_of};
+ghost use Rattle.go_sgf.specs.Record.{values_of};
 ghost use Rattle.std.specs.List.{flat_map};
 
 use crate::error::RecordError;
@@ -14,7 +15,7 @@ use crate::start::{colour_of, first_mover, set_points};
 use crate::state::{Left, Walk};
 use go_board::{Colour, Grid, Move, Vertex};
 use go_game::{Game, PlayError, SetupError};
-use go_sgf::{Node, Properties, Property, Values, point_of};
+use go_sgf::{Node, Property, point_of};
 use std::alloc::Allocator;
 
 impl Walk {
@@ -22,7 +23,7 @@ impl Walk {
     pub(crate) fn pass_node<A: Allocator + Copy>(
         &mut self,
         game: &mut Game<A>,
-        node: &Node<'_>,
+        node: &Node<'_, A>,
         number: usize,
     ) -> Result<(), RecordError>
         ensures { Walked result (self.old, game.old) (events_of number node.now)
@@ -33,12 +34,16 @@ impl Walk {
     }
 
     /// Sets up what the properties of a node say. No game is touched.
-    fn set_up(&mut self, properties: Properties<'_>, node: usize) -> Result<(), RecordError>
+    fn set_up<A: Allocator + Copy>(
+        &mut self,
+        properties: &[Property<'_, A>],
+        node: usize,
+    ) -> Result<(), RecordError>
         ensures { (game : GameValue) → Walked result (self.old, game)
-            (flat_map (setup_event node) properties.entry) (self.new, game) }
+            (flat_map (setup_event node) properties.now) (self.new, game) }
     {
         for property in properties {
-            self.pass_setup(&property, node)?;
+            self.pass_setup(property, node)?;
         }
         Ok(())
     }
@@ -46,19 +51,23 @@ impl Walk {
     fn play_moves<A: Allocator + Copy>(
         &mut self,
         game: &mut Game<A>,
-        properties: Properties<'_>,
+        properties: &[Property<'_, A>],
         node: usize,
     ) -> Result<(), RecordError>
         ensures { Walked result (self.old, game.old)
-            (flat_map (move_event node) properties.entry) (self.new, game.new) }
+            (flat_map (move_event node) properties.now) (self.new, game.new) }
     {
         for property in properties {
-            self.pass_move(game, &property, node)?;
+            self.pass_move(game, property, node)?;
         }
         Ok(())
     }
 
-    fn pass_setup(&mut self, property: &Property<'_>, node: usize) -> Result<(), RecordError>
+    fn pass_setup<A: Allocator + Copy>(
+        &mut self,
+        property: &Property<'_, A>,
+        node: usize,
+    ) -> Result<(), RecordError>
         ensures { (game : GameValue) → Walked result (self.old, game)
             (setup_event node property.now) (self.new, game) }
     {
@@ -72,7 +81,7 @@ impl Walk {
     fn pass_move<A: Allocator + Copy>(
         &mut self,
         game: &mut Game<A>,
-        property: &Property<'_>,
+        property: &Property<'_, A>,
         node: usize,
     ) -> Result<(), RecordError>
         ensures { Walked result (self.old, game.old) (move_event node property.now)
@@ -88,11 +97,11 @@ impl Walk {
     fn set_stones(
         &mut self,
         colour: Option<Colour>,
-        values: Values<'_>,
+        values: &[&[u8]],
         node: usize,
     ) -> Result<(), RecordError>
         ensures { (game : GameValue) → Walked result (self.old, game)
-            (stones node colour values.entry ∷ []) (self.new, game) }
+            (stones node colour (values_of values.now) ∷ []) (self.new, game) }
     {
         if self.is_over() {
             return Ok(());

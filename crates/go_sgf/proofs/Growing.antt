@@ -1,35 +1,31 @@
 -- How a tree grows, child by child.
-use Rattle.std.proofs.Common.{◌≡◌, ◌≤◌, ◌<◌, ◌+◌, ◌-◌, ◌==◌, ◌≢◌, ℕ, zero, suc, List, [], ◌∷◌, ◌++◌, true, false, Option, Some, Err, refl, sym, ap, subst, ◌∙◌, length, map, append_assoc, eq-eqb, arith}
+use Rattle.std.proofs.Common.{◌≡◌, ◌≤◌, ◌<◌, ◌+◌, ◌-◌, ◌==◌, ◌≢◌, ℕ, zero, suc, List, [], ◌∷◌, ◌++◌, true, false, Option, Some, Err, refl, sym, ap, subst, ◌∙◌, length, append_assoc, eq-eqb, arith}
 use Rattle.std.proofs.lemmas.Bool.Decides.{nat_tests}
 use Rattle.std.proofs.lemmas.List.{append-nil}
 use Rattle.std.specs.List.{flat_map, AllByRecursion}
-use Rattle.go_sgf.specs.Record.{Property, Trees, IsProperty, AreTrees, depth}
+use Rattle.go_sgf.specs.Record.{Property, TreeValue, IsProperty, AreTrees, depth}
 use Rattle.go_sgf.specs.Spelling.{Part, opening, closing, node_parts, parts, without_space, is_first, SpellsParts}
 use Rattle.go_sgf.specs.Stands.{StateAt, opened, closed}
 use Rattle.go_sgf.specs.inner.Outcome.{outcome, outcome_after, IsWithin, here}
 use Rattle.go_sgf.specs.inner.Reads.{ReadsNodes, ReadsTree}
-use Rattle.go_sgf.specs.PartsIn.{nodes_at, parts_in}
-use Rattle.go_sgf.specs.View.{chain, tree_of, tree_step}
+use Rattle.go_sgf.specs.View.{chain, tree_of, tree_step, trees_of}
 use Rattle.go_sgf.specs.declared.record.Tree.{Tree}
-use Rattle.go_sgf.specs.declared.record.Tree.TheFolds.{fold-roll-Tree}
+use Rattle.go_sgf.specs.declared.record.Tree.TheFolds.{fold-roll-Tree, fold_out-Tree}
 use Rattle.go_sgf.specs.declared.record.Tree.TheOpen.{Tree-F}
-use Rattle.go_sgf.specs.declared.record.Tree.TheViews.{roll-Tree}
+use Rattle.go_sgf.specs.declared.record.Tree.TheViews.{roll-Tree, out-Tree}
 use Rattle.go_sgf.specs.declared.error.Fault.TheVariants.{TooDeep}
 use Rattle.go_sgf.specs.declared.limits.TheConstants.{MAX_DEPTH}
 use Rattle.go_sgf.proofs.Machine as machine
 use Rattle.go_sgf.proofs.Parts.{SpellsParts-append, no_space_after, rest_le}
 
-abbrev pub Grown : Type 0
-Grown = List (List Property) × Trees
-
 -- ---- one more tree
 
-pub chain-push : (ts : List Grown) (t : Grown) → AreTrees (chain ts) → t.0 ≢ [] → AllByRecursion (AllByRecursion IsProperty) t.0 → AreTrees t.1 →
+pub chain-push : (ts : List TreeValue) (t : TreeValue) → AreTrees (chain ts) → t.0 ≢ [] → AllByRecursion (AllByRecursion IsProperty) t.0 → AreTrees t.1 →
     AreTrees (chain (ts ++ t ∷ []))
 chain-push [] t h some fit children = (some, fit, children, tt)
 chain-push (x ∷ ts) t h some fit children = (h.0, h.1, h.2, chain-push ts t h.3 some fit children)
 
-pub parts-push : (ts : List Grown) (t : Grown) →
+pub parts-push : (ts : List TreeValue) (t : TreeValue) →
     parts (chain (ts ++ t ∷ [])) ≡ parts (chain ts) ++ (opening ∷ (flat_map node_parts t.0 ++ (parts t.1 ++ (closing ∷ []))))
 parts-push [] t = refl
 parts-push (x ∷ ts) t =
@@ -39,7 +35,7 @@ parts-push (x ∷ ts) t =
     ap (λ ps. opening ∷ (flat_map node_parts x.0 ++ ps)) inner
     ∙ ap (λ ps. opening ∷ ps) (sym (append_assoc (flat_map node_parts x.0) (parts x.1 ++ (closing ∷ parts (chain ts))) tail))
 
-pub depth-push : (ts : List Grown) (t : Grown) (n : ℕ) → depth (chain ts) ≤ n → suc (depth t.1) ≤ n → depth (chain (ts ++ t ∷ [])) ≤ n
+pub depth-push : (ts : List TreeValue) (t : TreeValue) (n : ℕ) → depth (chain ts) ≤ n → suc (depth t.1) ≤ n → depth (chain (ts ++ t ∷ [])) ≤ n
 depth-push [] t n h k = omega arith
 depth-push (x ∷ ts) t n h k =
     let later : depth (chain (ts ++ t ∷ [])) ≤ n = depth-push ts t n (omega arith) k in
@@ -89,16 +85,20 @@ module _ (limit : ℕ) where
       ∙ machine.closed_white limit (suc d) (omega arith, omega arith) behind
       ∙ rw (other, same) refl
 
-pub tree_le : (d : ℕ) (b : List ℕ) (t : Grown) (rest : List ℕ) → ReadsTree d b t rest → length rest ≤ length b
+pub tree_le : (d : ℕ) (b : List ℕ) (t : TreeValue) (rest : List ℕ) → ReadsTree d b t rest → length rest ≤ length b
 tree_le d b t rest r = rest_le (flat_map node_parts t.0 ++ (parts t.1 ++ (closing ∷ []))) b rest r.spelling
 
 -- what a tree that was made stands for
-pub tree_of-roll : {A : Type 0} (x : Tree-F A (Tree A)) → tree_of (roll-Tree A x) ≡ (nodes_at (parts_in x.text.now), chain (map tree_of x.children.items))
-tree_of-roll {A} x = fold-roll-Tree A Grown tree_step x
+pub tree_of-roll : {A : Type 0} (x : Tree-F A (Tree A)) → tree_of (roll-Tree A x) ≡ (x.nodes, trees_of x.children.items)
+tree_of-roll {A} x = fold-roll-Tree A TreeValue tree_step x
+
+-- what a tree that is looked at stands for
+pub tree_of-out : {A : Type 0} (t : Tree A) → tree_of t ≡ ((out-Tree A t).nodes, trees_of (out-Tree A t).children.items)
+tree_of-out {A} t = fold_out-Tree A TreeValue tree_step t
 
 -- ---- a tree read so far
 
-pub record TreeSoFar (d : ℕ) (b : List ℕ) (ns : List (List Property)) (ts : List Grown) (rest : List ℕ) : Type 0 where
+pub record TreeSoFar (d : ℕ) (b : List ℕ) (ns : List (List Property)) (ts : List TreeValue) (rest : List ℕ) : Type 0 where
   pub fit : AreTrees (chain ts)
   pub nesting : depth (chain ts) + d ≤ MAX_DEPTH
   pub spelling : SpellsParts b (flat_map node_parts ns ++ parts (chain ts)) rest
@@ -115,11 +115,11 @@ tree_first d h b ns rest r place = record {
   place = place;
 }
 
-pub tree_more : (d : ℕ) → IsWithin MAX_DEPTH d → d < MAX_DEPTH → (b : List ℕ) (ns : List (List Property)) (ts ts' : List Grown) (rest inside : List ℕ) (t : Grown)
+pub tree_more : (d : ℕ) → IsWithin MAX_DEPTH d → d < MAX_DEPTH → (b : List ℕ) (ns : List (List Property)) (ts ts' : List TreeValue) (rest inside : List ℕ) (t : TreeValue)
     (more : List ℕ) → TreeSoFar d b ns ts rest → ts' ≡ ts ++ t ∷ [] → rest ≡ 40 ∷ inside → ReadsTree (d + 1) inside t more →
     outcome MAX_DEPTH opened (d + 1) inside ≡ outcome_after MAX_DEPTH (d + 1) more → TreeSoFar d b ns ts' more
 tree_more d h less b ns ts ts' rest inside t more far e f r place =
-    let Q : List Grown → Type 0 = λ xs. TreeSoFar d b ns xs more in
+    let Q : List TreeValue → Type 0 = λ xs. TreeSoFar d b ns xs more in
     subst Q (sym e) (record {
       fit = chain-push ts t far.fit r.some r.nodes r.children;
       nesting =
@@ -137,7 +137,7 @@ tree_more d h less b ns ts ts' rest inside t more far e f r place =
     })
 
 -- behind the last child
-pub tree_whole : (d : ℕ) (b : List ℕ) (ns : List (List Property)) (ts : List Grown) (at rest behind : List ℕ) → ReadsNodes b ns at → TreeSoFar d b ns ts rest →
+pub tree_whole : (d : ℕ) (b : List ℕ) (ns : List (List Property)) (ts : List TreeValue) (at rest behind : List ℕ) → ReadsNodes b ns at → TreeSoFar d b ns ts rest →
     rest ≡ 41 ∷ behind → ReadsTree d b (ns, chain ts) (without_space behind)
 tree_whole d b ns ts at rest behind r far e = record {
   some = r.some;

@@ -10,7 +10,7 @@ use Rattle.std.specs.List.{list_all, flat_map, AllByRecursion}
 use Rattle.go_sgf.specs.Record.{Property, is_letter_byte, is_inside, IsValue, IsProperty}
 use Rattle.go_sgf.specs.Spelling.{Part, opening, closing, semicolon, name, value_part, property_parts, node_parts, without_space, is_space, is_first, SpellsParts}
 use Rattle.go_sgf.specs.inner.Reads.{ReadsNodes, begins_space}
-use Rattle.go_sgf.specs.PartsIn.{is_letter_first, nodes_at, parts_from, parts_in, properties_at, values_at, with_byte, with_letter}
+use Rattle.go_sgf.specs.inner.PartsIn.{is_letter_first, nodes_at, parts_from, parts_in, properties_at, values_at, with_byte, with_letter}
 use Rattle.go_sgf.proofs.Parts.{SpellsParts-split, bracket_no_letter, length-after_space, name_letter, no_space_after, no_space_first}
 use Rattle.go_sgf.proofs.Scanning.{after_space_more, after_space_stop}
 

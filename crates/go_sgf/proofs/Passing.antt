@@ -1,15 +1,15 @@
 -- How the parts of the reader pass on what comes of reading.
-use Rattle.std.proofs.Common.{◌≡◌, ◌≢◌, ◌≤◌, ◌<◌, ◌+◌, ℕ, List, [], ◌∷◌, ◌++◌, true, false, Result, Ok, Err, refl, sym, ap, subst, ◌∙◌, length, map, append_assoc, eqb-true, arith}
+use Rattle.std.proofs.Common.{◌≡◌, ◌≢◌, ◌≤◌, ◌<◌, ◌+◌, ℕ, List, [], ◌∷◌, ◌++◌, true, false, Option, Some, None, Result, Ok, Err, refl, sym, ap, subst, ◌∙◌, length, map, append_assoc, eqb-true, arith}
 use Rattle.std.proofs.lemmas.Grind.{flat_map-append}
 use Rattle.std.proofs.lemmas.List.{append-nil, map-append, length-append}
-use Rattle.std.specs.Prelude.{IfOk}
+use Rattle.std.specs.Prelude.{IfOk, IfSome}
 use Rattle.std.specs.List.{list_all, list_any, flat_map, AllByRecursion}
 use Rattle.go_sgf.specs.Record.{Property, is_letter_byte, is_upper_byte, IsValue, IsName, IsProperty}
 use Rattle.go_sgf.specs.Spelling.{Part, value_part, property_parts, node_parts, without_space, is_first, SpellsParts}
 use Rattle.go_sgf.specs.Stands.{opened, in_node, named, gap, in_value, after, closed}
 use Rattle.go_sgf.specs.inner.Outcome.{outcome, Meets, IsWithin, here}
 use Rattle.go_sgf.specs.inner.Reads.{ReadsValues, ReadsProperty, ReadsNode, ReadsNodes}
-use Rattle.go_sgf.specs.PartsIn.{is_letter_first}
+use Rattle.go_sgf.specs.inner.PartsIn.{is_letter_first}
 use Rattle.go_sgf.specs.declared.error.Fault.{Fault}
 use Rattle.go_sgf.specs.declared.error.Fault.TheVariants.{Memory, End, Unexpected, TooDeep}
 use Rattle.go_sgf.specs.declared.limits.TheConstants.{MAX_DEPTH}
@@ -52,6 +52,11 @@ flat_map-push f xs x = flat_map-append f xs (x ∷ []) ∙ ap (λ ys. flat_map f
 
 pub map-push : {X Y : Type 0} (f : X → Y) (xs ys : List X) (x : X) → ys ≡ xs ++ x ∷ [] → map f ys ≡ map f xs ++ f x ∷ []
 map-push f xs ys x e = ap (map f) e ∙ map-append f xs (x ∷ [])
+
+-- one more that is kept
+pub kept_more : {X : Type 0} (r : Option X) (us vs ws : List X) (x : X) → IfSome r (λ one. us ≡ vs ++ one ∷ []) → r ≡ Some x → vs ≡ ws → us ≡ ws ++ x ∷ []
+kept_more None us vs ws x h e f = cc
+kept_more (Some y) us vs ws x h e f = cc
 
 pub shorter : (c : ℕ) (b inside rest : List ℕ) → b ≡ c ∷ inside → length rest ≤ length inside → length rest < length b
 shorter c b inside rest e h = omega (arith, ap length e)
@@ -161,14 +166,11 @@ property_shorter b p rest r =
 
 -- a name, and the values behind it
 pub property_whole : (b n behind : List ℕ) (vs : List (List ℕ)) (rest : List ℕ) → b ≡ n ++ behind → list_all is_letter_byte n ≡ true → list_any is_upper_byte n ≡ true →
-    is_letter_first b ≡ true → ReadsValues behind vs rest → (p : Property) × ReadsProperty b p rest
-property_whole b n behind vs rest e f g letter r = (
-  record { name = n; values = vs },
-  record {
-    fit = record { named = (f, g); some = r.some; inside = r.inside };
-    spelling = (behind, letter_same b letter ∙ e, r.spelling);
-  },
-)
+    is_letter_first b ≡ true → ReadsValues behind vs rest → ReadsProperty b (record { name = n; values = vs }) rest
+property_whole b n behind vs rest e f g letter r = record {
+  fit = record { named = (f, g); some = r.some; inside = r.inside };
+  spelling = (behind, letter_same b letter ∙ e, r.spelling);
+}
 
 -- properties of a node read so far
 pub record NodeSoFar (b : List ℕ) (ps : List Property) (rest : List ℕ) : Type 0 where

@@ -1,5 +1,5 @@
 -- The points of a rectangle, picked out of the whole board and gone over row by row.
-use Rattle.std.proofs.Common.{◌≡◌, ◌∙◌, ◌<◌, ◌≤◌, ◌*◌, ◌+◌, ◌-◌, ◌++◌, ℕ, zero, suc, Bool, true, false, List, [], ◌∷◌, refl, sym, ap, ap₂, inl, inr, arith, map, cond, min, max}
+use Rattle.std.proofs.Common.{◌≡◌, ◌∙◌, ◌<◌, ◌≤◌, ◌*◌, ◌+◌, ◌-◌, ◌++◌, ℕ, zero, suc, Bool, true, false, List, [], ◌∷◌, refl, sym, ap, ap₂, append_assoc, inl, inr, arith, map, cond, min, max}
 use Rattle.std.specs.Prelude.{◌&&◌, filter}
 use Rattle.std.specs.List.{All, flat_map, range_with_len}
 use Rattle.std.proofs.lemmas.Bool.{cases_Bool}
@@ -23,6 +23,9 @@ range_append a zero k =
 range_append a (suc m) k =
     ap (range_with_len a) (let e : suc m + k ≡ suc (m + k) = omega arith in e)
     ∙ ap (λ xs. a ∷ xs) (range_append (a + 1) m k ∙ ap (λ j. range_with_len (a + 1) m ++ range_with_len j k) (let e : a + 1 + m ≡ a + suc m = omega arith in e))
+
+range_more : (m : ℕ) → range_with_len 0 (m + 1) ≡ range_with_len 0 m ++ m ∷ []
+range_more m = range_append 0 m 1 ∙ ap (λ j. range_with_len 0 m ++ j ∷ []) (let e : 0 + m ≡ m = omega arith in e)
 
 -- equal values at numbers side by side
 map_moved : {X : Type 0} (f g : ℕ → X) (a b m : ℕ) → ((k : ℕ) → k < m → f (a + k) ≡ g (b + k)) → map f (range_with_len a m) ≡ map g (range_with_len b m)
@@ -81,8 +84,7 @@ by_rows keep f n (suc m) =
     ap (range_with_len 0) (let e : suc m * n ≡ m * n + n = omega arith in e) ∙ range_append 0 (m * n) n
     ∙ ap (λ j. front ++ range_with_len j n) (let e : 0 + m * n ≡ m * n = omega arith in e) in
     let more : range_with_len 0 (suc m) ≡ range_with_len 0 m ++ m ∷ [] =
-    ap (range_with_len 0) (let e : suc m ≡ m + 1 = omega arith in e) ∙ range_append 0 m 1
-    ∙ ap (λ j. range_with_len 0 m ++ j ∷ []) (let e : 0 + m ≡ m = omega arith in e) in
+    ap (range_with_len 0) (let e : suc m ≡ m + 1 = omega arith in e) ∙ range_more m in
     ap (λ xs. filter keep (map f xs)) split ∙ ap (filter keep) (map-append f front back) ∙ filter-append keep (map f front) (map f back)
     ∙ ap₂ (λ xs ys. xs ++ ys) (by_rows keep f n m) (sym (append-nil (row m)))
     ∙ sym (ap (flat_map row) more ∙ flat_map-append row (range_with_len 0 m) (m ∷ []))
@@ -199,3 +201,17 @@ pub rectangle_on : (n : ℕ) (p q : Point) → All (IsOn n) (rectangle n p q)
 rectangle_on n p q =
     All-filter (is_in p q) (IsOn n) (map (point_at n) (points n))
     (All-map (IsOn n) (point_at n) (points n) (All-weaker (λ k. k < n * n) (λ k. IsOn n (point_at n k)) (on_at n) (points n) (numbers_below (n * n))))
+
+-- ---- rows, one after another
+
+row_more : {X : Type 0} (row : ℕ → List X) (k : ℕ) → flat_map row (range_with_len 0 (k + 1)) ≡ flat_map row (range_with_len 0 k) ++ row k
+row_more row k =
+    ap (flat_map row) (range_more k) ∙ flat_map-append row (range_with_len 0 k) (k ∷ [])
+    ∙ ap (λ xs. flat_map row (range_with_len 0 k) ++ xs) (append-nil (row k))
+
+-- one row more behind others
+pub row_pushed : {X : Type 0} (row : ℕ → List X) (k : ℕ) (old now new one : List X) → now ≡ old ++ flat_map row (range_with_len 0 k) → one ≡ row k →
+    new ≡ now ++ one → new ≡ old ++ flat_map row (range_with_len 0 (k + 1))
+row_pushed row k old now new one far is e =
+    let before = flat_map row (range_with_len 0 k) in
+    e ∙ ap₂ (λ xs ys. xs ++ ys) far is ∙ append_assoc old before (row k) ∙ ap (λ xs. old ++ xs) (sym (row_more row k))

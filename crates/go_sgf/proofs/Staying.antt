@@ -7,8 +7,10 @@ use Rattle.std.specs.List.{flat_map, filter, list_all}
 use Rattle.go_sgf.specs.Record.{Property, is_letter_byte, is_upper_byte, IsValue}
 use Rattle.go_sgf.specs.Spelling.{Part, semicolon, name, value_part, without_space, is_first}
 use Rattle.go_sgf.specs.inner.Reads.{begins_space}
-use Rattle.go_sgf.specs.PartsIn.{is_letter_first, nodes_at, parts_in, properties_at, values_at}
+use Rattle.go_sgf.specs.inner.PartsIn.{is_letter_first, nodes_at, parts_in, properties_at, values_at}
 use Rattle.go_sgf.specs.inner.Texts.{StayValues, Stays, node_text, parts_text, property_text, value_text}
+use Rattle.go_sgf.specs.inner.RestIn.{rest_in}
+use Rattle.go_sgf.proofs.Leaving.{first_rest, letters_rest, semicolon_rest}
 use Rattle.go_sgf.proofs.Passing.{flat_map-push}
 use Rattle.go_sgf.proofs.PartsIn.{first_part, name_first, no_part, nodes_passed_values, semicolon_part, values_given, values_passed}
 use Rattle.go_sgf.proofs.Written.{filter-all, node_text-is, property_text-is}
@@ -38,19 +40,21 @@ semicolon_stays b rest e = record {
   front = 59 ∷ [];
   whole = e;
   written = ap (λ (xs : List ℕ). parts_text (parts_in xs)) e ∙ ap parts_text (semicolon_part rest) ∙ semicolon_text (parts_in rest);
+  left = ap rest_in e ∙ semicolon_rest rest;
 }
 
 -- one value more
 pub value_stays : (vs : List (List ℕ)) (b rest inside v more : List ℕ) → b ≡ flat_map value_text vs ++ rest → parts_in b ≡ map value_part vs ++ parts_in rest →
-    rest ≡ 91 ∷ inside → inside ≡ v ++ (93 ∷ more) → IsValue v →
-    (b ≡ flat_map value_text (vs ++ v ∷ []) ++ more) × (parts_in b ≡ map value_part (vs ++ v ∷ []) ++ parts_in more)
-value_stays vs b rest inside v more whole parts e f h =
+    rest_in b ≡ rest_in rest → rest ≡ 91 ∷ inside → inside ≡ v ++ (93 ∷ more) → IsValue v →
+    (b ≡ flat_map value_text (vs ++ v ∷ []) ++ more) × (parts_in b ≡ map value_part (vs ++ v ∷ []) ++ parts_in more) × (rest_in b ≡ rest_in more)
+value_stays vs b rest inside v more whole parts left e f h =
     let text : rest ≡ value_text v ++ more = e ∙ ap (λ xs. 91 ∷ xs) (f ∙ sym (append_assoc v (93 ∷ []) more)) in
     let part : parts_in rest ≡ value_part v ∷ parts_in more = first_part rest inside v more (ap without_space e) f h in (
       whole ∙ ap (λ xs. flat_map value_text vs ++ xs) text ∙ sym (append_assoc (flat_map value_text vs) (value_text v) more)
           ∙ ap (λ xs. xs ++ more) (sym (flat_map-push value_text vs v)),
       parts ∙ ap (λ ps. map value_part vs ++ ps) part ∙ sym (append_assoc (map value_part vs) (value_part v ∷ []) (parts_in more))
           ∙ ap (λ ps. ps ++ parts_in more) (sym (map-append value_part vs (v ∷ []))),
+      left ∙ first_rest rest inside v more (ap without_space e) f h,
     )
 
 property_stays : (b n behind rest : List ℕ) → is_letter_first b ≡ true → b ≡ n ++ behind → list_all is_letter_byte n ≡ true → list_all is_upper_byte n ≡ true →
@@ -69,6 +73,7 @@ property_stays b n behind rest first e letters upper stopped s =
           ∙ ap (λ xs. (xs ++ flat_map value_text (values_at (parts_in behind))) ++ parts_text (parts_in behind)) (filter-all is_upper_byte n upper)
           ∙ ap (λ ws. (n ++ flat_map value_text ws) ++ parts_text (parts_in behind)) given
           ∙ ap (λ xs. (n ++ flat_map value_text vs) ++ xs) later;
+      left = ap rest_in e ∙ letters_rest n behind letters ∙ s.left;
     }
 
 shorter_values : (b n behind rest : List ℕ) → is_letter_first b ≡ true → b ≡ n ++ behind → is_letter_first behind ≡ false → StayValues behind rest → length rest < length b
@@ -91,6 +96,7 @@ stays_on b mid rest s t = record {
   front = s.front ++ t.front;
   whole = s.whole ∙ ap (λ xs. s.front ++ xs) t.whole ∙ sym (append_assoc s.front t.front rest);
   written = s.written ∙ ap (λ xs. s.front ++ xs) t.written ∙ sym (append_assoc s.front t.front (parts_text (parts_in rest)));
+  left = s.left ∙ t.left;
 }
 
 -- ---- what is left

@@ -2,7 +2,7 @@
 use Rattle.std.proofs.Common.{◌≡◌, ◌≢◌, ◌≤◌, ◌<◌, ◌+◌, ◌-◌, ◌==◌, inl, inr, ℕ, zero, suc, List, [], ◌∷◌, ◌++◌, true, false, None, Result, Ok, Err, refl, sym, ap, subst, ◌∙◌, length, take, eqb-true, arith}
 use Rattle.std.proofs.lemmas.Bool.{cases_Bool, and_parts}
 use Rattle.std.specs.List.{flat_map, AllByRecursion}
-use Rattle.go_sgf.specs.Record.{Property, Trees, none, tree, IsProperty, AreTrees, depth}
+use Rattle.go_sgf.specs.Record.{Property, Trees, none, tree, IsProperty, AreTrees, depth, TreeValue}
 use Rattle.go_sgf.specs.Spelling.{Part, opening, closing, is_first, node_parts, parts, without_space, is_tree_first, tree_in, Spells, SpellsParts}
 use Rattle.go_sgf.specs.Stands.{stands, run, opened, IsAtDepth}
 use Rattle.go_sgf.specs.inner.Outcome.{outcome, left_of, error_at, Meets}
@@ -12,7 +12,7 @@ use Rattle.go_sgf.specs.View.{chain}
 use Rattle.go_sgf.specs.declared.error.Fault.{Fault}
 use Rattle.go_sgf.specs.declared.error.Fault.TheVariants.{Memory, End, Unexpected, TooDeep}
 use Rattle.go_sgf.specs.declared.limits.TheConstants.{MAX_DEPTH}
-use Rattle.go_sgf.proofs.Growing.{Grown, chain-push, depth-push, parts-push}
+use Rattle.go_sgf.proofs.Growing.{chain-push, depth-push, parts-push}
 use Rattle.go_sgf.proofs.Outcomes.{tree_outcome}
 use Rattle.go_sgf.proofs.Parts.{SpellsParts-append, SpellsParts-split, SpellsParts-same, after_space-again, rest_le}
 use Rattle.go_sgf.proofs.Passing.{push_some}
@@ -94,7 +94,7 @@ two_ways (tree nodes children later) (tree nodes' children' later') b at rest in
 
 -- ---- a collection read so far
 
-pub record TreesSoFar (source : List ℕ) (ts : List Grown) (rest : List ℕ) : Type 0 where
+pub record TreesSoFar (source : List ℕ) (ts : List TreeValue) (rest : List ℕ) : Type 0 where
   pub some : ts ≡ [] → is_tree_first rest ≡ true
   pub fit : AreTrees (chain ts)
   pub nesting : depth (chain ts) ≤ MAX_DEPTH
@@ -110,10 +110,10 @@ trees_first source rest e some =
       spelling = begins_no_space (tree_in source) begins ∙ sym e;
     }
 
-pub trees_more : (source : List ℕ) (ts ts' : List Grown) (rest inside : List ℕ) (t : Grown) (more : List ℕ) → TreesSoFar source ts rest →
+pub trees_more : (source : List ℕ) (ts ts' : List TreeValue) (rest inside : List ℕ) (t : TreeValue) (more : List ℕ) → TreesSoFar source ts rest →
     ts' ≡ ts ++ t ∷ [] → rest ≡ 40 ∷ inside → ReadsTree 1 inside t more → TreesSoFar source ts' more
 trees_more source ts ts' rest inside t more far e f r =
-    let Q : List Grown → Type 0 = λ xs. TreesSoFar source xs more in
+    let Q : List TreeValue → Type 0 = λ xs. TreesSoFar source xs more in
     let P : List Part → Type 0 = λ ps. SpellsParts (tree_in source) ps more in
     subst Q (sym e) (record {
       some = λ empty. absurd (push_some ts t empty);
@@ -125,11 +125,11 @@ trees_more source ts ts' rest inside t more far e f r =
           (SpellsParts-append (parts (chain ts)) tail (tree_in source) rest more far.spelling (inside, ap without_space f, r.spelling));
     })
 
-chain_some : (ts : List Grown) → ts ≢ [] → chain ts ≢ none
+chain_some : (ts : List TreeValue) → ts ≢ [] → chain ts ≢ none
 chain_some [] some e = some refl
 chain_some (t ∷ ts) some e = cc
 
-pub trees_whole : (source : List ℕ) (ts : List Grown) (rest : List ℕ) → TreesSoFar source ts rest → is_tree_first rest ≡ false → Spells source (chain ts)
+pub trees_whole : (source : List ℕ) (ts : List TreeValue) (rest : List ℕ) → TreesSoFar source ts rest → is_tree_first rest ≡ false → Spells source (chain ts)
 trees_whole source ts rest far ended = record {
   fit = record { some = chain_some ts (λ empty. let h = far.some empty in cc); trees = far.fit; nesting = far.nesting };
   rest = rest;
@@ -165,7 +165,7 @@ why_in inside (TooDeep n) at w =
     let same : suc (at + 1) ≡ suc at + 1 = omega arith in
     (omega arith, subst P same w.1)
 
-stops_at : (source : List ℕ) (ts : List Grown) (inside : List ℕ) (f : Fault) (place : ℕ) → TreesSoFar source ts (40 ∷ inside) →
+stops_at : (source : List ℕ) (ts : List TreeValue) (inside : List ℕ) (f : Fault) (place : ℕ) → TreesSoFar source ts (40 ∷ inside) →
     is_tree_first (40 ∷ inside) ≡ true → outcome MAX_DEPTH opened 1 inside ≡ Err f → place + left_of f ≡ length source →
     StopsAt source place (WhyIn f)
 stops_at source ts inside f place far begins e placed =
@@ -188,7 +188,7 @@ stops_at source ts inside f place far begins e placed =
     }
 
 -- no more bytes are left at a fault than the source has
-left_in : (source : List ℕ) (ts : List Grown) (rest inside : List ℕ) (f : Fault) → TreesSoFar source ts rest → rest ≡ 40 ∷ inside →
+left_in : (source : List ℕ) (ts : List TreeValue) (rest inside : List ℕ) (f : Fault) → TreesSoFar source ts rest → rest ≡ 40 ∷ inside →
     outcome MAX_DEPTH opened 1 inside ≡ Err f → left_of f ≤ length source
 left_in source ts rest inside f far is e =
     let i : FaultIs MAX_DEPTH opened 1 inside f = fault_is MAX_DEPTH inside opened 1 f (λ h. cc) (omega arith, omega arith) e in
@@ -196,7 +196,7 @@ left_in source ts rest inside f far is e =
     let whole : length rest ≤ length (tree_in source) = rest_le (parts (chain ts)) (tree_in source) rest far.spelling in
     omega (arith, length-from_tree source, ap length is)
 
-module _ {X : Type 0} (later : X → Result (List ℕ) Fault) (source : List ℕ) (ts : List Grown) (rest inside : List ℕ) where
+module _ {X : Type 0} (later : X → Result (List ℕ) Fault) (source : List ℕ) (ts : List TreeValue) (rest inside : List ℕ) where
   pub left_by : (f : Fault) → TreesSoFar source ts rest → rest ≡ 40 ∷ inside → Meets (Err f) (outcome MAX_DEPTH opened 1 inside) later →
       left_of f ≤ length source
   left_by Memory far is m = omega arith

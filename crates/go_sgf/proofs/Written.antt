@@ -1,19 +1,13 @@
 -- How the pieces that are written make up the canonical text.
-use Rattle.std.proofs.Common.{◌≡◌, ◌<◌, ◌≤◌, ◌+◌, ℕ, List, [], ◌∷◌, ◌++◌, Bool, true, false, refl, sym, ap, ◌∙◌, length, map, take, get_or, append_assoc}
+use Rattle.std.proofs.Common.{◌≡◌, ◌<◌, ◌+◌, ℕ, List, [], ◌∷◌, ◌++◌, Bool, true, false, refl, sym, ap, ◌∙◌, length, map, take, get_or, append_assoc}
 use Rattle.std.proofs.lemmas.Bool.{and_parts}
 use Rattle.std.proofs.lemmas.Grind.{flat_map-append}
 use Rattle.std.proofs.lemmas.List.Elements.{filter-append}
-use Rattle.std.proofs.lemmas.List.{append-nil, map-append, take_all, take_more}
+use Rattle.std.proofs.lemmas.List.{append-nil, map-append, take_more}
 use Rattle.std.specs.List.{flat_map, filter, list_all}
 use Rattle.go_sgf.specs.Record.{Property, Trees, is_upper_byte, plain, plain_property}
-use Rattle.go_sgf.specs.Spelling.{Part, opening, closing, value_part, text, text_of_parts, node_parts, property_parts, parts, tree_text, canonical}
-use Rattle.go_sgf.specs.inner.Texts.{value_text, property_text, node_text, text_of}
-use Rattle.go_sgf.specs.PartsIn.{nodes_at, parts_in}
-use Rattle.go_sgf.specs.View.{chain, tree_of, tree_step, trees_of}
-use Rattle.go_sgf.specs.declared.record.Tree.{Tree}
-use Rattle.go_sgf.specs.declared.record.Tree.TheFolds.{fold_out-Tree}
-use Rattle.go_sgf.specs.declared.record.Tree.TheViews.{out-Tree}
-use Rattle.go_sgf.proofs.Growing.{Grown}
+use Rattle.go_sgf.specs.Spelling.{Part, opening, closing, value_part, text, text_of_parts, node_parts, property_parts, parts, tree_text}
+use Rattle.go_sgf.specs.inner.Texts.{value_text, property_text, node_text}
 use Rattle.go_sgf.proofs.Passing.{flat_map-push}
 
 -- ---- loops
@@ -69,12 +63,12 @@ pub node_text-is : (ps : List Property) → (59 ∷ []) ++ flat_map property_tex
 node_text-is ps =
     ap (λ ys. 59 ∷ ys) (sym (ap text_of_parts (flat_map-map property_parts plain_property ps) ∙ joined-flat_map (λ p. property_parts (plain_property p)) ps))
 
-joined-nodes : (ns : List (List Property)) → text_of_parts (flat_map node_parts (map (map plain_property) ns)) ≡ flat_map node_text ns
+pub joined-nodes : (ns : List (List Property)) → text_of_parts (flat_map node_parts (map (map plain_property) ns)) ≡ flat_map node_text ns
 joined-nodes ns =
     ap text_of_parts (flat_map-map node_parts (map plain_property) ns) ∙ joined-flat_map (λ n. node_parts (map plain_property n)) ns
 
 -- a tree's text, and what follows it
-tree_then : (nodes : List (List Property)) (children : Trees) (ps : List Part) →
+pub tree_then : (nodes : List (List Property)) (children : Trees) (ps : List Part) →
     text_of_parts (opening ∷ (flat_map node_parts (map (map plain_property) nodes) ++ (parts (plain children) ++ (closing ∷ ps))))
     ≡ tree_text nodes children ++ text_of_parts ps
 tree_then nodes children ps =
@@ -84,58 +78,3 @@ tree_then nodes children ps =
     ∙ sym (append_assoc front (parts (plain children) ++ (closing ∷ [])) ps) in
     ap (λ qs. text_of_parts (opening ∷ qs)) inner
     ∙ joined-append (opening ∷ (front ++ (parts (plain children) ++ (closing ∷ [])))) ps
-
-abbrev grown_text : Grown → List ℕ
-grown_text t = tree_text t.0 t.1
-
-children_text : (ts : List Grown) → text_of_parts (parts (plain (chain ts))) ≡ flat_map grown_text ts
-children_text [] = refl
-children_text (t ∷ ts) = tree_then t.0 t.1 (parts (plain (chain ts))) ∙ ap (λ ys. tree_text t.0 t.1 ++ ys) (children_text ts)
-
--- a tree's text by its nodes and its children
-tree_text-is : {A : Type 0} (nodes : List (List Property)) (ts : List (Tree A)) →
-    (40 ∷ []) ++ (flat_map node_text nodes ++ (flat_map text_of ts ++ (41 ∷ []))) ≡ tree_text nodes (trees_of ts)
-tree_text-is nodes ts =
-    let front : List Part = flat_map node_parts (map (map plain_property) nodes) in
-    let behind : text_of_parts (parts (plain (trees_of ts)) ++ (closing ∷ [])) ≡ flat_map text_of ts ++ (41 ∷ []) =
-    joined-append (parts (plain (trees_of ts))) (closing ∷ [])
-    ∙ ap (λ ys. ys ++ (41 ∷ [])) (children_text (map tree_of ts) ∙ flat_map-map grown_text tree_of ts) in
-    let whole : text_of_parts (front ++ (parts (plain (trees_of ts)) ++ (closing ∷ []))) ≡ flat_map node_text nodes ++ (flat_map text_of ts ++ (41 ∷ [])) =
-    joined-append front (parts (plain (trees_of ts)) ++ (closing ∷ [])) ∙ ap (λ ys. ys ++ text_of_parts (parts (plain (trees_of ts)) ++ (closing ∷ []))) (joined-nodes nodes)
-    ∙ ap (λ ys. flat_map node_text nodes ++ ys) behind in
-    ap (λ ys. 40 ∷ ys) (sym whole)
-
--- what a tree that is read stands for
-tree_of-out : {A : Type 0} (t : Tree A) → tree_of t ≡ (nodes_at (parts_in (out-Tree A t).text.now), trees_of (out-Tree A t).children.items)
-tree_of-out {A} t = fold_out-Tree A Grown tree_step t
-
--- the text of a tree that is read, after all of its children
-pub text_of-is : {A : Type 0} (t : Tree A) (children : List (Tree A)) (k : ℕ) → children ≡ (out-Tree A t).children.items → length children ≤ k →
-    (40 ∷ []) ++ (flat_map node_text (nodes_at (parts_in (out-Tree A t).text.now)) ++ (flat_map text_of (take k children) ++ (41 ∷ []))) ≡ text_of t
-text_of-is {A} t children k f h =
-    let out : tree_of t ≡ (nodes_at (parts_in (out-Tree A t).text.now), trees_of (out-Tree A t).children.items) = tree_of-out t in
-    let nodes : List (List Property) = nodes_at (parts_in (out-Tree A t).text.now) in
-    ap (λ ts. (40 ∷ []) ++ (flat_map node_text nodes ++ (flat_map text_of ts ++ (41 ∷ [])))) (take_all k children h)
-    ∙ tree_text-is nodes children
-    ∙ ap (λ ts. tree_text nodes (trees_of ts)) f
-    ∙ sym (ap (λ (g : Grown). tree_text g.0 g.1) out)
-
--- one more child's text
-pub text_more : {A : Type 0} (ts : List (Tree A)) (i : ℕ) (t : Tree A) → take (i + 1) ts ≡ take i ts ++ t ∷ [] →
-    flat_map text_of (take i ts) ++ text_of t ≡ flat_map text_of (take (i + 1) ts)
-text_more ts i t e = sym (ap (flat_map text_of) e ∙ flat_map-push text_of (take i ts) t)
-
--- each tree's text and LF
-canonical-is : (ts : List Grown) → canonical (chain ts) ≡ flat_map (λ t. grown_text t ++ (10 ∷ [])) ts
-canonical-is [] = refl
-canonical-is (t ∷ ts) =
-    ap (λ ys. grown_text t ++ (10 ∷ ys)) (canonical-is ts)
-    ∙ sym (append_assoc (grown_text t) (10 ∷ []) (flat_map (λ u. grown_text u ++ (10 ∷ [])) ts))
-
--- one more tree's text
-pub canonical_more : {A : Type 0} (ts : List (Tree A)) (i : ℕ) (t : Tree A) → take (i + 1) ts ≡ take i ts ++ t ∷ [] →
-    canonical (trees_of (take i ts)) ++ (text_of t ++ (10 ∷ [])) ≡ canonical (trees_of (take (i + 1) ts))
-canonical_more ts i t e =
-    let f = λ (u : Grown). grown_text u ++ (10 ∷ []) in
-    ap (λ ys. ys ++ (text_of t ++ (10 ∷ []))) (canonical-is (map tree_of (take i ts)))
-    ∙ one_more f tree_of ts i t e ∙ sym (canonical-is (map tree_of (take (i + 1) ts)))

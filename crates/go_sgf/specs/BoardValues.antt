@@ -67,6 +67,6 @@ both (Some ps) (Some qs) = Some (ps ++ qs)
 both _ _ = None
 
 -- the points value by value, where each value has some
-abbrev pub points_of : ℕ → List (List ℕ) → Option (List Point)
-points_of n [] = Some []
-points_of n (v ∷ vs) = both (points_listed n v) (points_of n vs)
+abbrev pub points_by_values : ℕ → List (List ℕ) → Option (List Point)
+points_by_values n [] = Some []
+points_by_values n (v ∷ vs) = both (points_listed n v) (points_by_values n vs)

@@ -8,5 +8,4 @@ pub mod Cooked
 pub mod Numbers
 pub mod BoardValues
 pub mod Rectangles
-pub mod PartsIn
 pub mod inner

@@ -1,5 +1,6 @@
 -- Records as plain data: trees of nodes, nodes of properties.
 use Rattle.std.specs.Prelude.{◌≡◌, ◌≢◌, ◌≤◌, ℕ, suc, max, ◌==◌, ◌&&◌, ◌||◌, not, nat_le, Bool, true, false, List, [], ◌∷◌, map, filter}
+use Rattle.std.specs.Borrow.{Bor}
 use Rattle.std.specs.List.{list_all, list_any, AllByRecursion}
 use Rattle.go_sgf.specs.declared.limits.TheConstants.{MAX_DEPTH}
 
@@ -8,10 +9,18 @@ pub record Property : Type 0 where
   pub name : List ℕ
   pub values : List (List ℕ)
 
+-- the bytes of values that stand in a source
+abbrev pub values_of : List (Bor (List ℕ)) → List (List ℕ)
+values_of values = map (λ v. v.now) values
+
 -- Trees one after another: none, or a first tree by its nodes and its children, and the trees after it.
 pub data Trees : Type 0 where
   none : Trees
   tree : List (List Property) → Trees → Trees → Trees
+
+-- a tree by its nodes and its children
+abbrev pub TreeValue : Type 0
+TreeValue = List (List Property) × Trees
 
 abbrev pub is_upper_byte : ℕ → Bool
 is_upper_byte c = nat_le 65 c && nat_le c 90

@@ -1,10 +1,12 @@
 //! Records of games in the Smart Game Format: read, written, and the values in them.
 //!
 //! - [`read`], [`SgfError`]: a record from its bytes, or why they are none, and at which byte.
-//! - [`Collection`], [`Tree`], [`Node`], [`Property`], [`Values`]: the parts of a record, found in
-//!   its bytes when they are asked for.
-//! - [`write`]: the one canonical spelling.
-//! - [`number_of`], [`hundredths_of`], [`point_of`], [`points_in`]: what values say.
+//! - [`check`]: the same answer, with nothing kept and no memory taken.
+//! - [`Collection`], [`Tree`], [`Node`], [`Property`]: the parts of a record, as lists of the parts
+//!   below them. Names and values are parts of the source, which isn't copied.
+//! - [`write`], [`tidy`]: the one canonical spelling, of a record that was read or of a source.
+//! - [`number_of`], [`hundredths_of`], [`point_of`], [`points_of`], [`trim`]: what values say.
+//! - [`points_in`], [`Rectangle`], [`Row`]: the points of one value, without a list of them.
 //! - [`cook_simple`], [`cook_text`], [`escape`]: texts without and with their escapes.
 //!
 //! A record is read, and written in its canonical spelling:
@@ -14,16 +16,19 @@
 //! write(&collection, &mut writer)?;
 //! ```
 //!
-//! What is promised is in the clauses of `reader.rt`, `writer.rt`, `nodes.rt` and the files of
-//! values. Their words are in `specs/`: `Spelling` says which bytes spell a record, `Record` what
-//! it is as plain data, `View` which of that the types stand for, `Refusals` why a text is refused,
-//! and `Numbers`, `BoardValues` and `Cooked` what values say. `Laws` has what holds of all records.
-//! What `specs/inner/` defines serves private functions alone.
+//! What is promised is in the clauses of `reader.rt`, `writer.rt`, `record.rt`, `nodes.rt` and the
+//! files of values: `numbers.rt`, `hundredths.rt`, `points.rt`, `rectangle.rt` and `cooking.rt`.
+//! Their words are in `specs/`: `Spelling` says which bytes spell a record, `Record` what it is as
+//! plain data, `View` which of that the types stand for, `Refusals` and `Stands` why a text is
+//! refused, and `Numbers`, `BoardValues`, `Rectangles` and `Cooked` what values say. `Laws` has what
+//! holds of all records. What `specs/inner/` defines serves private functions alone.
 #![tactic(auto)]
 
 mod cooking;
 mod error;
+mod few;
 mod hundredths;
+mod keep;
 pub mod laws;
 mod limits;
 mod nodes;
@@ -33,6 +38,7 @@ mod reader;
 mod record;
 mod rectangle;
 mod scan;
+mod small;
 mod values;
 mod verbatim;
 mod writer;
@@ -41,11 +47,10 @@ pub use cooking::{cook_simple, cook_text, escape};
 pub use error::SgfError;
 pub use hundredths::hundredths_of;
 pub use limits::{MAX_DEPTH, MAX_RECORD};
-pub use nodes::{Node, Nodes, Properties, Property};
+pub use nodes::{Node, Property};
 pub use numbers::{number_of, trim};
-pub use points::{point_of, points_in};
-pub use reader::read;
+pub use points::{point_of, points_in, points_of};
+pub use reader::{check, read};
 pub use record::{Collection, Tree};
 pub use rectangle::{Rectangle, Row};
-pub use values::Values;
-pub use writer::write;
+pub use writer::{tidy, write};

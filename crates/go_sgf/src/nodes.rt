@@ -1,163 +1,157 @@
-ghost use Rattle.std.specs.Prelude.{◌≡◌, [], bytes_eq, filter, false};
-ghost use Rattle.go_sgf.specs.PartsIn.{nodes_at, parts_in, properties_at, values_at};
-ghost use Rattle.go_sgf.specs.inner.Reads.{begins_space};
-ghost use Rattle.go_sgf.specs.PartsIn.{is_letter_first};
-ghost use Rattle.go_sgf.specs.Record.{is_upper_byte, plain_property};
+ghost use Rattle.std.specs.Prelude.{◌≡◌, ◌≢◌, [], IfOk, bytes_eq, filter};
+ghost use Rattle.go_sgf.specs.Record.{is_upper_byte, plain_property, values_of};
+ghost use Rattle.go_sgf.specs.inner.Held.{property_of};
 
-use crate::scan::{begins_letter, is_upper, letters, strip};
-use crate::values::{Values, behind_values};
+use crate::few::Few;
+use crate::scan::{is_upper, strip};
+use std::alloc::{AllocError, Allocator};
+use std::array;
 use std::marker::Model;
 
 /// A property: a name and its values, as they stand in the source.
 #[derive(Drop)]
-pub struct Property<'a> {
-    /// As it is written, with any lower-case letters.
-    name: &'a [u8],
-    /// The source from behind the name on.
-    text: &'a [u8],
+pub struct Property<'a, A: Allocator + Copy> {
+    item: Item<'a, A>,
 }
 
-impl<'a> Model for Property<'a> {
-    ghost use Rattle.go_sgf.specs.PartsIn.{parts_in, values_at};
+/// A short name with one value, as most properties have, stands in place.
+#[derive(Drop)]
+enum Item<'a, A: Allocator + Copy> {
+    Letter([u8; 1], &'a [u8]),
+    Letters([u8; 2], &'a [u8]),
+    Other(Box<Named<'a, A>, A>),
+}
+
+#[derive(Drop)]
+pub(crate) struct Named<'a, A: Allocator + Copy> {
+    name: &'a [u8],
+    values: Few<&'a [u8], A>,
+}
+
+impl<'a, A: Allocator + Copy> Model for Property<'a, A> {
     ghost use Rattle.go_sgf.specs.Record.{Property};
+    ghost use Rattle.go_sgf.specs.inner.Held.{property_in};
 
     ghost Value = { Property };
 
-    ghost view = { λ p. record { name = p.name.now; values = values_at (parts_in p.text.now) } };
+    ghost view = { λ p. property_in p.item };
 }
 
-impl<'a> Property<'a> {
+impl<'a, A: Allocator + Copy> Property<'a, A> {
+    /// The property with this name and these values.
+    pub(crate) fn new(
+        alloc: A,
+        name: &'a [u8],
+        values: Few<&'a [u8], A>,
+    ) -> Result<Property<'a, A>, AllocError>
+        ensures { IfOk result (λ property. property ≡ property_of name.now values.entry) }
+    {
+        if let Some(value) = values.only() {
+            match name {
+                [letter] => {
+                    return Ok(Property {
+                        item: Item::Letter([*letter], value),
+                    });
+                }
+                [first, second] => {
+                    return Ok(Property {
+                        item: Item::Letters([*first, *second], value),
+                    });
+                }
+                _ => {}
+            }
+        }
+        let named = Box::new(alloc, Named { name, values })?;
+        Ok(Property {
+            item: Item::Other(named),
+        })
+    }
+
+    /// The name as it is written, with any lower-case letters.
+    pub fn name(&self) -> &[u8]
+        ensures { result.now ≡ self.now.name }
+    {
+        match &self.item {
+            Item::Letter(name, _) => name,
+            Item::Letters(name, _) => name,
+            Item::Other(named) => named.name,
+        }
+    }
+
     /// Whether this is its name, lower-case letters aside.
     pub fn is(&self, name: &[u8]) -> bool
         ensures { result ≡ bytes_eq (plain_property self.now).name name.now }
     {
-        is_plain_name(self.name, name)
+        is_plain_name(self.name(), name)
     }
 
     /// The values, in the source's order, without their brackets.
-    pub fn values(&self) -> Values<'a>
-        ensures { result ≡ self.now.values }
+    pub fn values(&self) -> &[&'a [u8]]
+        ensures { values_of result.now ≡ self.now.values }
     {
-        Values::at(self.text)
-    }
-}
-
-/// The properties of a node, in the source's order. A contract sees it as the list of those to
-/// come.
-#[derive(Drop)]
-pub struct Properties<'a> {
-    /// The source from the next of them on.
-    text: &'a [u8],
-}
-
-impl<'a> Model for Properties<'a> {
-    ghost use Rattle.std.specs.Prelude.{List};
-    ghost use Rattle.go_sgf.specs.PartsIn.{parts_in, properties_at};
-    ghost use Rattle.go_sgf.specs.Record.{Property};
-
-    ghost Value = { List Property };
-
-    ghost view = { λ p. properties_at (parts_in p.text.now) };
-}
-
-impl<'a> Iterator for Properties<'a> {
-    ghost use Rattle.std.specs.Iterator.{YieldsFirst, item_count};
-
-    type Item = Property<'a>;
-
-    ghost next_gives = { YieldsFirst (λ properties. properties) };
-
-    ghost remaining = { item_count (λ properties. properties) };
-
-    fn next(&mut self) -> Option<Property<'a>> {
-        let text = behind_values(self.text);
-        if !begins_letter(text) {
-            return None;
+        match &self.item {
+            Item::Letter(_, value) => array::from_ref(value),
+            Item::Letters(_, value) => array::from_ref(value),
+            Item::Other(named) => named.values.as_slice(),
         }
-        let (name, behind) = letters(text);
-        self.text = behind;
-        Some(Property { name, text: behind })
     }
 }
 
 /// A node: its properties.
 #[derive(Drop)]
-pub struct Node<'a> {
-    text: &'a [u8],
+pub struct Node<'a, A: Allocator + Copy> {
+    pub(crate) properties: Few<Property<'a, A>, A>,
 }
 
-impl<'a> Model for Node<'a> {
+impl<'a, A: Allocator + Copy> Model for Node<'a, A> {
     ghost use Rattle.std.specs.Prelude.{List};
-    ghost use Rattle.go_sgf.specs.PartsIn.{parts_in, properties_at};
     ghost use Rattle.go_sgf.specs.Record.{Property};
 
     ghost Value = { List Property };
 
-    ghost view = { λ n. properties_at (parts_in n.text.now) };
+    ghost view = { λ n. n.properties };
 }
 
-impl<'a> Node<'a> {
+impl<'a, A: Allocator + Copy> Node<'a, A> {
     /// The properties, in the source's order.
-    pub fn properties(&self) -> Properties<'a>
-        ensures { result ≡ self.now }
+    pub fn properties(&self) -> &[Property<'a, A>]
+        ensures { result.now ≡ self.now }
     {
-        Properties { text: self.text }
+        self.properties.as_slice()
     }
 }
 
-/// The nodes of a tree, in the source's order. A contract sees it as the list of those to come.
+/// The nodes of a tree, one after another. There is at least one.
 #[derive(Drop)]
-pub struct Nodes<'a> {
-    text: &'a [u8],
+pub(crate) struct Sequence<'a, A: Allocator + Copy> {
+    nodes: Few<Node<'a, A>, A>,
 }
 
-impl<'a> Model for Nodes<'a> {
-    ghost use Rattle.std.specs.Prelude.{List};
-    ghost use Rattle.go_sgf.specs.PartsIn.{nodes_at, parts_in};
+impl<'a, A: Allocator + Copy> Model for Sequence<'a, A> {
+    ghost use Rattle.std.specs.Prelude.{◌≢◌, [], List};
     ghost use Rattle.go_sgf.specs.Record.{Property};
 
     ghost Value = { List (List Property) };
 
-    ghost view = { λ n. nodes_at (parts_in n.text.now) };
+    ghost view = { λ s. s.nodes };
+
+    ghost invariant = { λ s. s.nodes ≢ [] };
 }
 
-impl<'a> Nodes<'a> {
-    /// Those at the front of a text.
-    pub(crate) fn at(text: &'a [u8]) -> Nodes<'a>
-        ensures { result ≡ nodes_at (parts_in text.now) }
+impl<'a, A: Allocator + Copy> Sequence<'a, A> {
+    pub(crate) fn new(nodes: Few<Node<'a, A>, A>) -> Sequence<'a, A>
+        requires { nodes ≢ [] }
+        ensures { result ≡ nodes.entry }
     {
-        Nodes { text }
+        Sequence { nodes }
     }
-}
 
-impl<'a> Iterator for Nodes<'a> {
-    ghost use Rattle.std.specs.Iterator.{YieldsFirst, item_count};
-
-    type Item = Node<'a>;
-
-    ghost next_gives = { YieldsFirst (λ nodes. nodes) };
-
-    ghost remaining = { item_count (λ nodes. nodes) };
-
-    fn next(&mut self) -> Option<Node<'a>> {
-        let text = strip(behind_properties(self.text), b';')?;
-        self.text = text;
-        Some(Node { text })
+    pub(crate) fn as_slice(&self) -> &[Node<'a, A>]
+        ensures nodes { result.now ≡ self.now }
+        ensures some { result.now ≢ [] }
+    {
+        self.nodes.as_slice()
     }
-}
-
-/// What stands behind the names and values at a text's front and the white space there.
-pub(crate) fn behind_properties(text: &[u8]) -> &[u8]
-    ensures nodes { nodes_at (parts_in result.now) ≡ nodes_at (parts_in text.now) }
-    ensures trimmed { begins_space result.now ≡ false }
-    ensures values { values_at (parts_in result.now) ≡ [] }
-    ensures letter { is_letter_first result.now ≡ false }
-{
-    let mut rest = behind_values(text);
-    while begins_letter(rest) {
-        rest = behind_values(letters(rest).1);
-    }
-    rest
 }
 
 /// Whether the upper-case letters of a property's name are this name.

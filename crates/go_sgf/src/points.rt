@@ -1,12 +1,14 @@
-ghost use Rattle.std.specs.Prelude.{◌≡◌, ◌<◌, ◌==◌, All, IfSome, length, option_map, position};
+ghost use Rattle.std.specs.Prelude.{◌≡◌, ◌<◌, ◌==◌, ◌++◌, All, IfOk, IfSome, OnOk, length, option_map, position};
 ghost use Rattle.go_board.specs.Points.{IsOn};
 ghost use Rattle.go_board.specs.Vertices.{IsOnBoard};
-ghost use Rattle.go_sgf.specs.BoardValues.{is_pass_word, names_line, point_in, vertex_in, points_alone, points_listed};
+ghost use Rattle.go_sgf.specs.BoardValues.{is_pass_word, names_line, point_in, vertex_in, points_alone, points_by_values, points_listed};
+ghost use Rattle.go_sgf.specs.Record.{values_of};
 ghost use Rattle.go_sgf.specs.Rectangles.{listed};
 
 use crate::numbers::trim;
-use crate::rectangle::Rectangle;
+use crate::rectangle::{Rectangle, Row};
 use go_board::{Point, Size, Vertex};
+use std::alloc::{AllocError, Allocator};
 
 /// The point of a move, by two lower-case letters: the column from the left and the row from the
 /// top, `a` the first. An empty value is a pass, and so is `tt` on boards where it is no point.
@@ -87,4 +89,47 @@ fn point_alone(word: &[u8], size: Size) -> Option<Rectangle>
     }
     let point = read_point(word, size)?;
     Some(Rectangle::of(point))
+}
+
+/// The points that a list of values names, value by value, a rectangle's in point order; repeats
+/// are kept. An empty value names no point, nor does a list without values. None where a value is
+/// malformed, as `tt` is on boards where it is no point.
+pub fn points_of<A: Allocator + Copy>(
+    alloc: A,
+    values: &[&[u8]],
+    size: Size,
+) -> Result<Option<Vec<Point, A>>, AllocError>
+    ensures value { IfOk result (λ found. option_map (λ list. list.items) found
+        ≡ points_by_values size (values_of values.now)) }
+    ensures on { IfOk result (λ found. IfSome found (λ list. All (IsOn size) list.items)) }
+{
+    let mut points = Vec::new(alloc);
+    for value in values {
+        match points_in(value, size) {
+            Some(rectangle) => push_rows(&mut points, rectangle)?,
+            None => return Ok(None),
+        }
+    }
+    Ok(Some(points))
+}
+
+fn push_rows<A: Allocator + Copy>(
+    points: &mut Vec<Point, A>,
+    rectangle: Rectangle,
+) -> Result<(), AllocError>
+    ensures { OnOk result (points.new.items ≡ points.old.items ++ listed rectangle) }
+{
+    for number in 0..rectangle.rows() {
+        push_row(points, rectangle.row(number))?;
+    }
+    Ok(())
+}
+
+fn push_row<A: Allocator + Copy>(points: &mut Vec<Point, A>, row: Row) -> Result<(), AllocError>
+    ensures { OnOk result (points.new.items ≡ points.old.items ++ row) }
+{
+    for point in row {
+        points.push(point)?;
+    }
+    Ok(())
 }

@@ -1,15 +1,19 @@
-ghost use Rattle.std.specs.Prelude.{◌≡◌, ◌≤◌, ◌+◌, ◌++◌, ◌∷◌, ℕ, List, Err, IfOk, OnOk, [], false, true, IfErr, ◌<◌, ◌↔◌, length};
+ghost use Rattle.std.specs.Prelude.{◌≡◌, ◌≢◌, ◌≤◌, ◌<◌, ◌↔◌, ◌∷◌, ◌++◌, ℕ, List, [], Err, IfErr, IfOk, IfSome, IsErrOf, OnErr, OnOk, Some, false, is_some, length, map, option_map, true};
+ghost use Rattle.go_sgf.specs.inner.Held.{property_of};
 ghost use Rattle.go_sgf.specs.inner.Outcome.{IsWithin, Meets, here, left_of, outcome, outcome_after, error_at};
 ghost use Rattle.go_sgf.specs.inner.Reads.{ReadsNode, ReadsNodes, ReadsProperty, ReadsTree, ReadsValues};
-ghost use Rattle.go_sgf.specs.PartsIn.{is_letter_first, nodes_at, parts_in};
-ghost use Rattle.go_sgf.specs.Record.{Property};
+ghost use Rattle.go_sgf.specs.inner.PartsIn.{is_letter_first, nodes_at, parts_in};
+ghost use Rattle.go_sgf.specs.Record.{Property, TreeValue, Trees, values_of};
 ghost use Rattle.go_sgf.specs.Refusals.{IsRefusal};
-ghost use Rattle.go_sgf.specs.Spelling.{Spells, is_first};
-ghost use Rattle.go_sgf.specs.Stands.{after, closed, in_node, named, opened};
-ghost use Rattle.go_sgf.specs.View.{collection_of, tree_of};
+ghost use Rattle.go_sgf.specs.Spelling.{Spells};
+ghost use Rattle.go_sgf.specs.Stands.{closed, in_node, named, opened};
+ghost use Rattle.go_sgf.specs.View.{chain, tree_of, trees_of};
 
 use crate::error::{Fault, SgfError};
+use crate::few::Few;
+use crate::keep::{Keep, Lists, Nothing};
 use crate::limits::{MAX_DEPTH, MAX_RECORD};
+use crate::nodes::{self, Node, Sequence};
 use crate::record::{Collection, Tree};
 use crate::scan::{
     after_space, begins_letter, begins_with, from_tree, has_upper, letters, strip, strip_tree,
@@ -27,6 +31,164 @@ fn unexpected(rest: &[u8]) -> Fault
     }
 }
 
+/// Adds one more to a list, where what is read is kept.
+fn add<T: Drop, K: Keep>(
+    keep: K,
+    list: &mut Few<T, K::Alloc>,
+    item: Option<T>,
+) -> Result<(), AllocError>
+    ensures added { OnOk result
+        (K.keeps → IfSome item (λ one. list.new ≡ list.old ++ one ∷ [])) }
+    ensures memory { OnErr result K.keeps }
+{
+    match (keep.alloc(), item) {
+        (Some(alloc), Some(one)) => list.push(alloc, one),
+        _ => Ok(()),
+    }
+}
+
+/// The values from behind a name on, at least one, and what follows them.
+fn values<'a, K: Keep>(
+    keep: K,
+    bytes: &'a [u8],
+) -> Result<(Few<&'a [u8], K::Alloc>, &'a [u8]), Fault>
+    requires { is_letter_first bytes.now ≡ false }
+    ensures read { IfOk result (λ r. (vs : List (List ℕ))
+        × (K.keeps → values_of r.0 ≡ vs) × ReadsValues bytes.now vs r.1.now) }
+    ensures place { (d : ℕ) → IsWithin MAX_DEPTH d → Meets result
+        (outcome MAX_DEPTH named d bytes.now) (λ r. outcome MAX_DEPTH in_node d r.1.now) }
+    ensures memory { IsErrOf result Fault.Memory → K.keeps }
+{
+    let mut rest = after_space(bytes);
+    if !begins_with(rest, b'[') {
+        return Err(unexpected(rest));
+    }
+    let mut values = Few::new();
+    while let Some(inside) = strip(rest, b'[') {
+        let Some((one, more)) = value(inside) else {
+            return Err(Fault::End);
+        };
+        add(keep, &mut values, Some(one))?;
+        rest = after_space(more);
+    }
+    Ok((values, rest))
+}
+
+/// A property from its name on, and what follows it.
+fn property<'a, K: Keep>(
+    keep: K,
+    bytes: &'a [u8],
+) -> Result<(Option<nodes::Property<'a, K::Alloc>>, &'a [u8]), Fault>
+    requires { is_letter_first bytes.now ≡ true }
+    ensures read { IfOk result (λ r. (p : Property)
+        × (K.keeps → r.0 ≡ Some p) × ReadsProperty bytes.now p r.1.now) }
+    ensures place { (d : ℕ) → IsWithin MAX_DEPTH d → Meets result
+        (outcome MAX_DEPTH in_node d bytes.now) (λ r. outcome MAX_DEPTH in_node d r.1.now) }
+    ensures memory { IsErrOf result Fault.Memory → K.keeps }
+{
+    let (name, behind) = letters(bytes);
+    if !has_upper(name) {
+        return Err(unexpected(behind));
+    }
+    let (values, rest) = values(keep, behind)?;
+    Ok((kept(keep, name, values)?, rest))
+}
+
+/// The property with this name and these values, where what is read is kept.
+fn kept<'a, K: Keep>(
+    keep: K,
+    name: &'a [u8],
+    values: Few<&'a [u8], K::Alloc>,
+) -> Result<Option<nodes::Property<'a, K::Alloc>>, AllocError>
+    ensures kept { IfOk result (λ kept. K.keeps
+        → kept ≡ Some (property_of name.now values.entry)) }
+    ensures memory { OnErr result K.keeps }
+{
+    match keep.alloc() {
+        Some(alloc) => Ok(Some(nodes::Property::new(alloc, name, values)?)),
+        None => Ok(None),
+    }
+}
+
+/// A node from behind its `;` on, and what follows it.
+fn node<'a, K: Keep>(
+    keep: K,
+    bytes: &'a [u8],
+) -> Result<(Few<nodes::Property<'a, K::Alloc>, K::Alloc>, &'a [u8]), Fault>
+    ensures read { IfOk result (λ r. (ps : List Property)
+        × (K.keeps → r.0 ≡ ps) × ReadsNode bytes.now ps r.1.now) }
+    ensures stopped { IfOk result (λ r. is_letter_first r.1.now ≡ false) }
+    ensures place { (d : ℕ) → IsWithin MAX_DEPTH d → Meets result
+        (outcome MAX_DEPTH in_node d bytes.now) (λ r. outcome MAX_DEPTH in_node d r.1.now) }
+    ensures memory { IsErrOf result Fault.Memory → K.keeps }
+{
+    let mut rest = after_space(bytes);
+    let mut properties = Few::new();
+    while begins_letter(rest) {
+        let (one, more) = property(keep, rest)?;
+        add(keep, &mut properties, one)?;
+        rest = more;
+    }
+    Ok((properties, rest))
+}
+
+/// The nodes of a tree from behind its `(` on, at least one, and what follows them.
+fn nodes<'a, K: Keep>(
+    keep: K,
+    bytes: &'a [u8],
+) -> Result<(Few<Node<'a, K::Alloc>, K::Alloc>, &'a [u8]), Fault>
+    ensures read { IfOk result
+        (λ r. ReadsNodes bytes.now (nodes_at (parts_in bytes.now)) r.1.now) }
+    ensures kept { IfOk result (λ r. K.keeps → r.0 ≡ nodes_at (parts_in bytes.now)) }
+    ensures place { (d : ℕ) → IsWithin MAX_DEPTH d → Meets result
+        (outcome MAX_DEPTH opened d bytes.now) (λ r. outcome MAX_DEPTH closed d r.1.now) }
+    ensures memory { IsErrOf result Fault.Memory → K.keeps }
+{
+    let mut rest = after_space(bytes);
+    if !begins_with(rest, b';') {
+        return Err(unexpected(rest));
+    }
+    let mut nodes = Few::new();
+    while let Some(inside) = strip(rest, b';') {
+        let (properties, more) = node(keep, inside)?;
+        add(keep, &mut nodes, Some(Node { properties }))?;
+        rest = more;
+    }
+    if begins_with(rest, b'[') {
+        return Err(unexpected(rest));
+    }
+    Ok((nodes, rest))
+}
+
+/// A list of trees, where what is read is kept.
+fn no_trees<'a, K: Keep>(keep: K) -> Option<Vec<Tree<'a, K::Alloc>, K::Alloc>>
+    ensures kept { K.keeps → option_map (λ list. list.items) result ≡ Some [] }
+    ensures some { IfSome result (λ _. K.keeps) }
+{
+    match keep.alloc() {
+        Some(alloc) => Some(Vec::new(alloc)),
+        None => None,
+    }
+}
+
+/// Adds one more to a list of trees, where there is one.
+fn add_tree<'a, A: Allocator + Copy>(
+    trees: &mut Option<Vec<Tree<'a, A>, A>>,
+    tree: Option<Tree<'a, A>>,
+) -> Result<(), AllocError>
+    ensures added { OnOk result (IfSome tree.entry (λ one. option_map (λ list. list.items) trees.new
+        ≡ option_map (λ list. list.items ++ one ∷ []) trees.old)) }
+    ensures kept { OnOk result (is_some trees.new ≡ is_some trees.old) }
+    ensures memory { OnErr result (is_some trees.old ≡ true) }
+{
+    if let Some(list) = trees {
+        if let Some(one) = tree {
+            push(list, one)?;
+        }
+    }
+    Ok(())
+}
+
 /// Adds one more. The first takes room for one alone, which is the usual number.
 fn push<T: Drop, A: Allocator + Copy>(list: &mut Vec<T, A>, item: T) -> Result<(), AllocError>
     ensures { OnOk result (list.new.items ≡ list.old.items ++ item ∷ []) }
@@ -38,104 +200,45 @@ fn push<T: Drop, A: Allocator + Copy>(list: &mut Vec<T, A>, item: T) -> Result<(
     Ok(())
 }
 
-/// What follows the values from behind a name on, at least one.
-fn values(bytes: &[u8]) -> Result<&[u8], Fault>
-    requires { is_letter_first bytes.now ≡ false }
-    ensures read { IfOk result (λ rest. (vs : List (List ℕ)) × ReadsValues bytes.now vs rest.now) }
-    ensures stopped { IfOk result (λ rest. is_first 91 rest.now ≡ false) }
-    ensures place { (d : ℕ) → IsWithin MAX_DEPTH d → Meets result
-        (outcome MAX_DEPTH named d bytes.now) (λ rest. outcome MAX_DEPTH in_node d rest.now) }
+/// The tree of these nodes and children, where what is read is kept.
+fn grown<'a, A: Allocator + Copy>(
+    nodes: Few<Node<'a, A>, A>,
+    children: Option<Vec<Tree<'a, A>, A>>,
+) -> Option<Tree<'a, A>>
+    requires { IfSome children (λ _. nodes ≢ []) }
+    ensures { option_map tree_of result
+        ≡ option_map (λ list. (nodes.entry, trees_of list.items)) children.entry }
 {
-    let mut rest = after_space(bytes);
-    if !begins_with(rest, b'[') {
-        return Err(unexpected(rest));
-    }
-    while let Some(inside) = strip(rest, b'[') {
-        let Some((_, more)) = value(inside) else {
-            return Err(Fault::End);
-        };
-        rest = after_space(more);
-    }
-    Ok(rest)
+    let children = children?;
+    let nodes = Sequence::new(nodes);
+    Some(Tree { nodes, children })
 }
 
-/// What follows a property from its name on.
-fn property(bytes: &[u8]) -> Result<&[u8], Fault>
-    requires { is_letter_first bytes.now ≡ true }
-    ensures read { IfOk result (λ rest. (p : Property) × ReadsProperty bytes.now p rest.now) }
-    ensures place { (d : ℕ) → IsWithin MAX_DEPTH d → Meets result
-        (outcome MAX_DEPTH in_node d bytes.now) (λ rest. outcome MAX_DEPTH in_node d rest.now) }
-{
-    let (name, behind) = letters(bytes);
-    if !has_upper(name) {
-        return Err(unexpected(behind));
-    }
-    values(behind)
-}
-
-/// What follows a node from behind its `;` on.
-fn node(bytes: &[u8]) -> Result<&[u8], Fault>
-    ensures read { IfOk result (λ rest. (ps : List Property) × ReadsNode bytes.now ps rest.now) }
-    ensures stopped { IfOk result (λ rest. is_letter_first rest.now ≡ false) }
-    ensures place { (d : ℕ) → IsWithin MAX_DEPTH d → Meets result
-        (outcome MAX_DEPTH in_node d bytes.now) (λ rest. outcome MAX_DEPTH in_node d rest.now) }
-{
-    let mut rest = after_space(bytes);
-    while begins_letter(rest) {
-        rest = property(rest)?;
-    }
-    Ok(rest)
-}
-
-/// What follows the nodes of a tree from behind its `(` on, at least one.
-fn nodes(bytes: &[u8]) -> Result<&[u8], Fault>
-    ensures read { IfOk result
-        (λ rest. ReadsNodes bytes.now (nodes_at (parts_in bytes.now)) rest.now) }
-    ensures place { (d : ℕ) → IsWithin MAX_DEPTH d → Meets result
-        (outcome MAX_DEPTH opened d bytes.now) (λ rest. outcome MAX_DEPTH closed d rest.now) }
-{
-    let mut rest = after_space(bytes);
-    if !begins_with(rest, b';') {
-        return Err(unexpected(rest));
-    }
-    while let Some(inside) = strip(rest, b';') {
-        rest = node(inside)?;
-    }
-    if begins_with(rest, b'[') {
-        return Err(unexpected(rest));
-    }
-    Ok(rest)
-}
-
-/// A tree at this depth, from behind its `(` on.
-pub(crate) fn tree<'a, A: Allocator + Copy>(
-    alloc: A,
+/// A tree at this depth, from behind its `(` on, and what follows it.
+fn tree<'a, K: Keep>(
+    keep: K,
     bytes: &'a [u8],
     depth: usize,
-) -> Result<(Tree<'a, A>, &'a [u8]), Fault>
+) -> Result<(Option<Tree<'a, K::Alloc>>, &'a [u8]), Fault>
     requires { IsWithin MAX_DEPTH depth }
-    ensures read { IfOk result (λ r. ReadsTree depth bytes.now (tree_of r.0) r.1.now) }
+    ensures read { IfOk result (λ r. (t : TreeValue)
+        × (K.keeps → option_map tree_of r.0 ≡ Some t) × ReadsTree depth bytes.now t r.1.now) }
     ensures place { Meets result (outcome MAX_DEPTH opened depth bytes.now)
         (λ r. outcome_after MAX_DEPTH depth r.1.now) }
+    ensures memory { IsErrOf result Fault.Memory → K.keeps }
 {
-    let mut rest = nodes(bytes)?;
-    let mut children = Vec::new(alloc);
+    let (nodes, mut rest) = nodes(keep, bytes)?;
+    let mut children = no_trees(keep);
     while let Some(inside) = strip(rest, b'(') {
         if depth == MAX_DEPTH {
             return Err(Fault::TooDeep(rest.len()));
         }
-        let (child, more) = tree(alloc, inside, depth + 1)?;
-        push(&mut children, child)?;
+        let (child, more) = tree(keep, inside, depth + 1)?;
+        add_tree(&mut children, child)?;
         rest = more;
     }
     match strip(rest, b')') {
-        Some(behind) => Ok((
-            Tree {
-                text: bytes,
-                children,
-            },
-            after_space(behind),
-        )),
+        Some(behind) => Ok((grown(nodes, children), after_space(behind))),
         None => Err(unexpected(rest)),
     }
 }
@@ -154,25 +257,34 @@ fn placed(fault: Fault, length: usize) -> SgfError
 }
 
 /// The trees of a source, one after another.
-fn trees<'a, A: Allocator + Copy>(alloc: A, source: &'a [u8]) -> Result<Collection<'a, A>, SgfError>
-    ensures read { IfOk result (λ c. Spells source.now (collection_of c)) }
+fn trees<'a, K: Keep>(
+    keep: K,
+    source: &'a [u8],
+) -> Result<Option<Vec<Tree<'a, K::Alloc>, K::Alloc>>, SgfError>
+    ensures too_long { (result ≡ Err SgfError.TooLong) ↔ (MAX_RECORD < length source.now) }
+    ensures read { IfOk result (λ kept. (ts : List TreeValue)
+        × (K.keeps → option_map (λ list. map tree_of list.items) kept ≡ Some ts)
+        × Spells source.now (chain ts)) }
     ensures refused { IfErr result (IsRefusal source.now) }
-    ensures long { (result ≡ Err SgfError.TooLong) → ⊥ }
+    ensures memory { IsErrOf result SgfError.Memory → K.keeps }
 {
+    if source.len() > MAX_RECORD {
+        return Err(SgfError::TooLong);
+    }
     let mut rest = from_tree(source);
     if rest.is_empty() {
         return Err(SgfError::NoTree);
     }
-    let mut trees = Vec::new(alloc);
+    let mut trees = no_trees(keep);
     while let Some(inside) = strip_tree(rest) {
-        let (one, more) = match tree(alloc, inside, 1) {
+        let (one, more) = match tree(keep, inside, 1) {
             Ok(read) => read,
             Err(fault) => return Err(placed(fault, source.len())),
         };
-        push(&mut trees, one)?;
+        add_tree(&mut trees, one)?;
         rest = more;
     }
-    Ok(Collection { trees })
+    Ok(trees)
 }
 
 /// Reads a record. What stands before its first tree is skipped; the trees go on as long as `(`
@@ -190,11 +302,21 @@ pub fn read<'a, A: Allocator + Copy>(
     source: &'a [u8],
 ) -> Result<Collection<'a, A>, SgfError>
     ensures too_long { (result ≡ Err SgfError.TooLong) ↔ (MAX_RECORD < length source.now) }
-    ensures read { IfOk result (λ c. Spells source.now (collection_of c)) }
+    ensures read { IfOk result (λ collection. Spells source.now collection) }
     ensures refused { IfErr result (IsRefusal source.now) }
 {
-    if source.len() > MAX_RECORD {
-        return Err(SgfError::TooLong);
-    }
-    trees(alloc, source)
+    let trees = trees(Lists { alloc }, source)?.unwrap();
+    Ok(Collection { source, trees })
+}
+
+/// Whether a source spells a record. It is read as by [`read`], with the same errors but `Memory`:
+/// nothing of it is kept, and no memory is taken.
+pub fn check(source: &[u8]) -> Result<(), SgfError>
+    ensures too_long { (result ≡ Err SgfError.TooLong) ↔ (MAX_RECORD < length source.now) }
+    ensures read { OnOk result ((c : Trees) × Spells source.now c) }
+    ensures refused { IfErr result (IsRefusal source.now) }
+    ensures no_memory { IsErrOf result SgfError.Memory → ⊥ }
+{
+    trees(Nothing, source)?;
+    Ok(())
 }

@@ -1,38 +1,56 @@
-ghost use Rattle.std.specs.Prelude.{◌≡◌};
-ghost use Rattle.go_sgf.specs.View.{collection_of, tree_of, trees_of};
+ghost use Rattle.std.specs.Prelude.{◌≡◌, ◌≢◌, []};
+ghost use Rattle.go_sgf.specs.View.{tree_of, trees_of};
 
-use crate::nodes::Nodes;
+use crate::nodes::{Node, Sequence};
 use std::alloc::Allocator;
+use std::marker::Model;
 
 /// A tree: its nodes, then the trees that go on from the last of them.
 #[derive(Drop)]
 pub struct Tree<'a, A: Allocator + Copy> {
-    /// The source from behind the tree's `(` on.
-    pub(crate) text: &'a [u8],
+    pub(crate) nodes: Sequence<'a, A>,
     pub(crate) children: Vec<Tree<'a, A>, A>,
 }
 
 /// The trees of a record. Their names and values are parts of the source.
 #[derive(Drop)]
 pub struct Collection<'a, A: Allocator + Copy> {
+    pub(crate) source: &'a [u8],
     pub(crate) trees: Vec<Tree<'a, A>, A>,
 }
 
+impl<'a, A: Allocator + Copy> Model for Collection<'a, A> {
+    ghost use Rattle.go_sgf.specs.Record.{Trees};
+    ghost use Rattle.go_sgf.specs.Spelling.{Spells};
+    ghost use Rattle.go_sgf.specs.View.{trees_of};
+    ghost use Rattle.go_sgf.specs.inner.Coded.{trees_code};
+
+    ghost Value = { Trees };
+
+    ghost coded = { trees_code };
+
+    ghost view = { λ c. trees_of c.trees.items };
+
+    ghost invariant = { λ c. Spells c.source.now (trees_of c.trees.items) };
+}
+
 impl<'a, A: Allocator + Copy> Collection<'a, A> {
-    /// The trees, in the source's order.
+    /// The trees, in the source's order. There is at least one.
     pub fn trees(&self) -> &[Tree<'a, A>]
-        ensures { trees_of result.now ≡ collection_of self.now }
+        ensures trees { trees_of result.now ≡ self.now }
+        ensures some { result.now ≢ [] }
     {
         self.trees.as_slice()
     }
 }
 
 impl<'a, A: Allocator + Copy> Tree<'a, A> {
-    /// The nodes, in the source's order.
-    pub fn nodes(&self) -> Nodes<'a>
-        ensures { result ≡ (tree_of self.now).0 }
+    /// The nodes, in the source's order. There is at least one.
+    pub fn nodes(&self) -> &[Node<'a, A>]
+        ensures nodes { result.now ≡ (tree_of self.now).0 }
+        ensures some { result.now ≢ [] }
     {
-        Nodes::at(self.text)
+        self.nodes.as_slice()
     }
 
     /// The trees that go on from the last node, in the source's order.

@@ -2,7 +2,7 @@ ghost use Rattle.std.specs.Prelude.{◌≡◌, ◌∷◌, ◌++◌, ◌||◌, �
 ghost use Rattle.std.specs.List.{list_all, list_any};
 ghost use Rattle.memchr.specs.Find.{IsFirstByte, is_byte2};
 ghost use Rattle.go_sgf.specs.inner.Reads.{is_ordinary};
-ghost use Rattle.go_sgf.specs.PartsIn.{is_letter_first};
+ghost use Rattle.go_sgf.specs.inner.PartsIn.{is_letter_first};
 ghost use Rattle.go_sgf.specs.Record.{is_letter_byte, is_upper_byte};
 ghost use Rattle.go_sgf.specs.Spelling.{without_space, is_tree_first, is_first, tree_in, is_space};
 

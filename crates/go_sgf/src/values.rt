@@ -2,26 +2,27 @@ ghost use Rattle.std.specs.Prelude.{◌≡◌, ◌<◌, ◌≤◌, ◌∷◌, �
 ghost use Rattle.go_sgf.specs.declared.error.Fault.TheVariants.{End};
 ghost use Rattle.go_sgf.specs.declared.limits.TheConstants.{MAX_DEPTH};
 ghost use Rattle.go_sgf.specs.inner.Outcome.{IsWithin, outcome};
-ghost use Rattle.go_sgf.specs.PartsIn.{nodes_at, parts_from, parts_in, properties_at, values_at};
+ghost use Rattle.go_sgf.specs.inner.PartsIn.{is_letter_first, nodes_at, parts_from, parts_in, properties_at, values_at};
 ghost use Rattle.go_sgf.specs.inner.Reads.{begins_space};
+ghost use Rattle.go_sgf.specs.inner.RestIn.{rest_in};
 ghost use Rattle.go_sgf.specs.Record.{IsValue};
 ghost use Rattle.go_sgf.specs.Spelling.{value_part};
 ghost use Rattle.go_sgf.specs.Stands.{in_value};
 
-use crate::scan::{after_space, ordinary, strip};
+use crate::scan::{after_space, begins_letter, letters, ordinary, strip};
 use std::marker::Model;
 
 /// The values of a property, in the source's order, without their brackets. A contract sees it as
 /// the list of those to come.
 #[derive(Drop)]
-pub struct Values<'a> {
+pub(crate) struct Values<'a> {
     /// The source from the next of them on.
     text: &'a [u8],
 }
 
 impl<'a> Model for Values<'a> {
     ghost use Rattle.std.specs.Prelude.{List, ℕ};
-    ghost use Rattle.go_sgf.specs.PartsIn.{parts_in, values_at};
+    ghost use Rattle.go_sgf.specs.inner.PartsIn.{parts_in, values_at};
 
     ghost Value = { List (List ℕ) };
 
@@ -78,6 +79,7 @@ pub(crate) fn value(bytes: &[u8]) -> Option<(&[u8], &[u8])>
 /// The value at a text's front, white space aside, and what follows its `]`.
 fn first_value(text: &[u8]) -> Option<(&[u8], &[u8])>
     ensures some { IfSome result (λ r. parts_in text.now ≡ value_part r.0.now ∷ parts_in r.1.now) }
+    ensures left { IfSome result (λ r. rest_in text.now ≡ rest_in r.1.now) }
     ensures shorter { IfSome result (λ r. length r.1.now < length text.now) }
     ensures none { IfNone result (values_at (parts_in text.now) ≡ []) }
 {
@@ -90,6 +92,7 @@ pub(crate) fn behind_values(text: &[u8]) -> &[u8]
     ensures nodes { nodes_at (parts_in result.now) ≡ nodes_at (parts_in text.now) }
     ensures trimmed { begins_space result.now ≡ false }
     ensures stopped { values_at (parts_in result.now) ≡ [] }
+    ensures left { rest_in result.now ≡ rest_in text.now }
     ensures shorter { length result.now ≤ length text.now }
 {
     let mut rest = text;
@@ -97,4 +100,20 @@ pub(crate) fn behind_values(text: &[u8]) -> &[u8]
         rest = more;
     }
     after_space(rest)
+}
+
+/// What stands behind the names and values at a text's front and the white space there.
+pub(crate) fn behind_properties(text: &[u8]) -> &[u8]
+    ensures nodes { nodes_at (parts_in result.now) ≡ nodes_at (parts_in text.now) }
+    ensures trimmed { begins_space result.now ≡ false }
+    ensures values { values_at (parts_in result.now) ≡ [] }
+    ensures letter { is_letter_first result.now ≡ false }
+    ensures left { rest_in result.now ≡ rest_in text.now }
+    ensures shorter { length result.now ≤ length text.now }
+{
+    let mut rest = behind_values(text);
+    while begins_letter(rest) {
+        rest = behind_values(letters(rest).1);
+    }
+    rest
 }

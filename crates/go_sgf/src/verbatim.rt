@@ -1,6 +1,7 @@
 ghost use Rattle.std.specs.Prelude.{◌≡◌, ◌<◌, ◌++◌, IfNone, IfSome, false, length};
-ghost use Rattle.go_sgf.specs.PartsIn.{parts_in};
+ghost use Rattle.go_sgf.specs.inner.PartsIn.{parts_in};
 ghost use Rattle.go_sgf.specs.Spelling.{is_first};
+ghost use Rattle.go_sgf.specs.inner.RestIn.{rest_in};
 ghost use Rattle.go_sgf.specs.inner.Texts.{StayValues, Stays, parts_text};
 
 use crate::scan::{after_space, begins_letter, begins_with, is_plain, letters, strip};
@@ -12,6 +13,7 @@ pub(crate) fn verbatim(text: &[u8]) -> Option<(&[u8], &[u8])>
     ensures whole { IfSome result (λ r. text.now ≡ r.0.now ++ r.1.now) }
     ensures written { IfSome result
         (λ r. parts_text (parts_in text.now) ≡ r.0.now ++ parts_text (parts_in r.1.now)) }
+    ensures left { IfSome result (λ r. rest_in text.now ≡ rest_in r.1.now) }
     ensures shorter { IfSome result (λ r. length r.1.now < length text.now) }
     ensures none { IfNone result (is_first 59 text.now ≡ false) }
 {

@@ -1,11 +1,12 @@
 -- What comes of a file's bytes is one thing.
-use Rattle.std.proofs.Common.{arith, ◌≡◌, ◌≢◌, ◌≤◌, ◌∙◌, ℕ, List, [], length, refl, sym, subst, inl, inr}
-use Rattle.std.specs.Prelude.{Ok, Err}
+use Rattle.std.proofs.Common.{arith, ◌≡◌, ◌≢◌, ◌≤◌, ◌∙◌, ℕ, List, [], length, refl, ap, sym, subst, inl, inr}
+use Rattle.std.specs.Prelude.{Result, Ok, Err}
 use Rattle.go_game.specs.Standings.{Standing}
 use Rattle.go_record.specs.Games.{IsGameOf}
 use Rattle.go_record.specs.Laws.{OneOutcome}
 use Rattle.go_record.specs.Walks.{Outcome}
 use Rattle.go_record.specs.declared.error.RecordError.{RecordError}
+use Rattle.go_record.specs.declared.error.RecordError.TheVariants as record_error
 use Rattle.go_sgf.specs.Laws.{OneRecord}
 use Rattle.go_sgf.specs.Record.{Trees, none, tree}
 use Rattle.go_sgf.specs.Refusals.{IsRefusal}
@@ -14,6 +15,9 @@ use Rattle.go_sgf.specs.declared.error.SgfError.{SgfError}
 use Rattle.go_sgf.specs.declared.error.SgfError.TheVariants as sgf_error
 use Rattle.go_sgf.specs.declared.limits.TheConstants.{MAX_RECORD}
 use Rattle.goref_session.specs.Laws.{OneLoad}
+use Rattle.goref_session.specs.Record.{load_error_of}
+use Rattle.goref_session.specs.declared.commands.record.LoadError.{LoadError}
+use Rattle.goref_session.specs.declared.commands.record.LoadError.TheVariants as load_error
 
 -- no text spells a tree where there is nothing
 no_text : (c : Trees) (rest : List ℕ) → c ≢ none → SpellsParts [] (parts c) rest → ⊥
@@ -27,6 +31,11 @@ not_refused bytes c (sgf_error.Unexpected place) few spells memory refusal = ref
 not_refused bytes c (sgf_error.TooDeep place) few spells memory refusal = refusal.spells_none c spells
 not_refused bytes c sgf_error.Memory few spells memory refusal = memory refl
 not_refused bytes c sgf_error.TooLong few spells memory refusal = omega (arith, few, refusal)
+
+-- what isn't told as want of memory is none
+pub other_refusal : {T : Type 0} (r : Result T LoadError) (x : LoadError) (why : RecordError) → r ≡ Err x → x ≡ load_error_of why →
+    r ≡ Err load_error.Cannot → why ≢ record_error.Memory
+other_refusal r x why e f h memory = let g : load_error_of why ≡ load_error.Memory = ap load_error_of memory in cc
 
 same_standing : (s t : Standing) → (let r : Outcome = Ok t in r) ≡ Ok s → t ≡ s
 same_standing s t h = cc h

@@ -11,7 +11,7 @@ use crate::error::ToolError;
 use crate::flushing::passed_on;
 use crate::input::read_input;
 use go_board::{Sink, Source, WriteFault};
-use go_sgf::{read, write};
+use go_sgf::{check, tidy};
 use std::alloc::Allocator;
 
 /// Reads a record up to the end of the input, and writes its canonical spelling. Of an input that
@@ -21,7 +21,7 @@ use std::alloc::Allocator;
 /// # Errors
 ///
 /// `Read` and `Write` where a device failed; `Sgf` where the input is no record; `Memory` where
-/// there was none for the record. Never `Record`: the game isn't looked at. Only with `Write` was
+/// there was none for the input. Never `Record`: the game isn't looked at. Only with `Write` was
 /// anything written.
 pub fn tidy_run<A: Allocator + Copy, R: Source, W: Sink>(
     alloc: A,
@@ -46,8 +46,8 @@ pub fn tidy_run<A: Allocator + Copy, R: Source, W: Sink>(
         (W.failures writer.old) }
 {
     let source = read_input(alloc, reader)?;
-    let collection = read(alloc, source.as_slice())?;
-    match write(&collection, writer) {
+    check(source.as_slice())?;
+    match tidy(source.as_slice(), writer) {
         Ok(()) => passed_on(writer),
         Err(WriteFault) => Err(ToolError::Write),
     }

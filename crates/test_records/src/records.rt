@@ -2,8 +2,8 @@ ghost use Rattle.std.specs.Prelude.{◌≡◌};
 
 use go_board::{Point, Size, Vertex, WriteFault, read_vertex};
 use go_sgf::{
-    Collection, Rectangle, Row, SgfError, cook_simple, cook_text, escape, hundredths_of, number_of,
-    point_of, points_in, read, write,
+    Collection, Rectangle, Row, SgfError, check, cook_simple, cook_text, escape, hundredths_of,
+    number_of, point_of, points_in, points_of, read, tidy, write,
 };
 use std::alloc::{AllocError, Allocator, Global};
 use std::process::Abort;
@@ -22,6 +22,7 @@ fn nine(rt: &impl Abort) -> Size
 /// Asserts what a source is refused with.
 fn refused(rt: &impl Abort, alloc: Global, source: &[u8], why: SgfError) {
     assert!(rt; read(alloc, source).err() == Some(why));
+    assert!(rt; check(source) == Err(why));
 }
 
 /// Writes the text of a record.
@@ -32,13 +33,18 @@ fn written(
     write(collection, writer)
 }
 
-/// Asserts what a source is written as, however the writer cuts the text.
+/// Asserts what a source is written as, from its trees and from its bytes alone, however the writer
+/// cuts the text.
 fn tidied(rt: &impl Abort, alloc: Global, source: &[u8], text: &[u8]) {
     let collection = read(alloc, source).expect(rt, "a record");
+    assert!(rt; check(source) == Ok(()));
     for most in [1, 3, 4_096] {
         let mut writer = Writer::new(alloc).in_pieces_of(most);
         assert!(rt; written(&collection, &mut writer) == Ok(()));
         assert!(rt; writer.bytes() == text);
+        let mut tidying = Writer::new(alloc).in_pieces_of(most);
+        assert!(rt; tidy(source, &mut tidying) == Ok(()));
+        assert!(rt; tidying.bytes() == text);
     }
 }
 
@@ -119,14 +125,10 @@ fn long_records(rt: HostRuntime) -> Result<(), Fail> {
     let property = collection
         .trees()
         .first()
-        .and_then(|tree| tree.nodes().next())
-        .and_then(|node| node.properties().next())
+        .and_then(|tree| tree.nodes().first())
+        .and_then(|node| node.properties().first())
         .expect(&rt, "a property");
-    let mut count = 0u64;
-    for _ in property.values() {
-        count = count.saturating_add(1);
-    }
-    assert_eq!(rt; count, 1_000_000);
+    assert_eq!(rt; property.values().len(), 1_000_000);
     Ok(())
 }
 
@@ -163,22 +165,29 @@ fn tidy_a_record(rt: HostRuntime) {
 
 #[test]
 fn parts_of_a_record(rt: HostRuntime) {
-    let source = b"(;GaMe[1]SZ[9];B[aa][bb](;W[])(;W[cc]))(;)";
+    let source = b"(;GaMe[1]SZ[9]Ab[cc][dd];B[aa][bb];KOMI[6.5](;W[])(;W[cc]))(;)";
     let collection = read(rt.alloc(), source).expect(&rt, "a record");
     assert_eq!(rt; collection.trees().len(), 2);
-    let tree = collection.trees().first().expect(&rt, "a tree");
-    assert!(rt; tree.children().len() == 2);
-    let mut nodes = tree.nodes();
-    let root = nodes.next().expect(&rt, "a node");
-    let game = root.properties().next().expect(&rt, "a property");
+    let tree = &collection.trees()[0];
+    assert!(rt; tree.nodes().len() == 3 && tree.children().len() == 2);
+    let root = &tree.nodes()[0];
+    assert_eq!(rt; root.properties().len(), 3);
+    let game = &root.properties()[0];
     assert!(rt; game.is(b"GM") && !game.is(b"GaMe") && !game.is(b"G") && !game.is(b"GMM"));
-    assert!(rt; game.values().next() == Some(b"1".as_slice()));
-    let last = nodes.next().expect(&rt, "a node");
-    assert!(rt; nodes.next().is_none());
-    let mut moves = last.properties().next().expect(&rt, "a property").values();
-    assert!(rt; moves.next() == Some(b"aa".as_slice()));
-    assert!(rt; moves.next() == Some(b"bb".as_slice()));
-    assert!(rt; moves.next().is_none());
+    assert!(rt; game.name() == b"GaMe".as_slice());
+    assert!(rt; game.values() == [b"1".as_slice()].as_slice());
+    assert!(rt; root.properties()[1].name() == b"SZ".as_slice());
+    assert!(rt; root.properties()[2].name() == b"Ab".as_slice());
+    let moves = &tree.nodes()[1].properties()[0];
+    assert!(rt; moves.name() == b"B".as_slice());
+    assert!(rt; moves.values() == [b"aa".as_slice(), b"bb"].as_slice());
+    let komi = &tree.nodes()[2].properties()[0];
+    assert!(rt; komi.is(b"KOMI") && komi.values() == [b"6.5".as_slice()].as_slice());
+    let pass = &tree.children()[0].nodes()[0].properties()[0];
+    assert!(rt; pass.is(b"W") && pass.values() == [b"".as_slice()].as_slice());
+    let other = &collection.trees()[1];
+    assert!(rt; other.nodes().len() == 1 && other.children().is_empty());
+    assert!(rt; other.nodes()[0].properties().is_empty());
 }
 
 /// Asserts what a call made of its bytes.
@@ -292,6 +301,34 @@ fn points_of_a_value(rt: HostRuntime) {
     }
 }
 
+/// Asserts the points that values name on nine lines, by their words.
+fn list(rt: &impl Abort, alloc: Global, values: &[&[u8]], words: &[&[u8]]) {
+    match points_of(alloc, values, nine(rt)) {
+        Ok(Some(points)) => {
+            assert_eq!(rt; points.len(), words.len());
+            for (point, word) in points.iter().zip(words) {
+                assert!(rt; read_vertex(word, nine(rt)) == Ok(Vertex::At(*point)));
+            }
+        }
+        _ => assert!(rt; false, "no points"),
+    }
+}
+
+#[test]
+fn points_of_values(rt: HostRuntime) {
+    let alloc = rt.alloc();
+    let words = [b"a8".as_slice(), b"b8", b"a9", b"b9", b"a9"];
+    list(&rt, alloc, &[b"bb:aa".as_slice(), b"aa"], &words);
+    list(&rt, alloc, &[b"".as_slice()], &[]);
+    list(&rt, alloc, &[], &[]);
+    for malformed in [b"tt".as_slice(), b"aa:", b"jj"] {
+        match points_of(alloc, &[b"aa".as_slice(), malformed], nine(&rt)) {
+            Ok(points) => assert!(rt; points.is_none()),
+            Err(_) => assert!(rt; false, "no memory"),
+        }
+    }
+}
+
 #[test]
 fn points_of_long_values(rt: HostRuntime) -> Result<(), Fail> {
     let alloc = rt.alloc();
@@ -380,6 +417,7 @@ fn each_refused(rt: &impl Abort, alloc: Global, call: u8) -> u64 {
             0 => reads(rt, &failing),
             1 => cook_text(&failing, b"a\\]b").is_ok(),
             2 => cook_simple(&failing, b"a\nb").is_ok(),
+            3 => points_of(&failing, &[b"aa:ii".as_slice()], nine(rt)).is_ok(),
             _ => escape(&failing, b"]]]]").is_ok(),
         };
         assert!(rt; done == failing.waits(), "request {number} of call {call}");
@@ -392,7 +430,7 @@ fn each_refused(rt: &impl Abort, alloc: Global, call: u8) -> u64 {
 
 #[test]
 fn each_request_for_memory_refused(rt: HostRuntime) {
-    for call in 0..4u8 {
+    for call in 0..5u8 {
         let requests = each_refused(&rt, rt.alloc(), call);
         assert!(rt;
             requests > 0 && requests < 50,

@@ -83,8 +83,9 @@ fn failing_devices(rt: HostRuntime) {
 
 #[test]
 fn each_request_for_memory_refused(rt: HostRuntime) {
+    // it takes memory for its input, and for nothing else
     let requests = Tool::Tidy.requests(&rt, rt.alloc(), SAMPLE, TIDY);
-    assert!(rt; requests > 2 && requests < 50, "{requests} requests");
+    assert_eq!(rt; requests, 1);
 }
 
 #[test]

@@ -1,7 +1,7 @@
 -- What the parts of the reader have read, up to the rest. It serves the contracts of private functions alone.
 use Rattle.std.specs.Prelude.{◌≢◌, ◌≤◌, ◌+◌, ◌==◌, ◌||◌, not, Bool, false, ℕ, List, [], ◌∷◌, ◌++◌, map}
 use Rattle.std.specs.List.{flat_map, AllByRecursion}
-use Rattle.go_sgf.specs.Record.{Property, Trees, IsValue, IsProperty, AreTrees, depth}
+use Rattle.go_sgf.specs.Record.{Property, IsValue, IsProperty, AreTrees, depth, TreeValue}
 use Rattle.go_sgf.specs.Spelling.{is_space, closing, value_part, SpellsParts, property_parts, node_parts, parts}
 use Rattle.go_sgf.specs.declared.limits.TheConstants.{MAX_DEPTH}
 
@@ -24,7 +24,7 @@ pub record ReadsNodes (b : List ℕ) (ns : List (List Property)) (rest : List �
   pub spelling : SpellsParts b (flat_map node_parts ns) rest
 
 -- a tree at this depth, from behind its `(` to behind its `)`
-pub record ReadsTree (d : ℕ) (b : List ℕ) (t : List (List Property) × Trees) (rest : List ℕ) : Type 0 where
+pub record ReadsTree (d : ℕ) (b : List ℕ) (t : TreeValue) (rest : List ℕ) : Type 0 where
   pub some : t.0 ≢ []
   pub nodes : AllByRecursion (AllByRecursion IsProperty) t.0
   pub children : AreTrees t.1

@@ -2,10 +2,9 @@
 use Rattle.std.specs.Prelude.{◌≡◌, ℕ, List, [], ◌++◌, map}
 use Rattle.std.specs.List.{flat_map}
 use Rattle.go_sgf.specs.Record.{Property, plain_property}
-use Rattle.go_sgf.specs.Spelling.{Part, text_of_parts, node_parts, property_parts, text, tree_text, value_part}
-use Rattle.go_sgf.specs.PartsIn.{nodes_at, parts_in, properties_at, values_at}
-use Rattle.go_sgf.specs.declared.record.Tree.{Tree}
-use Rattle.go_sgf.specs.View.{tree_of}
+use Rattle.go_sgf.specs.Spelling.{Part, text_of_parts, node_parts, property_parts, text, value_part}
+use Rattle.go_sgf.specs.inner.PartsIn.{nodes_at, parts_in, properties_at, values_at}
+use Rattle.go_sgf.specs.inner.RestIn.{rest_in}
 
 -- a value between its brackets
 abbrev pub value_text : List ℕ → List ℕ
@@ -19,10 +18,6 @@ property_text p = text_of_parts (property_parts (plain_property p))
 abbrev pub node_text : List Property → List ℕ
 node_text ps = text_of_parts (node_parts (map plain_property ps))
 
--- a tree with plain names
-abbrev pub text_of : {A : Type 0} → Tree A → List ℕ
-text_of t = tree_text (tree_of t).0 (tree_of t).1
-
 -- the properties that parts begin with, and the nodes behind them
 abbrev pub parts_text : List Part → List ℕ
 parts_text ps = flat_map property_text (properties_at ps) ++ flat_map node_text (nodes_at ps)
@@ -32,6 +27,7 @@ pub record Stays (b rest : List ℕ) : Type 0 where
   pub front : List ℕ
   pub whole : b ≡ front ++ rest
   pub written : parts_text (parts_in b) ≡ front ++ parts_text (parts_in rest)
+  pub left : rest_in b ≡ rest_in rest
 
 -- up to the rest, the text is values with nothing between them
 pub record StayValues (b rest : List ℕ) : Type 0 where
@@ -39,3 +35,4 @@ pub record StayValues (b rest : List ℕ) : Type 0 where
   pub whole : b ≡ flat_map value_text values ++ rest
   pub parts : parts_in b ≡ map value_part values ++ parts_in rest
   pub stopped : values_at (parts_in rest) ≡ []
+  pub left : rest_in b ≡ rest_in rest

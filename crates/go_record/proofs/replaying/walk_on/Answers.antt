@@ -3,7 +3,6 @@ use Rattle.std.proofs.lemmas.Int.{ints}
 use mir.Val.{of_z, to_z}
 use Rattle.std.specs.Prelude.{Err, Ok}
 use Rattle.std.proofs.lemmas.Result.{err_from_is_err_and}
-use Rattle.go_sgf.specs.View.{collection_of}
 use Rattle.go_record.proofs.Lines.{game_walked}
 use Rattle.go_record.proofs.Walking.{if_err, on_ok}
 use Rattle.go_record.proofs.replaying.walk_on.Goals as goal
@@ -13,7 +12,7 @@ returns-in_err-pass_line-clause-err g c =
     let komi = c.args.root.now.komi in
     let back : to_z w64 (of_z w64 komi) ≡ komi = omega (arith, ints, c.args.root.now.in_range) in
     let p = err_from_is_err_and c.from_residual.result c.from_residual.ensures.1 in
-    rw (p.1, p.2) (λ some. game_walked (collection_of c.args.collection.now) c.args.number c.args.root.now.size c.new.result.lines komi (to_z w64 (of_z w64 komi))
+    rw (p.1, p.2) (λ some. game_walked c.args.collection.now c.args.number c.args.root.now.size c.new.result.lines komi (to_z w64 (of_z w64 komi))
     c.new.result.colours c.left_of.result (Err c.in_err-pass_line.field-0.0) c.requires c.new.ensures.lines back c.new.ensures.colours c.left_of.ensures
     (c.in_err-pass_line.ensures.stopped some _))
 
@@ -21,7 +20,7 @@ pub returns-clause-ok : goal.returns-clause-ok
 returns-clause-ok g c =
     let komi = c.args.root.now.komi in
     let back : to_z w64 (of_z w64 komi) ≡ komi = omega (arith, ints, c.args.root.now.in_range) in
-    on_ok c.finish.result (λ goes. game_walked (collection_of c.args.collection.now) c.args.number c.args.root.now.size c.new.result.lines komi (to_z w64 (of_z w64 komi))
+    on_ok c.finish.result (λ goes. game_walked c.args.collection.now c.args.number c.args.root.now.size c.new.result.lines komi (to_z w64 (of_z w64 komi))
     c.new.result.colours c.left_of.result (Ok c.finish.new.game.standing) c.requires c.new.ensures.lines back c.new.ensures.colours c.left_of.ensures
     (c.in_ok-pass_line.ensures.passed _ (Ok c.finish.new.game.standing) goes)) c.finish.ensures.ok
 
@@ -29,6 +28,6 @@ pub returns-clause-err : goal.returns-clause-err
 returns-clause-err g c =
     let komi = c.args.root.now.komi in
     let back : to_z w64 (of_z w64 komi) ≡ komi = omega (arith, ints, c.args.root.now.in_range) in
-    if_err c.finish.result (λ e goes some. game_walked (collection_of c.args.collection.now) c.args.number c.args.root.now.size c.new.result.lines komi (to_z w64 (of_z w64 komi))
+    if_err c.finish.result (λ e goes some. game_walked c.args.collection.now c.args.number c.args.root.now.size c.new.result.lines komi (to_z w64 (of_z w64 komi))
     c.new.result.colours c.left_of.result (Err e) c.requires c.new.ensures.lines back c.new.ensures.colours c.left_of.ensures
     (c.in_ok-pass_line.ensures.passed _ (Err e) (goes some))) c.finish.ensures.err

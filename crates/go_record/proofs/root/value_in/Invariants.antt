@@ -1,6 +1,6 @@
-use Rattle.std.proofs.Common.{◌≡◌}
+use Rattle.std.proofs.Common.{◌≡◌, drop}
 use Rattle.go_record.specs.Games.{value_named}
 use Rattle.go_record.proofs.root.value_in.Given as goal
 
 abbrev pub invariant-loop-property : goal.invariant-loop-property
-invariant-loop-property l = value_named l.name l.property-iterator ≡ value_named l.name l.fn.properties
+invariant-loop-property g l = value_named l.name (drop l.property-index l.properties) ≡ value_named l.name l.properties

@@ -1,6 +1,8 @@
-use Rattle.std.proofs.Common.{◌-◌, length, map}
+use Rattle.std.proofs.Common.{◌≡◌, ◌-◌, List, Some, true, length, map}
+use Rattle.std.specs.Prelude.{is_some, option_map}
 use Rattle.go_sgf.specs.declared.limits.TheConstants.{MAX_DEPTH}
-use Rattle.go_sgf.specs.PartsIn.{nodes_at, parts_in}
+use Rattle.go_sgf.specs.inner.PartsIn.{nodes_at, parts_in}
+use Rattle.go_sgf.specs.Record.{TreeValue}
 use Rattle.go_sgf.specs.View.{tree_of}
 use Rattle.go_sgf.proofs.Growing.{TreeSoFar}
 use Rattle.go_sgf.proofs.reader.+tree.Given as goal
@@ -9,7 +11,10 @@ abbrev pub decreases-tree : goal.decreases-tree
 decreases-tree g l = MAX_DEPTH - l.depth
 
 abbrev pub invariant-loop-inside : goal.invariant-loop-inside
-invariant-loop-inside g l = TreeSoFar l.depth l.bytes (nodes_at (parts_in l.bytes)) (map tree_of l.children.items) l.rest
+invariant-loop-inside g l =
+    (ts : List TreeValue) × (g.K.Keep.keeps → option_map (λ list. map tree_of list.items) l.children ≡ Some ts)
+    × (is_some l.children ≡ true → g.K.Keep.keeps)
+    × TreeSoFar l.depth l.bytes (nodes_at (parts_in l.bytes)) ts l.rest
 
 abbrev pub decreases-loop-inside : goal.decreases-loop-inside
 decreases-loop-inside g l = length l.rest

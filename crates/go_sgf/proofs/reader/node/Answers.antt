@@ -1,20 +1,21 @@
 use Rattle.std.proofs.Common.{[], ◌∷◌, ◌++◌, refl}
-use Rattle.go_sgf.proofs.Passing.{node_first, node_more, property_shorter}
+use Rattle.go_sgf.proofs.Passing.{kept_more, node_first, node_more, property_shorter}
 use Rattle.go_sgf.proofs.reader.node.Goals as goal
 
-pub loop-rest-init : goal.loop-rest-init
-loop-rest-init c = ([], node_first c.args.bytes.now c.after_space-rest.result.now c.after_space-rest.ensures)
+pub loop-keep-init : goal.loop-keep-init
+loop-keep-init g c = ([], λ _. c.new-properties.ensures, node_first c.args.bytes.now c.after_space-rest.result.now c.after_space-rest.ensures)
 
-pub loop-rest-preserved : goal.loop-rest-preserved
-loop-rest-preserved c =
-    let ps = c.loop-rest.invariant.0 in
-    let read = c.in_ok-rest.ensures.read in (
+pub loop-keep-preserved : goal.loop-keep-preserved
+loop-keep-preserved g c =
+    let ps = c.loop-keep.invariant.0 in
+    let read = c.in_ok-one.ensures.read in (
       ps ++ read.0 ∷ [],
-      node_more c.args.bytes.now ps (ps ++ read.0 ∷ []) c.loop-rest.rest.now read.0 c.in_ok-rest.rest.now c.loop-rest.invariant.1 refl
-          read.1 c.in_ok-rest.ensures.place,
+      λ keeps. kept_more _ _ _ _ _ (c.in_ok-add.ensures.added keeps) (read.1 keeps) (c.loop-keep.invariant.1 keeps),
+      node_more c.args.bytes.now ps (ps ++ read.0 ∷ []) c.loop-keep.rest.now read.0 c.in_ok-one.more.now c.loop-keep.invariant.2 refl
+          read.2 c.in_ok-one.ensures.place,
     )
 
-pub loop-rest-smaller : goal.loop-rest-smaller
-loop-rest-smaller c =
-    let read = c.in_ok-rest.ensures.read in
-    property_shorter c.loop-rest.rest.now read.0 c.in_ok-rest.rest.now read.1
+pub loop-keep-smaller : goal.loop-keep-smaller
+loop-keep-smaller g c =
+    let read = c.in_ok-one.ensures.read in
+    property_shorter c.loop-keep.rest.now read.0 c.in_ok-one.more.now read.2

@@ -1,19 +1,33 @@
-use Rattle.std.proofs.Common.{sym, ap, ◌∙◌, Err}
+use Rattle.std.proofs.Common.{ℕ, List, sym, ap, ◌∙◌, Err, Some}
+use Rattle.std.proofs.lemmas.Result.{err_from_is_err_and}
 use Rattle.go_sgf.specs.declared.limits.TheConstants.{MAX_DEPTH}
-use Rattle.go_sgf.proofs.Passing.{if_ok, meets_by, property_begins, property_stops, property_whole, refuses}
+use Rattle.go_sgf.specs.Record.{Property}
+use Rattle.go_sgf.proofs.Passing.{passes, property_begins, property_stops, property_whole, refuses}
 use Rattle.go_sgf.proofs.reader.property.Goals as goal
 
 pub returns-then-not-has_upper-clause-place : goal.returns-then-not-has_upper-clause-place
-returns-then-not-has_upper-clause-place c = λ d h. refuses _ _ _
+returns-then-not-has_upper-clause-place g c = λ d h. refuses _ _ _
     (property_stops MAX_DEPTH d h c.args.bytes.now c.letters.result.0.now c.letters.result.1.now c.letters.ensures.whole
     c.letters.ensures.letters (sym c.if-not-has_upper.ensures) c.requires c.letters.ensures.stopped ∙ ap Err (sym c.unexpected.ensures))
 
+pub returns-in_err-values-clause-place : goal.returns-in_err-values-clause-place
+returns-in_err-values-clause-place g c = λ d h.
+    let p = err_from_is_err_and c.from_residual.result c.from_residual.ensures.1 in
+    rw (p.1, p.2)
+    (passes _ _ _ _ _ (property_begins MAX_DEPTH d h c.args.bytes.now c.letters.result.0.now c.letters.result.1.now
+    c.letters.ensures.whole c.letters.ensures.letters (sym c.if-not-has_upper.ensures)) (c.in_err-values.ensures.place d h))
+
 pub returns-clause-read : goal.returns-clause-read
-returns-clause-read c =
-    if_ok c.values.result (λ rest read. property_whole c.args.bytes.now c.letters.result.0.now c.letters.result.1.now read.0 rest.now c.letters.ensures.whole
-    c.letters.ensures.letters (sym c.if-not-has_upper.ensures) c.requires read.1) c.values.ensures.read
+returns-clause-read g c =
+    let read = c.in_ok-values.ensures.read in
+    let made : List (List ℕ) → Property = λ vs. record { name = c.letters.result.0.now; values = vs } in (
+      made read.0,
+      λ keeps. c.in_ok-kept.ensures.kept keeps ∙ ap (λ vs. Some (made vs)) (read.1 keeps),
+      property_whole c.args.bytes.now c.letters.result.0.now c.letters.result.1.now read.0 c.in_ok-values.rest.now c.letters.ensures.whole
+          c.letters.ensures.letters (sym c.if-not-has_upper.ensures) c.requires read.2,
+    )
 
 pub returns-clause-place : goal.returns-clause-place
-returns-clause-place c = λ d h.
-    meets_by c.values.result _ _ _ (property_begins MAX_DEPTH d h c.args.bytes.now c.letters.result.0.now c.letters.result.1.now
-    c.letters.ensures.whole c.letters.ensures.letters (sym c.if-not-has_upper.ensures)) (c.values.ensures.place d h)
+returns-clause-place g c = λ d h.
+    property_begins MAX_DEPTH d h c.args.bytes.now c.letters.result.0.now c.letters.result.1.now
+    c.letters.ensures.whole c.letters.ensures.letters (sym c.if-not-has_upper.ensures) ∙ c.in_ok-values.ensures.place d h

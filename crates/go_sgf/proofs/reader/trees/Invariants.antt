@@ -1,10 +1,14 @@
-use Rattle.std.proofs.Common.{length, map}
+use Rattle.std.proofs.Common.{◌≡◌, List, Some, is_some, length, map, true}
+use Rattle.std.specs.Prelude.{option_map}
+use Rattle.go_sgf.specs.Record.{TreeValue}
 use Rattle.go_sgf.specs.View.{tree_of}
 use Rattle.go_sgf.proofs.Stops.{TreesSoFar}
 use Rattle.go_sgf.proofs.reader.trees.Given as goal
 
 abbrev pub invariant-loop-inside : goal.invariant-loop-inside
-invariant-loop-inside g l = TreesSoFar l.source (map tree_of l.trees.items) l.rest
+invariant-loop-inside g l =
+    (ts : List TreeValue) × (g.K.Keep.keeps → option_map (λ list. map tree_of list.items) l.trees ≡ Some ts)
+    × (is_some l.trees ≡ true → g.K.Keep.keeps) × TreesSoFar l.source ts l.rest
 
 abbrev pub decreases-loop-inside : goal.decreases-loop-inside
 decreases-loop-inside g l = length l.rest

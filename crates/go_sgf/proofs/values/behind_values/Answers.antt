@@ -1,5 +1,7 @@
 use Rattle.std.proofs.Common.{◌∙◌, List, ℕ, ap, length, arith}
-use Rattle.go_sgf.specs.PartsIn.{nodes_at, parts_in, properties_at, values_at}
+use Rattle.go_sgf.specs.inner.PartsIn.{nodes_at, parts_in, properties_at, values_at}
+use Rattle.go_sgf.specs.inner.RestIn.{rest_in}
+use Rattle.go_sgf.proofs.Leaving.{rest_space}
 use Rattle.go_sgf.proofs.Parts.{length-after_space, no_space_first}
 use Rattle.go_sgf.proofs.PartsIn.{parts_space}
 use Rattle.go_sgf.proofs.values.behind_values.Goals as goal
@@ -22,3 +24,7 @@ returns-clause-stopped c =
 pub returns-clause-shorter : goal.returns-clause-shorter
 returns-clause-shorter c =
     omega (arith, length-after_space c.loop-more.rest.now, ap (λ (b : List ℕ). length b) c.after_space.ensures, c.loop-more.invariant.shorter)
+
+pub returns-clause-left : goal.returns-clause-left
+returns-clause-left c =
+    ap (λ (b : List ℕ). rest_in b) c.after_space.ensures ∙ rest_space c.loop-more.rest.now ∙ c.loop-more.invariant.left

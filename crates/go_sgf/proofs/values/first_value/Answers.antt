@@ -1,3 +1,4 @@
+use Rattle.go_sgf.proofs.Leaving.{found_rest}
 use Rattle.go_sgf.proofs.PartsIn.{found, found_shorter, no_value, none_found, not_found}
 use Rattle.go_sgf.proofs.values.first_value.Goals as goal
 
@@ -7,6 +8,10 @@ returns-in_err-strip-clause-none c = none_found c.from_residual.result (no_value
 pub returns-clause-some : goal.returns-clause-some
 returns-clause-some c =
     found c.value.result c.args.text.now c.in_ok-strip.field-0.now (rw c.after_space.ensures at c.in_ok-strip.ensures.stripped) c.value.ensures.whole c.value.ensures.inside
+
+pub returns-clause-left : goal.returns-clause-left
+returns-clause-left c =
+    found_rest c.value.result c.args.text.now c.in_ok-strip.field-0.now (rw c.after_space.ensures at c.in_ok-strip.ensures.stripped) c.value.ensures.whole c.value.ensures.inside
 
 pub returns-clause-shorter : goal.returns-clause-shorter
 returns-clause-shorter c =

@@ -1,6 +1,6 @@
 use Rattle.std.proofs.Common.{◌≡◌, ◌∷◌, [], Some, false, ap, sym, take, ◌∙◌, eqb-true}
 use Rattle.std.proofs.lemmas.List.{nil_from_length, take-append-drop}
-use Rattle.go_sgf.specs.PartsIn.{parts_from}
+use Rattle.go_sgf.specs.inner.PartsIn.{parts_from}
 use Rattle.go_sgf.specs.declared.limits.TheConstants.{MAX_DEPTH}
 use Rattle.go_sgf.proofs.Inside.{ordinary_on, split_further, stop_is_escape, value_up_to, value_past_escape}
 use Rattle.go_sgf.proofs.PartsIn.{unended, unended_escape}

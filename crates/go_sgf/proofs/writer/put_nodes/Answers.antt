@@ -1,11 +1,13 @@
-use Rattle.std.proofs.Common.{◌≡◌, [], ◌∙◌, ◌++◌, ap, append_assoc, subst, sym, List, ℕ}
+use Rattle.std.proofs.Common.{◌≡◌, [], ◌∙◌, ◌++◌, ap, append_assoc, length, length-append, subst, sym, List, ℕ, arith}
 use Rattle.std.proofs.lemmas.List.{append-nil}
 use Rattle.std.specs.List.{filter, flat_map}
 use Rattle.go_board.specs.Pens.{Writes}
 use Rattle.go_board.specs.lemmas.Writing.{writes_writes}
-use Rattle.go_sgf.specs.PartsIn.{nodes_at, parts_in, properties_at, values_at}
+use Rattle.go_sgf.specs.inner.PartsIn.{nodes_at, parts_in, properties_at, values_at}
 use Rattle.go_sgf.specs.Record.{is_upper_byte}
 use Rattle.go_sgf.specs.inner.Texts.{node_text, parts_text, property_text, value_text}
+use Rattle.go_sgf.specs.inner.RestIn.{rest_in}
+use Rattle.go_sgf.proofs.Leaving.{letters_rest, stopped_at_rest}
 use Rattle.go_sgf.proofs.PartsIn.{name_first, no_property}
 use Rattle.go_sgf.proofs.Staying.{name_text, nothing_left}
 use Rattle.go_sgf.proofs.writer.put_nodes.Goals as goal
@@ -24,6 +26,8 @@ loop-rest-init g c =
       trimmed = w.trimmed;
       values = w.values;
       node = w.node;
+      left = w.left ∙ b.ensures.left;
+      shorter = omega (arith, w.shorter, b.ensures.shorter);
     }
 
 pub loop-rest-preserved : goal.loop-rest-preserved
@@ -47,11 +51,18 @@ loop-rest-preserved g c =
       trimmed = w.trimmed;
       values = w.values;
       node = w.node;
+      left = w.left ∙ sym (ap rest_in c.letters.ensures.whole ∙ letters_rest name behind c.letters.ensures.letters) ∙ i.left;
+      shorter = omega (arith, w.shorter, ap length c.letters.ensures.whole, length-append name behind, i.shorter);
     }
 
-pub returns : goal.returns
-returns g c =
+pub returns-clause-written : goal.returns-clause-written
+returns-clause-written g c =
     let i = c.loop-rest.invariant in
     let left : parts_text (parts_in c.loop-rest.rest.now) ≡ [] = nothing_left c.loop-rest.rest.now i.trimmed (sym c.loop-rest-test.ensures) i.node i.values in
     subst (λ (xs : List ℕ). Writes g.W.Sink c.args.pen.now c.loop-rest.pen xs)
     (sym (i.written.2 ∙ ap (λ xs. i.written.0 ++ xs) left ∙ append-nil i.written.0)) i.written.1
+
+pub returns-clause-left : goal.returns-clause-left
+returns-clause-left g c =
+    let i = c.loop-rest.invariant in
+    stopped_at_rest c.args.text.now c.loop-rest.rest.now i.trimmed (sym c.loop-rest-test.ensures) i.node i.values i.left

@@ -1,6 +1,6 @@
 use Rattle.std.proofs.Common.{[], ◌∙◌, ◌++◌, ap, append_assoc, sym, arith}
 use Rattle.go_board.specs.lemmas.Writing.{writes_writes, writes_nothing}
-use Rattle.go_sgf.specs.PartsIn.{parts_in}
+use Rattle.go_sgf.specs.inner.PartsIn.{parts_in}
 use Rattle.go_sgf.specs.inner.Texts.{parts_text}
 use Rattle.go_sgf.proofs.Staying.{same_text}
 use Rattle.go_sgf.proofs.writer.put_verbatim.Goals as goal
@@ -16,6 +16,7 @@ loop-front-init g c =
       );
       trimmed = b.ensures.trimmed;
       values = b.ensures.stopped;
+      left = b.ensures.left;
       shorter = b.ensures.shorter;
     }
 
@@ -35,5 +36,6 @@ loop-front-preserved g c =
       );
       trimmed = b.ensures.trimmed;
       values = b.ensures.stopped;
+      left = b.ensures.left ∙ sym c.in-Some.ensures.left ∙ i.left;
       shorter = omega (arith, b.ensures.shorter, c.in-Some.ensures.shorter, i.shorter);
     }

@@ -1,7 +1,8 @@
 use Rattle.std.proofs.Common.{◌≡◌, ◌≤◌, ◌++◌, [], ℕ, List, false, length}
 use Rattle.go_board.specs.Pens.{Writes}
-use Rattle.go_sgf.specs.PartsIn.{parts_in, values_at}
+use Rattle.go_sgf.specs.inner.PartsIn.{parts_in, values_at}
 use Rattle.go_sgf.specs.inner.Reads.{begins_space}
+use Rattle.go_sgf.specs.inner.RestIn.{rest_in}
 use Rattle.go_sgf.specs.inner.Texts.{parts_text}
 use Rattle.go_sgf.proofs.writer.put_verbatim.Given as goal
 
@@ -12,6 +13,7 @@ invariant-loop-front g l = record {
       × (parts_text (parts_in l.text) ≡ more ++ parts_text (parts_in l.rest));
   trimmed : begins_space l.rest ≡ false;
   values : values_at (parts_in l.rest) ≡ [];
+  left : rest_in l.rest ≡ rest_in l.text;
   shorter : length l.rest ≤ length l.text;
 }
 

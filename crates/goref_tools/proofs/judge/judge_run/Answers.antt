@@ -1,6 +1,5 @@
 use Rattle.std.proofs.Common.{◌∙◌}
 use Rattle.std.proofs.lemmas.Result.{err_from_is_err_and}
-use Rattle.go_sgf.specs.View.{collection_of}
 use Rattle.goref_tools.specs.Judging.{BeginsToJudge, Judges, verdict_text}
 use Rattle.goref_tools.proofs.Judged.{refuses_game}
 use Rattle.goref_tools.proofs.Whole.{all_front, of_whole, on_ok, refuses, same_error}
@@ -19,7 +18,7 @@ returns-in_err-verdict-clause-game_refused g c = λ why h.
     let p = err_from_is_err_and c.from_residual-in_err-verdict.result c.from_residual-in_err-verdict.ensures.1 in
     refuses_game c.in_ok-source.source.items (g.R.Source.left c.args.reader.now) (g.R.Source.left c.read_input.new.reader) c.in_ok-source.ensures.input
     (λ long. let e = c.in_ok-collection.ensures.too_long.1 (rw c.as_slice.ensures.value long) in cc)
-    (collection_of c.in_ok-collection.collection) (rw c.as_slice.ensures.value at c.in_ok-collection.ensures.read) c.in_err-verdict.field-0.0 c.in_err-verdict.ensures.err
+    c.in_ok-collection.collection (rw c.as_slice.ensures.value at c.in_ok-collection.ensures.read) c.in_err-verdict.field-0.0 c.in_err-verdict.ensures.err
     why (same_error p.1 p.2 h)
 
 pub returns-in-Ok-clause-ok : goal.returns-in-Ok-clause-ok
@@ -27,7 +26,7 @@ returns-in-Ok-clause-ok g c =
     on_ok c.passed_on.result (of_whole (λ input. Judges input (g.W.Sink.taken c.args.writer.now) (g.W.Sink.taken c.passed_on.new.writer))
     c.in_ok-source.source.items (g.R.Source.left c.read_input.new.reader) c.in_ok-source.ensures.input
     (λ long. let e = c.in_ok-collection.ensures.too_long.1 (rw c.as_slice.ensures.value long) in cc) (
-      collection_of c.in_ok-collection.collection,
+      c.in_ok-collection.collection,
       rw c.as_slice.ensures.value at c.in_ok-collection.ensures.read,
       (c.in_ok-verdict.verdict, c.in_ok-verdict.ensures.ok, c.passed_on.ensures.bytes ∙ c.in-Ok.ensures.sent),
     ))
@@ -37,7 +36,7 @@ returns-in-Ok-clause-write g c = λ h.
     of_whole (λ input. BeginsToJudge input (g.W.Sink.taken c.args.writer.now) (g.W.Sink.taken c.passed_on.new.writer))
     c.in_ok-source.source.items (g.R.Source.left c.read_input.new.reader) c.in_ok-source.ensures.input
     (λ long. let e = c.in_ok-collection.ensures.too_long.1 (rw c.as_slice.ensures.value long) in cc) (
-      collection_of c.in_ok-collection.collection,
+      c.in_ok-collection.collection,
       rw c.as_slice.ensures.value at c.in_ok-collection.ensures.read,
       (c.in_ok-verdict.verdict, c.in_ok-verdict.ensures.ok, all_front (verdict_text c.in_ok-verdict.verdict) (c.passed_on.ensures.bytes ∙ c.in-Ok.ensures.sent)),
     )
@@ -47,7 +46,7 @@ returns-clause-write g c = λ h.
     of_whole (λ input. BeginsToJudge input (g.W.Sink.taken c.args.writer.now) (g.W.Sink.taken c.write_verdict.new.writer))
     c.in_ok-source.source.items (g.R.Source.left c.read_input.new.reader) c.in_ok-source.ensures.input
     (λ long. let e = c.in_ok-collection.ensures.too_long.1 (rw c.as_slice.ensures.value long) in cc) (
-      collection_of c.in_ok-collection.collection,
+      c.in_ok-collection.collection,
       rw c.as_slice.ensures.value at c.in_ok-collection.ensures.read,
       (c.in_ok-verdict.verdict, c.in_ok-verdict.ensures.ok, c.in-Err.ensures.sent),
     )

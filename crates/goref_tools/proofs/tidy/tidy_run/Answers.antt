@@ -1,36 +1,38 @@
 use Rattle.std.proofs.Common.{◌∙◌}
 use Rattle.std.proofs.lemmas.Result.{err_from_is_err_and}
 use Rattle.go_sgf.specs.Spelling.{canonical}
-use Rattle.go_sgf.specs.View.{collection_of}
 use Rattle.goref_tools.specs.Tidying.{BeginsToTidy, Tidies}
 use Rattle.goref_tools.proofs.Whole.{all_front, of_whole, on_ok, refuses, same_error}
 use Rattle.goref_tools.proofs.tidy.tidy_run.Goals as goal
 
-pub returns-in_err-collection-clause-refused : goal.returns-in_err-collection-clause-refused
-returns-in_err-collection-clause-refused g c = λ why h.
-    let p = err_from_is_err_and c.from_residual-in_err-collection.result c.from_residual-in_err-collection.ensures.1 in
-    refuses c.in_ok-source.source.items (g.R.Source.left c.args.reader.now) (g.R.Source.left c.read_input.new.reader) c.in_ok-source.ensures.input c.in_err-collection.field-0.0
-    (rw c.as_slice.ensures.value at c.in_err-collection.ensures.refused)
-    (λ long. let e = c.in_err-collection.ensures.too_long.1 (rw c.as_slice.ensures.value long) in cc)
+pub returns-in_err-check-clause-refused : goal.returns-in_err-check-clause-refused
+returns-in_err-check-clause-refused g c = λ why h.
+    let p = err_from_is_err_and c.from_residual-in_err-check.result c.from_residual-in_err-check.ensures.1 in
+    refuses c.in_ok-source.source.items (g.R.Source.left c.args.reader.now) (g.R.Source.left c.read_input.new.reader) c.in_ok-source.ensures.input c.in_err-check.field-0.0
+    (rw c.as_slice.ensures.value at c.in_err-check.ensures.refused)
+    (λ long. let e = c.in_err-check.ensures.too_long.1 (rw c.as_slice.ensures.value long) in cc)
     why (same_error p.1 p.2 h)
 
 pub returns-in-Ok-clause-ok : goal.returns-in-Ok-clause-ok
 returns-in-Ok-clause-ok g c =
+    let spelled = rw c.as_slice.ensures.value at c.in_ok-check.ensures.read in
     on_ok c.passed_on.result (of_whole (λ input. Tidies input (g.W.Sink.taken c.args.writer.now) (g.W.Sink.taken c.passed_on.new.writer))
     c.in_ok-source.source.items (g.R.Source.left c.read_input.new.reader) c.in_ok-source.ensures.input
-    (λ long. let e = c.in_ok-collection.ensures.too_long.1 (rw c.as_slice.ensures.value long) in cc)
-    (collection_of c.in_ok-collection.collection, rw c.as_slice.ensures.value at c.in_ok-collection.ensures.read, c.passed_on.ensures.bytes ∙ c.in-Ok.ensures.sent))
+    (λ long. let e = c.in_ok-check.ensures.too_long.1 (rw c.as_slice.ensures.value long) in cc)
+    (spelled.0, spelled.1, c.passed_on.ensures.bytes ∙ c.in-Ok.ensures.sent spelled.0 (rw c.as_slice-2.ensures.value spelled.1)))
 
 pub returns-in-Ok-clause-write : goal.returns-in-Ok-clause-write
 returns-in-Ok-clause-write g c = λ h.
+    let spelled = rw c.as_slice.ensures.value at c.in_ok-check.ensures.read in
     of_whole (λ input. BeginsToTidy input (g.W.Sink.taken c.args.writer.now) (g.W.Sink.taken c.passed_on.new.writer))
     c.in_ok-source.source.items (g.R.Source.left c.read_input.new.reader) c.in_ok-source.ensures.input
-    (λ long. let e = c.in_ok-collection.ensures.too_long.1 (rw c.as_slice.ensures.value long) in cc)
-    (collection_of c.in_ok-collection.collection, rw c.as_slice.ensures.value at c.in_ok-collection.ensures.read, all_front (canonical (collection_of c.in_ok-collection.collection)) (c.passed_on.ensures.bytes ∙ c.in-Ok.ensures.sent))
+    (λ long. let e = c.in_ok-check.ensures.too_long.1 (rw c.as_slice.ensures.value long) in cc)
+    (spelled.0, spelled.1, all_front (canonical spelled.0) (c.passed_on.ensures.bytes ∙ c.in-Ok.ensures.sent spelled.0 (rw c.as_slice-2.ensures.value spelled.1)))
 
 pub returns-clause-write : goal.returns-clause-write
 returns-clause-write g c = λ h.
-    of_whole (λ input. BeginsToTidy input (g.W.Sink.taken c.args.writer.now) (g.W.Sink.taken c.write.new.writer))
+    let spelled = rw c.as_slice.ensures.value at c.in_ok-check.ensures.read in
+    of_whole (λ input. BeginsToTidy input (g.W.Sink.taken c.args.writer.now) (g.W.Sink.taken c.tidy.new.writer))
     c.in_ok-source.source.items (g.R.Source.left c.read_input.new.reader) c.in_ok-source.ensures.input
-    (λ long. let e = c.in_ok-collection.ensures.too_long.1 (rw c.as_slice.ensures.value long) in cc)
-    (collection_of c.in_ok-collection.collection, rw c.as_slice.ensures.value at c.in_ok-collection.ensures.read, c.in-Err.ensures.sent)
+    (λ long. let e = c.in_ok-check.ensures.too_long.1 (rw c.as_slice.ensures.value long) in cc)
+    (spelled.0, spelled.1, c.in-Err.ensures.sent spelled.0 (rw c.as_slice-2.ensures.value spelled.1))

@@ -1,0 +1,5 @@
+use Rattle.std.proofs.Common.{rules}
+use Rattle.go_sgf.proofs.cooking.cook_text.Goals as goal
+
+pub returns : goal.returns
+returns g c = search rules
