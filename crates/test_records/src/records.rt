@@ -167,27 +167,42 @@ fn tidy_a_record(rt: HostRuntime) {
 fn parts_of_a_record(rt: HostRuntime) {
     let source = b"(;GaMe[1]SZ[9]Ab[cc][dd];B[aa][bb];KOMI[6.5](;W[])(;W[cc]))(;)";
     let collection = read(rt.alloc(), source).expect(&rt, "a record");
-    assert_eq!(rt; collection.trees().len(), 2);
-    let tree = &collection.trees()[0];
-    assert!(rt; tree.nodes().len() == 3 && tree.children().len() == 2);
-    let root = &tree.nodes()[0];
-    assert_eq!(rt; root.properties().len(), 3);
-    let game = &root.properties()[0];
+    let trees = collection.trees();
+    assert_eq!(rt; trees.len(), 2);
+    let (nodes, children) = (trees[0].nodes(), trees[0].children());
+    assert!(rt; nodes.len() == 3);
+    assert!(rt; children.len() == 2);
+    let root = nodes[0].properties();
+    assert!(rt; root.len() == 3);
+    let game = &root[0];
     assert!(rt; game.is(b"GM") && !game.is(b"GaMe") && !game.is(b"G") && !game.is(b"GMM"));
     assert!(rt; game.name() == b"GaMe".as_slice());
     assert!(rt; game.values() == [b"1".as_slice()].as_slice());
-    assert!(rt; root.properties()[1].name() == b"SZ".as_slice());
-    assert!(rt; root.properties()[2].name() == b"Ab".as_slice());
-    let moves = &tree.nodes()[1].properties()[0];
+    assert!(rt; root[1].name() == b"SZ".as_slice());
+    assert!(rt; root[2].name() == b"Ab".as_slice());
+    let other = &trees[1];
+    assert!(rt; other.nodes().len() == 1 && other.children().is_empty());
+    let node = other.nodes().first().expect(&rt, "a node");
+    assert!(rt; node.properties().is_empty());
+}
+
+#[test]
+fn values_of_a_record(rt: HostRuntime) {
+    let source = b"(;B[aa][bb];KOMI[6.5](;W[])(;W[cc]))";
+    let collection = read(rt.alloc(), source).expect(&rt, "a record");
+    let tree = collection.trees().first().expect(&rt, "a tree");
+    let nodes = tree.nodes();
+    assert!(rt; nodes.len() == 2);
+    let moves = nodes[0].properties().first().expect(&rt, "a move");
     assert!(rt; moves.name() == b"B".as_slice());
     assert!(rt; moves.values() == [b"aa".as_slice(), b"bb"].as_slice());
-    let komi = &tree.nodes()[2].properties()[0];
-    assert!(rt; komi.is(b"KOMI") && komi.values() == [b"6.5".as_slice()].as_slice());
-    let pass = &tree.children()[0].nodes()[0].properties()[0];
+    let komi = nodes[1].properties().first().expect(&rt, "a komi");
+    assert!(rt; komi.is(b"KOMI") && komi.name() == b"KOMI".as_slice());
+    assert!(rt; komi.values() == [b"6.5".as_slice()].as_slice());
+    let child = tree.children().first().expect(&rt, "a child");
+    let node = child.nodes().first().expect(&rt, "a node");
+    let pass = node.properties().first().expect(&rt, "a pass");
     assert!(rt; pass.is(b"W") && pass.values() == [b"".as_slice()].as_slice());
-    let other = &collection.trees()[1];
-    assert!(rt; other.nodes().len() == 1 && other.children().is_empty());
-    assert!(rt; other.nodes()[0].properties().is_empty());
 }
 
 /// Asserts what a call made of its bytes.
