@@ -4,4 +4,5 @@ pub mod Dead
 pub mod Liberties
 pub mod Rows
 pub mod Packs
+pub mod Codes
 pub mod ChainPoints

@@ -8,3 +8,4 @@ pub mod Beside
 pub mod Traces
 pub mod Words
 pub mod Parts
+pub mod Codes

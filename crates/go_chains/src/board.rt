@@ -1,4 +1,4 @@
-ghost use Rattle.std.specs.Prelude.{◌≡◌, ◌<◌, ◌≤◌, ◌+◌, ◌*◌, ◌/◌, ◌++◌, ◌∷◌, ◌↔◌, ℕ, [], List, None, IfNone, IfOk, IfSome, IsErrOf, OnErr, OnOk, length, nat_eq, replicate};
+ghost use Rattle.std.specs.Prelude.{◌≡◌, ◌<◌, ◌≤◌, ◌+◌, ◌*◌, ◌/◌, ◌++◌, ◌∷◌, ◌↔◌, ℕ, [], List, None, IfNone, IfOk, IfSome, IsErrOf, OnErr, OnOk, length, nat_eq, replicate, slice_index};
 ghost use Rattle.std.specs.Int.{bit_at};
 ghost use Rattle.go_board.specs.Colours.{colour_at, other};
 ghost use Rattle.go_board.specs.PackBytes.{bytes_of};
@@ -83,6 +83,8 @@ impl Board {
         ensures lines { self.new.lines ≡ size }
         ensures colours { grid_of self.new ≡ replicate (size * size) None }
         ensures writes { length self.new.trace ≡ length self.old.trace + size * size }
+        ensures rest { (k : ℕ) → size * size ≤ k
+            → slice_index self.new.cells k ≡ slice_index self.old.cells k }
         ensures kept { IsKept self.new.lines self.new.cells }
     {
         empty_points(&mut self.cells, usize::from(size.points()));
@@ -454,6 +456,8 @@ impl Board {
 fn empty_points(cells: &mut Cells, points: usize)
     requires { points ≤ MAX_POINTS }
     ensures empty { (p : ℕ) → p < points → code_at cells.new.numbers p ≡ 0 }
+    ensures rest { (k : ℕ) → points ≤ k
+        → slice_index cells.new.numbers k ≡ slice_index cells.old.numbers k }
     ensures writes { length cells.new.trace ≡ length cells.old.trace + points }
 {
     let mut meter = Meter::new();

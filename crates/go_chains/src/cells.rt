@@ -1,15 +1,15 @@
-ghost use Rattle.std.specs.Prelude.{◌≡◌, ◌<◌, ◌≤◌, ◌+◌, ◌*◌, ◌++◌, ◌∷◌, [], slice_index, slice_set};
-ghost use Rattle.go_board.specs.Colours.{colour_at};
-ghost use Rattle.go_board.specs.Packs.{byte_of, code_of};
+ghost use Rattle.std.specs.Prelude.{◌≡◌, ◌≢◌, ◌<◌, ◌≤◌, ◌+◌, ◌*◌, ◌++◌, ◌∷◌, [], ℕ, slice_index, slice_set};
+ghost use Rattle.go_board.specs.Packs.{byte_of, code_of, colour_coded};
 ghost use Rattle.go_board.specs.declared.pack.TheConstants.{PACK_BYTES};
 ghost use Rattle.go_board.specs.declared.size.TheConstants.{MAX_LINES, MAX_POINTS};
 ghost use Rattle.go_chains.specs.declared.cells.TheConstants.{COUNT, LIBERTIES, WORDS};
 ghost use Rattle.go_chains.specs.Cells.{words_for};
 ghost use Rattle.go_chains.specs.Boards.{colouring_of};
+ghost use Rattle.go_chains.specs.inner.Codes.{code_in};
 
-use crate::change::Change;
+use crate::numbers::Numbers;
 use crate::trace::Trace;
-use go_board::{Colour, MAX_POINTS, Meter, Packed, Size, packed_byte};
+use go_board::{Colour, MAX_POINTS, Meter, Packed, Size};
 use std::marker::Model;
 
 /// How many words hold a bit for each point of the largest board.
@@ -31,30 +31,29 @@ pub const LIBERTIES: usize = SIZES + MAX_POINTS;
 pub const COUNT: usize = LIBERTIES + WORDS * MAX_POINTS;
 
 /// The cells of a board: the colour, the label and the ring link of each point, and the size and
-/// the words of liberties of each label. Nothing else reads or writes them, and each write is in
-/// their trace. Beside them is the pack of the colours, as if the board had the most lines.
+/// the words of liberties of each label. Nothing else reads or writes them, each write is in their
+/// trace, and each read and each write is counted. Beside them is the pack of the colours, as if the
+/// board had the most lines.
 #[derive(Drop)]
 pub struct Cells {
-    numbers: [u64; COUNT],
+    numbers: Numbers,
     pack: Packed,
     trace: Trace,
 }
 
 impl Model for Cells {
-    ghost use Rattle.std.specs.Prelude.{◌≡◌, length};
+    ghost use Rattle.std.specs.Prelude.{◌≡◌};
     ghost use Rattle.go_board.specs.PackBytes.{bytes_of};
     ghost use Rattle.go_board.specs.Packs.{packed_of};
     ghost use Rattle.go_board.specs.declared.size.TheConstants.{MAX_LINES};
     ghost use Rattle.go_chains.specs.Cells.{CellsValue};
     ghost use Rattle.go_chains.specs.Boards.{colouring_of};
-    ghost use Rattle.go_chains.specs.declared.cells.TheConstants.{COUNT};
 
     ghost Value = { CellsValue };
 
     ghost view = { λ c. record { numbers = c.numbers; trace = c.trace } };
 
-    ghost invariant = { λ c. (length c.numbers ≡ COUNT)
-        × (bytes_of c.pack ≡ packed_of (colouring_of MAX_LINES c.numbers)) };
+    ghost invariant = { λ c. bytes_of c.pack ≡ packed_of (colouring_of MAX_LINES c.numbers) };
 }
 
 impl Cells {
@@ -66,10 +65,12 @@ impl Cells {
         ensures numbers { result.numbers ≡ replicate COUNT 0 }
         ensures trace { result.trace ≡ [] }
     {
+        let numbers = Numbers::new();
+        let trace = Trace::new(&numbers);
         Cells {
-            numbers: [0; COUNT],
+            numbers,
             pack: Packed::empty(),
-            trace: Trace::new(),
+            trace,
         }
     }
 
@@ -79,8 +80,7 @@ impl Cells {
         ensures value { result ≡ slice_index self.now.numbers place }
         ensures count { meter.new ≡ meter.old + 1 }
     {
-        meter.tick();
-        self.numbers[place]
+        self.numbers.get(place, meter)
     }
 
     /// Writes a number into a cell.
@@ -92,13 +92,12 @@ impl Cells {
             ++ record { place = place; old = slice_index self.old.numbers place } ∷ [] }
         ensures count { meter.new ≡ meter.old + 1 }
     {
-        meter.tick();
-        let old = self.numbers[place];
-        self.trace.add(Change { place, old });
-        self.numbers[place] = number;
+        self.trace.add(place, &self.numbers);
+        self.numbers.set(place, number, meter);
         if place < MAX_POINTS {
-            self.pack
-                .set(place / 4, byte_of_four(&self.numbers, place / 4));
+            let byte = self.pack.byte(place / 4);
+            let code = colour_code(number);
+            self.pack.set(place / 4, with_code(byte, place % 4, code));
         }
     }
 
@@ -111,32 +110,28 @@ impl Cells {
     }
 }
 
-/// The byte of four points that numbers say.
-fn byte_of_four(numbers: &[u64; COUNT], place: usize) -> u8
-    requires { place < PACK_BYTES }
-    ensures { result ≡ byte_of (colouring_of MAX_LINES numbers.now) place }
-{
-    let first = 4 * place;
-    packed_byte(
-        code_in(numbers, first),
-        code_in(numbers, first + 1),
-        code_in(numbers, first + 2),
-        code_in(numbers, first + 3),
-    )
-}
-
-/// The code of a point's colour; a point past the largest board counts as empty.
-fn code_in(numbers: &[u64; COUNT], number: usize) -> u8
-    ensures value { result ≡ code_of (colour_at (colouring_of MAX_LINES numbers.now) number) }
+/// The code of the colour that a number stands for; a number of no colour stands for an empty
+/// point.
+fn colour_code(number: u64) -> u8
+    ensures value { result ≡ code_of (colour_coded number) }
     ensures few { result ≤ 2 }
 {
-    if number >= MAX_POINTS {
-        return 0;
-    }
-    match Colour::coded(numbers[number]) {
+    match Colour::coded(number) {
         None => 0,
         Some(colour) => colour.code() as u8,
     }
+}
+
+/// The byte of four codes with another code at one of its places.
+fn with_code(byte: u8, at: usize, code: u8) -> u8
+    requires at { at < 4 }
+    requires code { code ≤ 2 }
+    ensures code { code_in result at ≡ code }
+    ensures others { (k : ℕ) → k < 4 → k ≢ at → code_in result k ≡ code_in byte k }
+{
+    let shift = 2 * at;
+    let old = (byte >> shift) % 4;
+    byte - (old << shift) + (code << shift)
 }
 
 /// How many words hold a bit for each point of a board of this size. Those past them are never

@@ -40,6 +40,7 @@ pub mod laws;
 mod lift;
 mod log;
 mod masks;
+mod numbers;
 mod occupy;
 mod place;
 mod trace;

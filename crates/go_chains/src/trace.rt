@@ -1,16 +1,18 @@
-ghost use Rattle.std.specs.Prelude.{◌≡◌, ◌++◌, ◌∷◌, []};
+ghost use Rattle.std.specs.Prelude.{◌≡◌, ◌++◌, ◌∷◌, [], slice_index};
 
-use crate::change::Change;
+use crate::numbers::Numbers;
 use std::marker::Model;
 use std::mem;
 use std::snapshot::Snapshot;
 
 /// A list of writes that only contracts see: those before and the last one, or no write where there
-/// is no list before.
+/// is no list before. The last one is told by its cell and by what stood in all cells before it, so
+/// that no cell is read for it.
 #[derive(Drop)]
 struct Writes {
     before: Option<Snapshot<Writes>>,
-    last: Change,
+    place: usize,
+    numbers: Snapshot<Numbers>,
 }
 
 impl Model for Writes {
@@ -20,7 +22,7 @@ impl Model for Writes {
 
     ghost Value = { List Change };
 
-    ghost view = { λ w. writes_of w.before w.last };
+    ghost view = { λ w. writes_of w.before w.place w.numbers };
 
     ghost size = { λ w. length w };
 }
@@ -43,27 +45,30 @@ impl Model for Trace {
 }
 
 impl Trace {
-    /// The trace of no write.
-    pub fn new() -> Trace
+    /// The trace of no write to these numbers.
+    pub fn new(numbers: &Numbers) -> Trace
         ensures { result ≡ [] }
     {
         Trace {
             at: Snapshot::of(&Writes {
                 before: None,
-                last: Change { place: 0, old: 0 },
+                place: 0,
+                numbers: Snapshot::of(numbers),
             }),
         }
     }
 
-    /// Adds a write at the end.
-    pub fn add(&mut self, change: Change)
-        ensures { self.new ≡ self.old ++ change ∷ [] }
+    /// Adds at the end a write that is made next to these numbers.
+    pub fn add(&mut self, place: usize, numbers: &Numbers)
+        ensures { self.new ≡ self.old
+            ++ record { place = place; old = slice_index numbers.now place } ∷ [] }
     {
-        let none = Trace::new().at;
+        let none = Trace::new(numbers).at;
         let before = mem::replace(&mut self.at, none);
         self.at = Snapshot::of(&Writes {
             before: Some(before),
-            last: change,
+            place,
+            numbers: Snapshot::of(numbers),
         });
     }
 }

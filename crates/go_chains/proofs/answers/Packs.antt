@@ -1,6 +1,6 @@
 -- The pack of the colours that cells say, byte by byte.
 use Rattle.std.specs.Prelude.{replicate}
-use Rattle.std.proofs.Common.{arith, ◌≡◌, ◌≢◌, ◌<◌, ◌≤◌, ◌+◌, ◌*◌, ◌/◌, ◌∙◌, ℕ, List, None, ap, get_or, inl, inr, length, slice_index, slice_set, sym}
+use Rattle.std.proofs.Common.{arith, ◌≡◌, ◌≢◌, ◌<◌, ◌≤◌, ◌+◌, ◌*◌, ◌/◌, ◌%◌, ◌∙◌, ℕ, List, None, ap, get_or, inl, inr, length, slice_index, slice_set, sym}
 use Rattle.std.proofs.lemmas.Bool.{cases_eq, cases_lt}
 use Rattle.std.proofs.lemmas.List.{get_or-replicate, get_or-set_other, get_or-set_same, get_or_past, length-replicate}
 use Rattle.std.proofs.lemmas.List.FromFn.{fill_by_all, get_or-map-range_with_len, length-map-range_with_len}
@@ -11,6 +11,8 @@ use Rattle.go_board.specs.Colours.{Colouring, colour_at}
 use Rattle.go_board.specs.Packs.{byte_of, code_of, packed_of, colour_coded}
 use Rattle.go_chains.specs.Cells.{code_at}
 use Rattle.go_chains.specs.Boards.{colouring_of}
+use Rattle.go_chains.specs.inner.Codes.{code_in}
+use Rattle.go_chains.proofs.answers.Codes.{byte_put}
 use Rattle.go_chains.proofs.rules.Sound.{colouring-at, length-colouring}
 use Rattle.go_chains.proofs.answers.Queries.{code_none, zero_cell}
 
@@ -60,6 +62,21 @@ other_colour cells place number k other = elim (cases_lt k (MAX_LINES * MAX_LINE
   | inr past ↦ get_or_past (colouring_of MAX_LINES cells) k None (omega (arith, length-colouring MAX_LINES cells, past))
       ∙ sym (get_or_past (colouring_of MAX_LINES (slice_set cells place number)) k None (omega (arith, length-colouring MAX_LINES (slice_set cells place number), past)))
 ]
+
+-- the byte of a point with its code written is that of the cells after the write
+pub written_byte : (cells bytes : List ℕ) (place number byte new code : ℕ) → place < MAX_POINTS → bytes ≡ packed_of (colouring_of MAX_LINES cells) → new < 256
+    → byte ≡ slice_index bytes (place / 4) → code_in new (place % 4) ≡ code → ((k : ℕ) → k < 4 → k ≢ place % 4 → code_in new k ≡ code_in byte k) → code ≡ code_of (colour_coded number)
+    → code_at (slice_set cells place number) place ≡ number → new ≡ byte_of (colouring_of MAX_LINES (slice_set cells place number)) (place / 4)
+written_byte cells bytes place number byte new code low was fits read here others coded written =
+    let g = colouring_of MAX_LINES cells in
+    let h = colouring_of MAX_LINES (slice_set cells place number) in
+    let at : 4 * (place / 4) + place % 4 ≡ place = omega arith in
+    let place_code : code ≡ code_of (colour_at h (4 * (place / 4) + place % 4)) =
+    coded ∙ ap (λ (v : ℕ). code_of (colour_coded v)) (sym written) ∙ sym (code-at (slice_set cells place number) place low) ∙ ap (λ (k : ℕ). code_of (colour_at h k)) (sym at) in
+    byte_put g h (place / 4) (place % 4) code byte new fits
+    (read ∙ ap (λ (l : List ℕ). slice_index l (place / 4)) was ∙ byte-at g (place / 4) (omega (arith, low)))
+    here others place_code
+    (λ k other. other_colour cells place number k (λ e. other (e ∙ sym at)))
 
 -- a write to a colour cell changes the byte of its point alone
 pub pack_written : (cells bytes : List ℕ) (place number byte : ℕ) → place < MAX_POINTS → bytes ≡ packed_of (colouring_of MAX_LINES cells)

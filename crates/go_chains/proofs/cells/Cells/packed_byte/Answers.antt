@@ -8,5 +8,5 @@ use Rattle.go_chains.proofs.cells.Cells.packed_byte.Goals as goal
 
 pub returns : goal.returns
 returns c =
-    c.byte.ensures ∙ ap (λ (l : List ℕ). slice_index l c.args.place) c.self.invariant.1 ∙ byte-at (colouring_of MAX_LINES c.self.inside.numbers) c.args.place c.requires
+    c.byte.ensures ∙ ap (λ (l : List ℕ). slice_index l c.args.place) c.self.invariant ∙ byte-at (colouring_of MAX_LINES c.self.inside.numbers) c.args.place c.requires
     ∙ ap (λ (v : CellsValue). byte_of (colouring_of MAX_LINES v.numbers) c.args.place) c.self.view_is

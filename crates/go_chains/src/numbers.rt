@@ -1,0 +1,56 @@
+ghost use Rattle.std.specs.Prelude.{◌≡◌, ◌<◌, ◌+◌, replicate, slice_index, slice_set};
+ghost use Rattle.go_chains.specs.declared.cells.TheConstants.{COUNT};
+
+use crate::cells::COUNT;
+use go_board::Meter;
+use std::marker::Model;
+
+/// The numbers in the cells of a board. Only the calls below reach them: each reads or writes one
+/// number, and counts that.
+#[derive(Drop)]
+pub struct Numbers {
+    items: [u64; COUNT],
+}
+
+impl Model for Numbers {
+    ghost use Rattle.std.specs.Prelude.{◌≡◌, ℕ, List, length};
+    ghost use Rattle.go_chains.specs.declared.cells.TheConstants.{COUNT};
+
+    ghost Value = { List ℕ };
+
+    ghost view = { λ n. n.items };
+
+    ghost invariant = { λ n. length n.items ≡ COUNT };
+}
+
+impl Numbers {
+    ghost use Rattle.go_chains.specs.Cells.{IsWritten};
+
+    /// Numbers that are all 0.
+    pub fn new() -> Numbers
+        ensures { result ≡ replicate COUNT 0 }
+    {
+        Numbers { items: [0; COUNT] }
+    }
+
+    /// The number in a cell.
+    pub fn get(&self, place: usize, meter: &mut Meter) -> u64
+        requires { place < COUNT }
+        ensures value { result ≡ slice_index self.now place }
+        ensures count { meter.new ≡ meter.old + 1 }
+    {
+        meter.tick();
+        self.items[place]
+    }
+
+    /// Writes a number into a cell.
+    pub fn set(&mut self, place: usize, number: u64, meter: &mut Meter)
+        requires { place < COUNT }
+        ensures value { self.new ≡ slice_set self.old place number }
+        ensures written { IsWritten self.old self.new place number }
+        ensures count { meter.new ≡ meter.old + 1 }
+    {
+        meter.tick();
+        self.items[place] = number;
+    }
+}
