@@ -37,6 +37,16 @@ impl<A: Allocator + Copy> History<A> {
         }
     }
 
+    /// After how many moves what has this key stood first, or none where it didn't stand.
+    pub fn look_up(&self, key: &Key) -> Option<usize>
+        ensures { result ≡ number_at self.now key.now }
+    {
+        if self.start == *key {
+            return Some(0);
+        }
+        self.later.get(key).copied()
+    }
+
     /// After how many moves what has this key stood first; or none where it didn't stand, and then
     /// it is noted with this number.
     pub fn note(&mut self, key: &Key, number: usize) -> Result<Option<usize>, AllocError>
