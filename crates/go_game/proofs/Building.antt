@@ -30,7 +30,7 @@ not-true : (b : Bool) → not b ≡ true → b ≡ true → ⊥
 not-true true gone is = false≢true gone
 not-true false gone is = false≢true is
 
-same-true : (a : Option Colour) (c : Colour) → is_same a (Some c) ≡ true → is_same a None ≡ false
+pub same-true : (a : Option Colour) (c : Colour) → is_same a (Some c) ≡ true → is_same a None ≡ false
 same-true None c e = absurd (false≢true e)
 same-true (Some Black) c e = refl
 same-true (Some White) c e = refl

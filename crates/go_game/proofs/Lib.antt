@@ -10,6 +10,7 @@ pub mod Choosing
 pub mod ChoiceRule
 pub mod Trails
 pub mod Building
+pub mod Filling
 pub mod Remembered
 pub mod Keeping
 pub mod Beginning

@@ -1,18 +1,36 @@
 -- The cells of a game's board, the changes of each move, and how many reads and writes they took.
-use Rattle.std.specs.Prelude.{◌≡◌, ◌≤◌, ◌+◌, ◌++◌, ◌∷◌, [], ℕ, zero, suc, List, length}
+use Rattle.std.specs.Prelude.{◌≡◌, ◌≤◌, ◌+◌, ◌*◌, ◌++◌, ◌∷◌, [], ℕ, zero, suc, List, None, count_by, length, not, sum_by}
 use Rattle.go_board.specs.declared.colour.Colour.{Colour}
 use Rattle.go_board.specs.declared.vertex.Vertex.{Vertex}
 use Rattle.go_board.specs.declared.vertex.Vertex.TheVariants.{Pass, At}
+use Rattle.go_board.specs.Grids.{GridValue}
 use Rattle.go_board.specs.Points.{number_of}
+use Rattle.go_board.specs.Reaching.{has_colour, points}
 use Rattle.go_chains.specs.declared.change.Change.{Change}
 use Rattle.go_chains.specs.Playing.{most_of}
 use Rattle.go_chains.specs.Rewound.{rewound, undone}
 use Rattle.go_game.specs.Standings.{GameValue, Standing, board_of}
 
+-- the most changes that a play makes on the point with this number
+abbrev pub most_on : Standing → Colour → ℕ → ℕ
+most_on s c p = most_of s.lines (board_of s) c p
+
 -- the most changes that a turn makes: a pass makes none
 abbrev pub most_for : Standing → Colour → Vertex → ℕ
 most_for s c Pass = 0
-most_for s c (At p) = most_of s.lines (board_of s) c (number_of s.lines p)
+most_for s c (At p) = most_on s c (number_of s.lines p)
+
+-- the same of plays on all points, one on each, together
+abbrev pub most_on_all : Standing → Colour → ℕ
+most_on_all s c = sum_by (most_on s c) (points s.lines)
+
+-- how many stones a grid has
+abbrev pub stones_in : GridValue → ℕ
+stones_in g = count_by (λ p. not (has_colour g.colours p None)) (points g.lines)
+
+-- the most writes that put the stones of a grid on a board, by plays that take none
+abbrev pub most_to_fill : GridValue → ℕ
+most_to_fill g = stones_in g * (128 + 8 * stones_in g)
 
 -- the game is as it was, and the count at least
 pub record IsAsBefore (old new : GameValue) : Type 0 where

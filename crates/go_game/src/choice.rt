@@ -1,6 +1,6 @@
 //! What is legal, and the plain choice of a play: by trials on the game itself, each of which is
 //! taken back.
-ghost use Rattle.std.specs.Prelude.{◌≡◌, ◌<◌, ◌*◌, ◌↔◌, ◌-ℤ◌, pos, false, true, IfOk, IsTrue, OnErr, if◌then◌else◌};
+ghost use Rattle.std.specs.Prelude.{◌≡◌, ◌<◌, ◌≤◌, ◌+◌, ◌*◌, ◌↔◌, ◌-ℤ◌, pos, false, true, IfOk, IsTrue, OnErr, if◌then◌else◌};
 ghost use Rattle.go_game.specs.inner.Trials.{better_of};
 
 use crate::{Game, PlayError};
@@ -48,7 +48,7 @@ fn ahead(own: u16, theirs: u16) -> i32
 
 impl<A: Allocator + Copy> Game<A> {
     ghost use Rattle.go_game.specs.Choices.{chosen, lead_of};
-    ghost use Rattle.go_game.specs.Counts.{IsAsBefore, IsLogged, most_for};
+    ghost use Rattle.go_game.specs.Counts.{IsAsBefore, IsLogged, most_for, most_on, most_on_all};
     ghost use Rattle.go_game.specs.Legal.{is_legal};
     ghost use Rattle.go_game.specs.Standings.{IsLegal, IsOccupied, IsOffBoard, with_move};
     ghost use Rattle.go_game.specs.inner.Trials.{IsBestTrial, tried};
@@ -64,6 +64,8 @@ impl<A: Allocator + Copy> Game<A> {
         ensures tried { OnErr result ((IsOffBoard self.old.standing made.vertex → ⊥)
             × (IsOccupied self.old.standing made.vertex → ⊥)) }
         ensures same { IsAsBefore self.old self.new }
+        ensures count { self.new.count
+            ≤ self.old.count + 4 * most_for self.old.standing made.colour made.vertex }
     {
         let legal = self.try_play(made)?;
         if legal {
@@ -84,6 +86,10 @@ impl<A: Allocator + Copy> Game<A> {
         ensures err { OnErr result (IsAsBefore self.old self.new) }
         ensures tried { OnErr result ((IsOffBoard self.old.standing made.vertex → ⊥)
             × (IsOccupied self.old.standing made.vertex → ⊥)) }
+        ensures count { IfOk result (λ legal. legal ≡ true → self.new.count
+            ≤ self.old.count + 3 * most_for self.old.standing made.colour made.vertex) }
+        ensures most { self.new.count
+            ≤ self.old.count + 4 * most_for self.old.standing made.colour made.vertex }
     {
         match self.play(made) {
             Ok(_) => Ok(true),
@@ -101,6 +107,8 @@ impl<A: Allocator + Copy> Game<A> {
     pub fn choose(&mut self, colour: Colour) -> Result<Vertex, AllocError>
         ensures ok { IfOk result (λ vertex. vertex ≡ chosen self.old.standing colour) }
         ensures same { IsAsBefore self.old self.new }
+        ensures count { self.new.count
+            ≤ self.old.count + 4 * most_on_all self.old.standing colour }
     {
         let present = self.lead(colour);
         match self.best_trial(colour)? {
@@ -114,6 +122,8 @@ impl<A: Allocator + Copy> Game<A> {
         ensures ok { IfOk result (IsBestTrial self.old.standing colour
             (self.old.standing.lines * self.old.standing.lines)) }
         ensures same { IsAsBefore self.old self.new }
+        ensures count { self.new.count
+            ≤ self.old.count + 4 * most_on_all self.old.standing colour }
     {
         let size = self.size();
         let mut best = None;
@@ -129,6 +139,8 @@ impl<A: Allocator + Copy> Game<A> {
         requires { number < self.old.standing.lines * self.old.standing.lines }
         ensures ok { IfOk result (λ trial. trial ≡ tried self.old.standing colour number) }
         ensures same { IsAsBefore self.old self.new }
+        ensures count { self.new.count
+            ≤ self.old.count + 4 * most_on self.old.standing colour number }
     {
         let point = Point::numbered(self.size(), number);
         let vertex = Vertex::At(point);

@@ -67,8 +67,9 @@ impl<A: Allocator + Copy> Game<A> {
     ghost use Rattle.go_game.specs.Choices.{liberties_at};
     ghost use Rattle.go_game.specs.Prisoners.{prisoners_of};
     ghost use Rattle.go_board.specs.Komi.{IsKomi};
-    ghost use Rattle.go_game.specs.Standings.{IsSound, board_of, empty_start, present, is_vacant_standing, mover_of};
+    ghost use Rattle.go_game.specs.Standings.{IsSound, board_of, empty_start, present, is_vacant_standing, mover_of, seen_by};
     ghost use Rattle.go_game.specs.Scores.{area_of, margin_of};
+    ghost use Rattle.go_game.specs.Whole.{whole_of};
 
     /// An empty board, Black to move, komi 0, positional superko.
     pub fn new(alloc: A, size: Size) -> Game<A>
@@ -293,6 +294,19 @@ impl<A: Allocator + Copy> Game<A> {
         ensures white { result.white ≡ area_of self.now.standing Colour.White }
     {
         self.board.area()
+    }
+
+    /// After how many moves the superko rule first saw these colours with this colour to move, or
+    /// none where it didn't see them.
+    pub fn first_seen(&self, grid: &Grid, mover: Colour) -> Option<usize>
+        requires { grid.now.lines ≡ self.now.standing.lines }
+        ensures { result ≡ (whole_of self.now.standing).history
+            (seen_by self.now.standing.rule (grid.now.colours, mover)) }
+    {
+        packs_tell_colourings_apart();
+        prove!(grid.size() == self.size());
+        let key = self.superko.key(grid.pack(), mover);
+        self.history.look_up(&key)
     }
 
     /// By how many hundredths of a point Black is ahead, komi counted.

@@ -6,7 +6,8 @@ ghost use Rattle.go_board.specs.declared.point.Point.{Point};
 ghost use Rattle.go_board.specs.declared.size.TheConstants.{MAX_LINES};
 ghost use Rattle.go_chains.specs.Sound.{IsKept};
 ghost use Rattle.go_chains.specs.Boards.{grid_of};
-ghost use Rattle.go_game.specs.inner.Building.{IsFront};
+ghost use Rattle.go_game.specs.Counts.{most_to_fill};
+ghost use Rattle.go_game.specs.inner.Building.{IsFront, most_to_put};
 ghost use Rattle.go_game.specs.Standings.{empty_start, started};
 
 use crate::{Game, SetupError, Superko};
@@ -24,6 +25,8 @@ impl<A: Allocator + Copy> Game<A> {
         ensures no_liberty { (p : Point) → result ≡ Err (SetupError.NoLiberty p)
             → IsFirstDead grid.now.lines grid.now.colours p }
         ensures alive { OnOk result (AreAlive grid.now.lines grid.now.colours) }
+        ensures memory_alive { IsErrOf result SetupError.Memory
+            → AreAlive grid.now.lines grid.now.colours }
     {
         let mut game = Game::new(alloc, grid.size());
         match game.begin_from(grid, first) {
@@ -44,6 +47,10 @@ impl<A: Allocator + Copy> Game<A> {
             → self.new.standing ≡ empty_start grid.now.lines self.old.standing.komi
             self.old.standing.rule }
         ensures alive { OnOk result (AreAlive grid.now.lines grid.now.colours) }
+        ensures memory_alive { IsErrOf result SetupError.Memory
+            → AreAlive grid.now.lines grid.now.colours }
+        ensures writes { length self.new.trace ≤ length self.old.trace
+            + 2 * (grid.now.lines * grid.now.lines) + most_to_fill grid.now }
     {
         packs_tell_colourings_apart();
         if let Some(p) = first_dead(grid) {
@@ -82,6 +89,7 @@ fn fill<A: Allocator + Copy>(
     ensures lines { board.new.lines ≡ grid.now.lines }
     ensures kept { IsKept board.new.lines board.new.cells }
     ensures colours { OnOk result (grid_of board.new ≡ grid.now.colours) }
+    ensures writes { length board.new.trace ≤ length board.old.trace + most_to_fill grid.now }
 {
     let mut meter = Meter::new();
     for number in 0..grid.size().points() {
@@ -107,6 +115,8 @@ fn put_stone<A: Allocator + Copy>(
     ensures kept { IsKept board.new.lines board.new.cells }
     ensures front { OnOk result (IsFront grid.now.lines grid.now.colours (number + 1)
         (grid_of board.new)) }
+    ensures writes { length board.new.trace
+        ≤ length board.old.trace + most_to_put grid.now number }
 {
     points_by_number();
     reaches_by_a_path();

@@ -1,7 +1,10 @@
-use Rattle.std.proofs.Common.{◌≡◌}
+use Rattle.std.proofs.Common.{◌≡◌, ◌≤◌, ◌+◌, ◌-◌, ◌*◌, length}
+use Rattle.std.specs.Prelude.{sum_by}
+use Rattle.std.specs.List.{range_with_len}
 use Rattle.go_chains.specs.Sound.{IsKept}
 use Rattle.go_chains.specs.Boards.{grid_of}
-use Rattle.go_game.specs.inner.Building.{IsFront}
+use Rattle.go_game.specs.Counts.{most_to_fill}
+use Rattle.go_game.specs.inner.Building.{IsFront, most_to_put}
 use Rattle.go_game.proofs.start.fill.Given as goal
 
 abbrev pub invariant-loop-number : goal.invariant-loop-number
@@ -9,4 +12,5 @@ invariant-loop-number g l = record {
   lines : l.board.lines ≡ l.grid.lines;
   kept : IsKept l.board.lines l.board.cells;
   front : IsFront l.grid.lines l.grid.colours l.number (grid_of l.board);
+  writes : length l.board.trace + sum_by (most_to_put l.grid) (range_with_len l.number (l.grid.lines * l.grid.lines - l.number)) ≤ length l.initial.board.trace + most_to_fill l.grid;
 }
