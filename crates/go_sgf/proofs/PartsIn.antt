@@ -3,7 +3,7 @@ use Rattle.std.proofs.Common.{◌≡◌, ◌≢◌, ◌==◌, not, ℕ, List, []
 use Rattle.std.proofs.lemmas.Bool.{and_parts, cases_Bool}
 use Rattle.std.proofs.lemmas.Bool.Decides.{nat_tests}
 use Rattle.std.proofs.lemmas.List.{append-nil}
-use Rattle.std.specs.Iterator.{MakesProgress, YieldsFirst, item_count}
+use Rattle.std.specs.Iterator.{YieldsFirst}
 use Rattle.std.specs.Prelude.{IfNone, IfSome}
 use Rattle.std.specs.Borrow.{Bor}
 use Rattle.std.specs.List.{list_all, flat_map, AllByRecursion}
@@ -282,13 +282,6 @@ nodes_read b ns rest r letter semicolon' bracket =
     ap nodes_at (nodes_spelled ns b rest r.fit r.spelling ∙ ap (λ ps. flat_map node_parts ns ++ ps) none ∙ append-nil (flat_map node_parts ns)) ∙ nodes_given ns
 
 -- ---- iterators
-
-pub went_on : {X : Type 0} (s : List X) (x : X) (t : List X) → s ≡ x ∷ t → MakesProgress (λ (u : List X). Unit {0}) (item_count (λ (u : List X). u)) s (Some x) t
-went_on s x t e = record {
-  on = λ finite. (tt, tt, omega (arith, ap length e));
-  keeps = tt;
-  rests = λ finite. tt;
-}
 
 pub none_left : {X : Type 0} {s : List X} (r : Option X) → s ≡ [] → r ≡ None → YieldsFirst (λ (u : List X). u) s r s
 none_left r e f = rw f (e, e)

@@ -1,8 +1,8 @@
 -- How the parts of the reader pass on what comes of reading.
-use Rattle.std.proofs.Common.{◌≡◌, ◌≢◌, ◌≤◌, ◌<◌, ◌+◌, ℕ, List, [], ◌∷◌, ◌++◌, true, false, Option, Some, None, Result, Ok, Err, refl, sym, ap, subst, ◌∙◌, length, map, append_assoc, eqb-true, arith}
+use Rattle.std.proofs.Common.{◌≡◌, ◌≢◌, ◌≤◌, ◌<◌, ◌+◌, ℕ, List, [], ◌∷◌, ◌++◌, true, false, Option, Some, None, Result, Err, refl, sym, ap, subst, ◌∙◌, length, map, append_assoc, eqb-true, arith}
 use Rattle.std.proofs.lemmas.Grind.{flat_map-append}
 use Rattle.std.proofs.lemmas.List.{append-nil, map-append, length-append}
-use Rattle.std.specs.Prelude.{IfOk, IfSome}
+use Rattle.std.specs.Prelude.{IfSome}
 use Rattle.std.specs.List.{list_all, list_any, flat_map, AllByRecursion}
 use Rattle.go_sgf.specs.Record.{Property, is_letter_byte, is_upper_byte, IsValue, IsName, IsProperty}
 use Rattle.go_sgf.specs.Spelling.{Part, value_part, property_parts, node_parts, without_space, is_first, SpellsParts}
@@ -30,16 +30,6 @@ passes Memory o o' later later' e m = tt
 passes End o o' later later' e m = e ∙ m
 passes (Unexpected n) o o' later later' e m = e ∙ m
 passes (TooDeep n) o o' later later' e m = e ∙ m
-
--- an outcome that is another
-pub meets_by : {X : Type 0} (r : Result X Fault) (o o' : Result (List ℕ) Fault) (later : X → Result (List ℕ) Fault) → o ≡ o' → Meets r o' later → Meets r o later
-meets_by (Ok x) o o' later e m = e ∙ m
-meets_by (Err f) o o' later e m = passes f o o' later later e m
-
--- what follows from what was read
-pub if_ok : {X E : Type 0} {P Q : X → Type 0} (r : Result X E) → ((x : X) → P x → Q x) → IfOk r P → IfOk r Q
-if_ok (Ok x) f h = f x h
-if_ok (Err e) f h = h
 
 -- ---- lists
 
@@ -127,13 +117,6 @@ values_more b vs vs' rest v inside more far e f g i = record {
       subst P (sym (map-push value_part vs vs' v e))
       (SpellsParts-append (map value_part vs) (value_part v ∷ []) b rest (without_space more) far.spelling (value_spelled rest v inside more f g));
   place = λ d h. far.place d h ∙ value_passed MAX_DEPTH d h rest v inside more f g i;
-}
-
-pub values_whole : (b : List ℕ) (vs : List (List ℕ)) (rest : List ℕ) → ValuesSoFar b vs rest → is_first 91 rest ≡ false → ReadsValues b vs rest
-values_whole b vs rest far e = record {
-  some = λ empty. let h = far.some empty in cc;
-  inside = far.inside;
-  spelling = far.spelling;
 }
 
 pub values_passed : (b : List ℕ) (vs : List (List ℕ)) (rest : List ℕ) → ValuesSoFar b vs rest → is_first 91 rest ≡ false →

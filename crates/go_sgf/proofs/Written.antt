@@ -1,9 +1,9 @@
 -- How the pieces that are written make up the canonical text.
-use Rattle.std.proofs.Common.{◌≡◌, ◌<◌, ◌+◌, ℕ, List, [], ◌∷◌, ◌++◌, Bool, true, false, refl, sym, ap, ◌∙◌, length, map, take, get_or, append_assoc}
+use Rattle.std.proofs.Common.{◌≡◌, ◌+◌, ℕ, List, [], ◌∷◌, ◌++◌, Bool, true, false, refl, sym, ap, ◌∙◌, map, take, append_assoc}
 use Rattle.std.proofs.lemmas.Bool.{and_parts}
 use Rattle.std.proofs.lemmas.Grind.{flat_map-append}
 use Rattle.std.proofs.lemmas.List.Elements.{filter-append}
-use Rattle.std.proofs.lemmas.List.{append-nil, map-append, take_more}
+use Rattle.std.proofs.lemmas.List.{append-nil, map-append}
 use Rattle.std.specs.List.{flat_map, filter, list_all}
 use Rattle.go_sgf.specs.Record.{Property, Trees, is_upper_byte, plain, plain_property}
 use Rattle.go_sgf.specs.Spelling.{Part, opening, closing, value_part, text, text_of_parts, node_parts, property_parts, parts, tree_text}
@@ -11,10 +11,6 @@ use Rattle.go_sgf.specs.inner.Texts.{value_text, property_text, node_text}
 use Rattle.go_sgf.proofs.Passing.{flat_map-push}
 
 -- ---- loops
-
--- one more element
-pub next_item : {X : Type 0} (xs : List X) (i : ℕ) (x : X) → i < length xs → x ≡ get_or xs i x → take (i + 1) xs ≡ take i xs ++ x ∷ []
-next_item xs i x less e = take_more xs i x less ∙ ap (λ y. take i xs ++ y ∷ []) (sym e)
 
 -- one more element's text
 pub one_more : {X Y : Type 0} (f : Y → List ℕ) (v : X → Y) (xs : List X) (i : ℕ) (x : X) → take (i + 1) xs ≡ take i xs ++ x ∷ [] →

@@ -2,8 +2,12 @@
 use Rattle.std.specs.Prelude.{◌≡◌, ◌<◌, ◌≤◌, ℕ, List, [], ◌∷◌, ◌++◌, length, take}
 use Rattle.std.specs.List.{flat_map}
 use Rattle.go_sgf.specs.Record.{Property, Trees, none, tree, AreTrees, IsFit, plain}
+use Rattle.go_sgf.specs.Refusals.{IsRefusal}
 use Rattle.go_sgf.specs.Spelling.{Spells, SpellsParts, canonical, node_parts, parts}
 use Rattle.go_sgf.specs.Stands.{IsUnfinished, IsWhole, stands}
+use Rattle.go_sgf.specs.declared.error.SgfError.{SgfError}
+use Rattle.go_sgf.specs.declared.error.SgfError.TheVariants.{Memory}
+use Rattle.go_sgf.specs.declared.limits.TheConstants.{MAX_RECORD}
 
 -- the canonical text of a record spells it with plain names, and is theirs too
 abbrev pub CanonicalSpellsPlain : Type 0
@@ -16,6 +20,10 @@ SpelledIsFit = (b : List ℕ) (c : Trees) → Spells b c → IsFit c
 -- no text spells two records
 abbrev pub OneRecord : Type 0
 OneRecord = (b : List ℕ) (c d : Trees) → Spells b c → Spells b d → c ≡ d
+
+-- a text that spells a record, and isn't too long for one, is refused for want of memory alone
+abbrev pub SpelledIsRead : Type 0
+SpelledIsRead = (b : List ℕ) (c : Trees) (why : SgfError) → Spells b c → IsRefusal b why → length b ≤ MAX_RECORD → why ≡ Memory
 
 -- The text is a tree from its `(` to its `)`.
 abbrev pub SpellsTree : List ℕ → List (List Property) → Trees → Type 0

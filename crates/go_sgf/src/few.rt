@@ -6,7 +6,7 @@ use std::alloc::{AllocError, Allocator};
 use std::marker::Model;
 use std::mem;
 
-/// A list that has room for one element in place, which most lists of a record have.
+/// A list with room for one element in place: most lists of a record have one.
 #[derive(Drop)]
 pub(crate) struct Few<T: Drop, A: Allocator + Copy> {
     held: Held<T, A>,
@@ -59,18 +59,19 @@ impl<T: Drop, A: Allocator + Copy> Few<T, A> {
     pub(crate) fn push(&mut self, alloc: A, item: T) -> Result<(), AllocError>
         ensures { OnOk result (self.new ≡ self.old ++ item ∷ []) }
     {
+        // A long list stays where it is.
         if let Held::Many(list) = &mut self.held {
             list.push(item)?;
             return Ok(());
         }
         let held = mem::replace(&mut self.held, Held::None);
-        self.held = with(alloc, held, item)?;
+        self.held = with_item(alloc, held, item)?;
         Ok(())
     }
 }
 
 /// What is held with one more element.
-fn with<T: Drop, A: Allocator + Copy>(
+fn with_item<T: Drop, A: Allocator + Copy>(
     alloc: A,
     held: Held<T, A>,
     item: T,

@@ -2,7 +2,7 @@
 //! function that does nothing.
 ghost use Rattle.std.specs.Prelude.{◌≡◌, ℕ};
 ghost use Rattle.go_sgf.specs.Cooked.{CookedByFront, CookingUndoesEscaping};
-ghost use Rattle.go_sgf.specs.Laws.{CanonicalSpellsPlain, FrontsStand, OneRecord, SpelledIsFit};
+ghost use Rattle.go_sgf.specs.Laws.{CanonicalSpellsPlain, FrontsStand, OneRecord, SpelledIsFit, SpelledIsRead};
 ghost use Rattle.go_sgf.specs.declared.limits.TheConstants.{MAX_DEPTH, MAX_RECORD};
 
 /// The most bytes and the deepest nesting of a record.
@@ -20,6 +20,11 @@ pub fn canonical_spells_plain()
 /// and it isn't nested too deep.
 pub fn spelled_is_fit()
     ensures { SpelledIsFit }
+{}
+
+/// What spells a record is refused for want of memory alone, if it isn't too long.
+pub fn spelled_is_read()
+    ensures { SpelledIsRead }
 {}
 
 /// No text spells two records.

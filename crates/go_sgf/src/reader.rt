@@ -1,5 +1,5 @@
-ghost use Rattle.std.specs.Prelude.{◌≡◌, ◌≢◌, ◌≤◌, ◌<◌, ◌↔◌, ◌∷◌, ◌++◌, ℕ, List, [], Err, IfErr, IfOk, IfSome, IsErrOf, OnErr, OnOk, Some, false, is_some, length, map, option_map, true};
-ghost use Rattle.go_sgf.specs.inner.Held.{property_of};
+ghost use Rattle.std.specs.Prelude.{◌≡◌, ◌≢◌, ◌≤◌, ◌<◌, ◌↔◌, ◌∷◌, ◌++◌, ℕ, List, [], Err, IfErr, IfOk, IfSome, IsErrOf, OnErr, OnOk, Some, false, is_some, length, option_map, true};
+ghost use Rattle.go_sgf.specs.inner.Held.{property_of, trees_in};
 ghost use Rattle.go_sgf.specs.inner.Outcome.{IsWithin, Meets, here, left_of, outcome, outcome_after, error_at};
 ghost use Rattle.go_sgf.specs.inner.Reads.{ReadsNode, ReadsNodes, ReadsProperty, ReadsTree, ReadsValues};
 ghost use Rattle.go_sgf.specs.inner.PartsIn.{is_letter_first, nodes_at, parts_in};
@@ -7,7 +7,7 @@ ghost use Rattle.go_sgf.specs.Record.{Property, TreeValue, Trees, values_of};
 ghost use Rattle.go_sgf.specs.Refusals.{IsRefusal};
 ghost use Rattle.go_sgf.specs.Spelling.{Spells};
 ghost use Rattle.go_sgf.specs.Stands.{closed, in_node, named, opened};
-ghost use Rattle.go_sgf.specs.View.{chain, tree_of, trees_of};
+ghost use Rattle.go_sgf.specs.View.{chain, trees_of};
 
 use crate::error::{Fault, SgfError};
 use crate::few::Few;
@@ -91,17 +91,17 @@ fn property<'a, K: Keep>(
         return Err(unexpected(behind));
     }
     let (values, rest) = values(keep, behind)?;
-    Ok((kept(keep, name, values)?, rest))
+    Ok((make_property(keep, name, values)?, rest))
 }
 
 /// The property with this name and these values, where what is read is kept.
-fn kept<'a, K: Keep>(
+fn make_property<'a, K: Keep>(
     keep: K,
     name: &'a [u8],
     values: Few<&'a [u8], K::Alloc>,
 ) -> Result<Option<nodes::Property<'a, K::Alloc>>, AllocError>
-    ensures kept { IfOk result (λ kept. K.keeps
-        → kept ≡ Some (property_of name.now values.entry)) }
+    ensures made { IfOk result (λ made. K.keeps
+        → made ≡ Some (property_of name.now values.entry)) }
     ensures memory { OnErr result K.keeps }
 {
     match keep.alloc() {
@@ -162,7 +162,7 @@ fn nodes<'a, K: Keep>(
 
 /// A list of trees, where what is read is kept.
 fn no_trees<'a, K: Keep>(keep: K) -> Option<Vec<Tree<'a, K::Alloc>, K::Alloc>>
-    ensures kept { K.keeps → option_map (λ list. list.items) result ≡ Some [] }
+    ensures kept { K.keeps → trees_in result ≡ Some [] }
     ensures some { IfSome result (λ _. K.keeps) }
 {
     match keep.alloc() {
@@ -171,19 +171,22 @@ fn no_trees<'a, K: Keep>(keep: K) -> Option<Vec<Tree<'a, K::Alloc>, K::Alloc>>
     }
 }
 
-/// Adds one more to a list of trees, where there is one.
+/// Adds the tree of these nodes and children to a list of trees, where there is one.
 fn add_tree<'a, A: Allocator + Copy>(
     trees: &mut Option<Vec<Tree<'a, A>, A>>,
-    tree: Option<Tree<'a, A>>,
+    nodes: Few<Node<'a, A>, A>,
+    children: Option<Vec<Tree<'a, A>, A>>,
 ) -> Result<(), AllocError>
-    ensures added { OnOk result (IfSome tree.entry (λ one. option_map (λ list. list.items) trees.new
-        ≡ option_map (λ list. list.items ++ one ∷ []) trees.old)) }
+    requires { IfSome children (λ _. nodes ≢ []) }
+    ensures added { OnOk result (IfSome children.entry (λ list. trees_in trees.new
+        ≡ option_map (λ ts. ts ++ (nodes.entry, trees_of list.items) ∷ []) (trees_in trees.old))) }
     ensures kept { OnOk result (is_some trees.new ≡ is_some trees.old) }
     ensures memory { OnErr result (is_some trees.old ≡ true) }
 {
     if let Some(list) = trees {
-        if let Some(one) = tree {
-            push(list, one)?;
+        if let Some(children) = children {
+            let nodes = Sequence::new(nodes);
+            push(list, Tree { nodes, children })?;
         }
     }
     Ok(())
@@ -200,31 +203,22 @@ fn push<T: Drop, A: Allocator + Copy>(list: &mut Vec<T, A>, item: T) -> Result<(
     Ok(())
 }
 
-/// The tree of these nodes and children, where what is read is kept.
-fn grown<'a, A: Allocator + Copy>(
-    nodes: Few<Node<'a, A>, A>,
-    children: Option<Vec<Tree<'a, A>, A>>,
-) -> Option<Tree<'a, A>>
-    requires { IfSome children (λ _. nodes ≢ []) }
-    ensures { option_map tree_of result
-        ≡ option_map (λ list. (nodes.entry, trees_of list.items)) children.entry }
-{
-    let children = children?;
-    let nodes = Sequence::new(nodes);
-    Some(Tree { nodes, children })
-}
-
-/// A tree at this depth, from behind its `(` on, and what follows it.
+/// Reads a tree at this depth, from behind its `(` on, into a list of trees where there is one, and
+/// gives what follows it.
 fn tree<'a, K: Keep>(
     keep: K,
+    trees: &mut Option<Vec<Tree<'a, K::Alloc>, K::Alloc>>,
     bytes: &'a [u8],
     depth: usize,
-) -> Result<(Option<Tree<'a, K::Alloc>>, &'a [u8]), Fault>
-    requires { IsWithin MAX_DEPTH depth }
-    ensures read { IfOk result (λ r. (t : TreeValue)
-        × (K.keeps → option_map tree_of r.0 ≡ Some t) × ReadsTree depth bytes.now t r.1.now) }
+) -> Result<&'a [u8], Fault>
+    requires depth { IsWithin MAX_DEPTH depth }
+    requires kept { is_some trees.old ≡ true → K.keeps }
+    ensures read { IfOk result (λ rest. (t : TreeValue)
+        × (K.keeps → trees_in trees.new ≡ option_map (λ ts. ts ++ t ∷ []) (trees_in trees.old))
+        × ReadsTree depth bytes.now t rest.now) }
+    ensures kept { OnOk result (is_some trees.new ≡ is_some trees.old) }
     ensures place { Meets result (outcome MAX_DEPTH opened depth bytes.now)
-        (λ r. outcome_after MAX_DEPTH depth r.1.now) }
+        (λ rest. outcome_after MAX_DEPTH depth rest.now) }
     ensures memory { IsErrOf result Fault.Memory → K.keeps }
 {
     let (nodes, mut rest) = nodes(keep, bytes)?;
@@ -233,14 +227,13 @@ fn tree<'a, K: Keep>(
         if depth == MAX_DEPTH {
             return Err(Fault::TooDeep(rest.len()));
         }
-        let (child, more) = tree(keep, inside, depth + 1)?;
-        add_tree(&mut children, child)?;
-        rest = more;
+        rest = tree(keep, &mut children, inside, depth + 1)?;
     }
-    match strip(rest, b')') {
-        Some(behind) => Ok((grown(nodes, children), after_space(behind))),
-        None => Err(unexpected(rest)),
-    }
+    let Some(behind) = strip(rest, b')') else {
+        return Err(unexpected(rest));
+    };
+    add_tree(trees, nodes, children)?;
+    Ok(after_space(behind))
 }
 
 /// What is answered for a fault in a source of this length.
@@ -263,7 +256,7 @@ fn trees<'a, K: Keep>(
 ) -> Result<Option<Vec<Tree<'a, K::Alloc>, K::Alloc>>, SgfError>
     ensures too_long { (result ≡ Err SgfError.TooLong) ↔ (MAX_RECORD < length source.now) }
     ensures read { IfOk result (λ kept. (ts : List TreeValue)
-        × (K.keeps → option_map (λ list. map tree_of list.items) kept ≡ Some ts)
+        × (K.keeps → trees_in kept ≡ Some ts)
         × Spells source.now (chain ts)) }
     ensures refused { IfErr result (IsRefusal source.now) }
     ensures memory { IsErrOf result SgfError.Memory → K.keeps }
@@ -277,12 +270,10 @@ fn trees<'a, K: Keep>(
     }
     let mut trees = no_trees(keep);
     while let Some(inside) = strip_tree(rest) {
-        let (one, more) = match tree(keep, inside, 1) {
-            Ok(read) => read,
+        rest = match tree(keep, &mut trees, inside, 1) {
+            Ok(more) => more,
             Err(fault) => return Err(placed(fault, source.len())),
         };
-        add_tree(&mut trees, one)?;
-        rest = more;
     }
     Ok(trees)
 }

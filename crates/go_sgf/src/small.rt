@@ -40,7 +40,8 @@ impl<S: Measured> Model for Small<S> {
 }
 
 impl<S: Measured> Small<S> {
-    fn is_shown(&self)
+    /// Tells proofs what this shows.
+    fn tell(&self)
         ensures { S.bytes < 2 ^ 63 }
     {
         let _ = &self.of;
@@ -68,7 +69,7 @@ impl<T: Drop> Single<T> {
     pub(crate) fn as_slice(&self) -> &[T]
         ensures { result.now ≡ self.now.item ∷ [] }
     {
-        self.small.is_shown();
+        self.small.tell();
         slice::from_ref(&self.item)
     }
 }

@@ -1,9 +1,9 @@
-use Rattle.std.proofs.Common.{◌≡◌, ◌-◌, List, Some, true, length, map}
-use Rattle.std.specs.Prelude.{is_some, option_map}
+use Rattle.std.proofs.Common.{◌≡◌, ◌-◌, List, Some, true, length}
+use Rattle.std.specs.Prelude.{is_some}
 use Rattle.go_sgf.specs.declared.limits.TheConstants.{MAX_DEPTH}
+use Rattle.go_sgf.specs.inner.Held.{trees_in}
 use Rattle.go_sgf.specs.inner.PartsIn.{nodes_at, parts_in}
 use Rattle.go_sgf.specs.Record.{TreeValue}
-use Rattle.go_sgf.specs.View.{tree_of}
 use Rattle.go_sgf.proofs.Growing.{TreeSoFar}
 use Rattle.go_sgf.proofs.reader.+tree.Given as goal
 
@@ -12,7 +12,7 @@ decreases-tree g l = MAX_DEPTH - l.depth
 
 abbrev pub invariant-loop-inside : goal.invariant-loop-inside
 invariant-loop-inside g l =
-    (ts : List TreeValue) × (g.K.Keep.keeps → option_map (λ list. map tree_of list.items) l.children ≡ Some ts)
+    (ts : List TreeValue) × (g.K.Keep.keeps → trees_in l.children ≡ Some ts)
     × (is_some l.children ≡ true → g.K.Keep.keeps)
     × TreeSoFar l.depth l.bytes (nodes_at (parts_in l.bytes)) ts l.rest
 

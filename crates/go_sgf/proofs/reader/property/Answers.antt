@@ -22,7 +22,7 @@ returns-clause-read g c =
     let read = c.in_ok-values.ensures.read in
     let made : List (List ℕ) → Property = λ vs. record { name = c.letters.result.0.now; values = vs } in (
       made read.0,
-      λ keeps. c.in_ok-kept.ensures.kept keeps ∙ ap (λ vs. Some (made vs)) (read.1 keeps),
+      λ keeps. c.in_ok-make_property.ensures.made keeps ∙ ap (λ vs. Some (made vs)) (read.1 keeps),
       property_whole c.args.bytes.now c.letters.result.0.now c.letters.result.1.now read.0 c.in_ok-values.rest.now c.letters.ensures.whole
           c.letters.ensures.letters (sym c.if-not-has_upper.ensures) c.requires read.2,
     )

@@ -1,8 +1,8 @@
 use Rattle.std.proofs.Common.{[], ◌∷◌, ◌++◌, ◌∙◌, refl, sym, ap, eqb-true, length}
 use Rattle.std.proofs.lemmas.List.{nil_from_length}
-use Rattle.go_sgf.specs.View.{tree_of}
+use Rattle.std.specs.Prelude.{option_map}
 use Rattle.go_sgf.proofs.Growing.{tree_le}
-use Rattle.go_sgf.proofs.Keeping.{kept_each, kept_one, kept_where}
+use Rattle.go_sgf.proofs.Keeping.{kept_where}
 use Rattle.go_sgf.proofs.Passing.{shorter}
 use Rattle.go_sgf.proofs.Stops.{left_by, refused_by, trees_first, trees_more, trees_whole}
 use Rattle.go_sgf.proofs.reader.trees.Goals as goal
@@ -10,7 +10,7 @@ use Rattle.go_sgf.proofs.reader.trees.Goals as goal
 pub loop-inside-init : goal.loop-inside-init
 loop-inside-init g c = (
   [],
-  λ keeps. kept_each (λ list. list.items) tree_of c.no_trees-trees.result [] (c.no_trees-trees.ensures.kept keeps),
+  c.no_trees-trees.ensures.kept,
   kept_where c.no_trees-trees.result c.no_trees-trees.ensures.some,
   trees_first c.args.source.now c.from_tree-rest.result.now c.from_tree-rest.ensures
       (λ empty. let h = ap length empty in let e = c.if-is_empty.ensures in let e' = rw h at e in cc),
@@ -29,19 +29,17 @@ returns-in-Err-clause-refused g c =
 
 pub loop-inside-smaller : goal.loop-inside-smaller
 loop-inside-smaller g c =
-    shorter 40 c.loop-inside.rest.now c.in-Some.inside.now c.in-Ok.read.1.now c.in-Some.ensures.stripped
-    (tree_le 1 c.in-Some.inside.now c.in-Ok.ensures.read.0 c.in-Ok.read.1.now c.in-Ok.ensures.read.2)
+    shorter 40 c.loop-inside.rest.now c.in-Some.inside.now c.in-Ok.more.now c.in-Some.ensures.stripped
+    (tree_le 1 c.in-Some.inside.now c.in-Ok.ensures.read.0 c.in-Ok.more.now c.in-Ok.ensures.read.2)
 
 pub loop-inside-preserved : goal.loop-inside-preserved
 loop-inside-preserved g c =
     let ts = c.loop-inside.invariant.0 in
     let read = c.in-Ok.ensures.read in (
       ts ++ read.0 ∷ [],
-      λ keeps.
-          kept_one (λ list. list.items) tree_of c.loop-inside.trees c.add_tree.new.trees c.in-Ok.read.0 ts read.0 c.in_ok-add_tree.ensures.added
-          (read.1 keeps) (c.loop-inside.invariant.1 keeps),
-      λ kept. c.loop-inside.invariant.2 (sym c.in_ok-add_tree.ensures.kept ∙ kept),
-      trees_more c.args.source.now ts (ts ++ read.0 ∷ []) c.loop-inside.rest.now c.in-Some.inside.now read.0 c.in-Ok.read.1.now
+      λ keeps. read.1 keeps ∙ ap (option_map (λ us. us ++ read.0 ∷ [])) (c.loop-inside.invariant.1 keeps),
+      λ kept. c.loop-inside.invariant.2 (sym c.in-Ok.ensures.kept ∙ kept),
+      trees_more c.args.source.now ts (ts ++ read.0 ∷ []) c.loop-inside.rest.now c.in-Some.inside.now read.0 c.in-Ok.more.now
           c.loop-inside.invariant.3 refl c.in-Some.ensures.stripped read.2,
     )
 
