@@ -1,6 +1,6 @@
 -- The record of a standing can be spelled, and its names are plain.
-use Rattle.std.proofs.Common.{◌≡◌, ◌≢◌, ◌∙◌, ◌+◌, ◌-◌, ◌++◌, ℕ, List, [], ◌∷◌, refl, ap, ap₂, subst, arith, map}
-use Rattle.std.specs.Prelude.{codes, decimal, filter}
+use Rattle.std.proofs.Common.{◌≡◌, ◌≢◌, ◌∙◌, ◌+◌, ◌-◌, ◌++◌, ℕ, List, [], ◌∷◌, refl, sym, ap, ap₂, subst, arith, map}
+use Rattle.std.specs.Prelude.{None, Ok, codes, decimal, filter}
 use Rattle.std.specs.List.{AllByRecursion}
 use Rattle.go_board.specs.declared.colour.Colour.{Colour}
 use Rattle.go_board.specs.declared.colour.Colour.TheVariants.{Black, White}
@@ -11,12 +11,15 @@ use Rattle.go_board.specs.declared.vertex.Vertex.TheVariants.{Pass, At}
 use Rattle.go_board.specs.Points.{point_at}
 use Rattle.go_game.specs.Scores.{hundredths_word}
 use Rattle.go_game.specs.Standings.{IsSound, Standing}
-use Rattle.go_sgf.specs.Laws.{CanonicalSpellsPlain, OneRecord}
+use Rattle.go_sgf.specs.Laws.{CanonicalSpellsPlain, OneRecord, SpelledIsRead}
 use Rattle.go_sgf.specs.Record.{Property, Trees, none, tree, IsFit, IsName, IsProperty, IsValue, is_upper_byte, plain, plain_property}
 use Rattle.go_sgf.specs.Spelling.{Spells}
+use Rattle.go_record.specs.Games.{IsGameOf}
 use Rattle.go_record.specs.Laws.{Records}
 use Rattle.go_record.specs.Records.{alone, colour_letter, move_node, point_value, points_coloured, property, record_of, start_node, stones_property, game_tree, vertex_value}
+use Rattle.go_record.specs.Walks.{Outcome}
 use Rattle.std.proofs.lemmas.List.{map-append}
+use Rattle.go_record.proofs.Decided.{exactly_one}
 use Rattle.go_record.proofs.Recorded.{replays}
 use Rattle.go_record.proofs.Spelled.{IsDigit, IsLow, all_weaker, decimal_is, komi_low, low_inside}
 
@@ -112,13 +115,23 @@ tree_plain s =
     ap₂ (λ (x : List Property) (xs : List (List Property)). tree ((alone (codes "GM") (codes "1") ∷ alone (codes "FF") (codes "4") ∷ alone (codes "SZ") (decimal s.lines) ∷
     alone (codes "KM") (hundredths_word s.komi) ∷ alone (codes "PL") (colour_letter s.first) ∷ x) ∷ xs) none none) stones (moves_plain s.lines s.moves)
 
-pub records : CanonicalSpellsPlain → OneRecord → (s : Standing) → IsSound s → Records s
-records spells one s sound =
+-- a record whose game is known comes to nothing else
+only_game : (c : Trees) (s : Standing) (outcome : Outcome) → IsGameOf c None (Ok s) → IsGameOf c None outcome → outcome ≡ Ok s
+only_game c s outcome game other =
+    let one = exactly_one c None in
+    one.2 outcome other ∙ sym (one.2 (Ok s) game)
+
+pub records : CanonicalSpellsPlain → OneRecord → SpelledIsRead → (s : Standing) → IsSound s → Records s
+records spells one read s sound =
     let fit = tree_fit s sound in
     let spelled : Spells (record_of s) (game_tree s) = subst (λ (c : Trees). Spells (record_of s) c) (tree_plain s) (spells (game_tree s) fit).0 in
     record {
       fit = fit;
       spelled = spelled;
       alone = λ c h. one (record_of s) c (game_tree s) h spelled;
+      read = λ why refusal short. read (record_of s) (game_tree s) why spelled refusal short;
       game = replays s sound;
+      back = λ positional c outcome spelled' comes.
+          only_game (game_tree s) s outcome (replays s sound positional)
+          (subst (λ (d : Trees). IsGameOf d None outcome) (one (record_of s) c (game_tree s) spelled' spelled) comes);
     }

@@ -1,7 +1,6 @@
 -- How a walk along a main line comes to its outcome, event by event.
 use Rattle.std.proofs.Common.{◌≡◌, ◌≢◌, ◌∙◌, ℕ, ℤ, zero, suc, true, false, true≢false, List, [], ◌∷◌, ◌++◌, refl, sym, ap, subst, append_assoc, inl, inr}
 use Rattle.std.specs.List.{flat_map}
-use Rattle.std.proofs.lemmas.List.{append-nil}
 use Rattle.std.specs.Prelude.{Option, Some, None, Result, Ok, Err, IfErr, OnOk, ◌↔◌}
 use Rattle.std.proofs.lemmas.Bool.{cases_Bool}
 use Rattle.go_board.specs.declared.taken.Taken.{Taken}
@@ -127,9 +126,6 @@ passes_passes {a} {b} {c} {xs} {ys} p q = record {
   passed = λ later outcome h. subst (λ (es : List Event). Goes a es outcome) (sym (append_assoc xs ys later)) (p.passed (ys ++ later) outcome (q.passed later outcome h));
 }
 
-pub passes_then : {a b c : WalkedGame} {xs ys : List Event} (zs : List Event) → Passes a xs b → Passes b ys c → xs ++ ys ≡ zs → Passes a zs c
-passes_then {a} {b} {c} zs p q e = subst (λ (es : List Event). Passes a es c) e (passes_passes p q)
-
 pub passes_stops : {a b : WalkedGame} {xs ys : List Event} {e : RecordError} → Passes a xs b → Stops b ys e → Stops a (xs ++ ys) e
 passes_stops {a} {b} {xs} {ys} {e} p q = record {
   stopped = λ some later. subst (λ (es : List Event). Goes a es (Err e)) (sym (append_assoc xs ys later)) (p.passed (ys ++ later) (Err e) (q.stopped some later));
@@ -139,9 +135,6 @@ pub stops_longer : {a : WalkedGame} {xs : List Event} {e : RecordError} → Stop
 stops_longer {a} {xs} {e} q ys = record {
   stopped = λ some later. subst (λ (es : List Event). Goes a es (Err e)) (sym (append_assoc xs ys later)) (q.stopped some (ys ++ later));
 }
-
-pub stops_memory : (a : WalkedGame) (xs : List Event) → Stops a xs Memory
-stops_memory a xs = record { stopped = λ some later. absurd (some refl) }
 
 -- a walk whose game and events are known
 pub goes_by : (w : WalkedGame) (o : Option GameValue) (xs ys : List Event) (outcome : Outcome) → playing w ≡ o → seen w.0.left xs ≡ ys → GoesFrom w.0 o ys outcome → Goes w xs outcome
@@ -237,7 +230,3 @@ began_dead w e error dead node c value events =
 pub one_on : {Y Z : Type 0} (f : Y → List Z) (done : List Z) (ys : List Y) (y : Y) (later : List Y) → ys ≡ y ∷ later →
     (done ++ f y) ++ flat_map f later ≡ done ++ flat_map f ys
 one_on f done ys y later e = append_assoc done (f y) (flat_map f later) ∙ ap (λ zs. done ++ flat_map f zs) (sym e)
-
--- and at the end the events of all
-pub all_on : {Y Z : Type 0} (f : Y → List Z) (done : List Z) (later : List Y) → later ≡ [] → done ≡ done ++ flat_map f later
-all_on f done later e = sym (append-nil done) ∙ ap (λ zs. done ++ flat_map f zs) (sym e)

@@ -1,9 +1,13 @@
 -- Laws of records and of their games.
-use Rattle.std.specs.Prelude.{◌≡◌, ℕ, Option, None, Ok}
+use Rattle.std.specs.Prelude.{◌≡◌, ◌≤◌, ℕ, Option, None, Ok, length}
 use Rattle.go_game.specs.declared.superko.Superko.TheVariants.{Positional}
 use Rattle.go_game.specs.Standings.{IsSound, Standing}
 use Rattle.go_sgf.specs.Record.{IsFit, Trees}
+use Rattle.go_sgf.specs.Refusals.{IsRefusal}
 use Rattle.go_sgf.specs.Spelling.{Spells}
+use Rattle.go_sgf.specs.declared.error.SgfError.{SgfError}
+use Rattle.go_sgf.specs.declared.error.SgfError.TheVariants.{Memory}
+use Rattle.go_sgf.specs.declared.limits.TheConstants.{MAX_RECORD}
 use Rattle.go_record.specs.Games.{IsGameOf}
 use Rattle.go_record.specs.Records.{record_of, game_tree}
 use Rattle.go_record.specs.Walks.{Outcome}
@@ -21,13 +25,15 @@ SoundGames = (c : Trees) (number : Option ℕ) (s : Standing) → IsGameOf c num
 abbrev pub JudgedByPositions : Type 0
 JudgedByPositions = (c : Trees) (number : Option ℕ) (s : Standing) → IsGameOf c number (Ok s) → s.rule ≡ Positional
 
--- A standing's record can be spelled, its text spells it and nothing else, and where it stands under the positional rule its game
--- is the standing.
+-- A standing's record can be spelled, and its text spells it and nothing else, so that it is read, if it isn't too long; where the
+-- standing is under the positional rule, what is read comes to it and to nothing else.
 pub record Records (s : Standing) : Type 0 where
   pub fit : IsFit (game_tree s)
   pub spelled : Spells (record_of s) (game_tree s)
   pub alone : (c : Trees) → Spells (record_of s) c → c ≡ game_tree s
+  pub read : (why : SgfError) → IsRefusal (record_of s) why → length (record_of s) ≤ MAX_RECORD → why ≡ Memory
   pub game : s.rule ≡ Positional → IsGameOf (game_tree s) None (Ok s)
+  pub back : s.rule ≡ Positional → (c : Trees) (outcome : Outcome) → Spells (record_of s) c → IsGameOf c None outcome → outcome ≡ Ok s
 
 -- so for every standing that play can come to
 abbrev pub RecordLaw : Type 0

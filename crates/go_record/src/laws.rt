@@ -4,7 +4,7 @@ ghost use Rattle.std.specs.Prelude.{◌≡◌};
 ghost use Rattle.go_record.specs.Laws.{JudgedByPositions, OneOutcome, RecordLaw, SoundGames};
 ghost use Rattle.go_record.specs.declared.root.TheConstants.{USUAL_LINES};
 
-use go_sgf::laws::{canonical_spells_plain, one_record};
+use go_sgf::laws::{canonical_spells_plain, one_record, spelled_is_read};
 
 /// A record comes to one outcome, a standing or a refusal, and to no other.
 pub fn one_outcome()
@@ -22,12 +22,14 @@ pub fn judged_by_positions()
 {}
 
 /// The record of a standing that play can come to is spelled by its text, which spells nothing
-/// else, and under the positional rule replays to that standing.
+/// else, and is read, if it isn't too long and there is memory; under the positional rule that
+/// comes to the standing.
 pub fn record_law()
     ensures { RecordLaw }
 {
     canonical_spells_plain();
     one_record();
+    spelled_is_read();
 }
 
 /// A board whose record says nothing of its size has 19 lines.
