@@ -1,4 +1,4 @@
-ghost use Rattle.std.specs.Prelude.{◌≡◌, ◌≤◌, ◌<◌, ◌+◌, ℕ, List, [], Option, IfOk, IfSome, OnErr, length, take};
+ghost use Rattle.std.specs.Prelude.{◌≡◌, ◌≤◌, ◌<◌, ◌+◌, ℕ, List, [], Option, IfOk, IfSome, OnErr, OnOk, length, take};
 ghost use Rattle.go_board.specs.Device.{then_bytes, after_bytes, ends_after, failures_after, put_failures_after};
 
 use thiserror::Error;
@@ -49,6 +49,9 @@ pub trait Sink {
     /// How often a call failed. To take none of some bytes is a failure too.
     ghost failures: { Self → ℕ };
 
+    /// How many of the bytes that it took it holds back still.
+    ghost held: { Self → ℕ };
+
     /// Takes bytes from the front of a slice, and gives their number.
     fn put(&mut self, bytes: &[u8]) -> Result<usize, Failed>
         ensures within { IfOk result (λ n. n ≤ length bytes.now) }
@@ -61,5 +64,6 @@ pub trait Sink {
     /// Passes on what it holds back.
     fn flush(&mut self) -> Result<(), Failed>
         ensures bytes { taken self.new ≡ taken self.old }
+        ensures passed { OnOk result (held self.new ≡ 0) }
         ensures failures { failures self.new ≡ failures_after result (failures self.old) };
 }

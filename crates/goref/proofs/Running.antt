@@ -1,5 +1,5 @@
 -- What a run did, from what was read of the input.
-use Rattle.std.proofs.Common.{◌≡◌, ◌∙◌, ◌++◌, ℕ, List, [], IfSome, Option, None, Some, Result, Ok, refl, ap, subst, sym}
+use Rattle.std.proofs.Common.{◌≡◌, ◌∙◌, ◌++◌, ℕ, List, [], Bool, true, false, IfSome, OnOk, Option, None, Some, Result, Ok, Err, refl, ap, subst, sym}
 use Rattle.std.proofs.lemmas.Bool.{ne_eqb}
 use Rattle.std.proofs.lemmas.List.{append-nil}
 use Rattle.go_board.specs.Device.{after_bytes, ends_after}
@@ -42,3 +42,10 @@ of_ended P read {left} (Some more) e f h =
 -- a read that gave some bytes found no end
 pub no_end_found : (E : Type 0) (n len old : ℕ) → (n ≡ 0 → ⊥) → (let given : Result ℕ E = Ok n in ends_after given len old ≡ old)
 no_end_found E n len old some = rw (ne_eqb n 0 some) refl
+
+-- a line was answered and flushed, or has no words: where nothing was held back before, nothing is then
+pub none_held : {T E : Type 0} (words : Bool) (r : Result T E) (before between after : ℕ) → (words ≡ false → between ≡ before) →
+    OnOk r (words ≡ true → after ≡ 0) → (words ≡ false → after ≡ between) → OnOk r (before ≡ 0 → after ≡ 0)
+none_held true (Ok x) before between after silent passed same = λ none. passed refl
+none_held false (Ok x) before between after silent passed same = λ none. same refl ∙ silent refl ∙ none
+none_held words (Err e) before between after silent passed same = tt

@@ -1,6 +1,7 @@
-ghost use Rattle.std.specs.Prelude.{◌≡◌, ◌≤◌, ◌+◌, ℕ, List, [], ◌∷◌, ◌++◌, Option, IfOk, IfSome, OnOk, IsErrOf};
+ghost use Rattle.std.specs.Prelude.{◌≡◌, ◌≤◌, ◌+◌, ℕ, List, [], ◌∷◌, ◌++◌, Option, IfOk, IfSome, OnOk, IsErrOf, false, true};
 ghost use Rattle.go_board.specs.Device.{failures_after};
 ghost use Rattle.go_game.specs.Standings.{Standing};
+ghost use Rattle.goref_lines.specs.Words.{has_bytes};
 ghost use Rattle.goref_session.specs.Starts.{begun};
 ghost use Rattle.goref.specs.Lines.{HasNoEnd, lines};
 ghost use Rattle.goref_session.specs.Contents.{content_of};
@@ -34,6 +35,7 @@ pub fn run<A: Allocator + Copy, R: Source, W: Sink, S: Shelf<A>>(
     ensures ok { OnOk result (IfSome (R.left reader.old) (λ input.
         Converses (begun size) (lines input)
         (S.given shelf.old) (S.given shelf.new) (W.taken writer.old) (W.taken writer.new))) }
+    ensures held { OnOk result (W.held writer.old ≡ 0 → W.held writer.new ≡ 0) }
     ensures read { IsErrOf result RunError.Read →
         AnswersComplete (begun size) (R.left reader.old) (R.left reader.new)
         (S.given shelf.old) (S.given shelf.new) (W.taken writer.old) (W.taken writer.new) }
@@ -70,6 +72,7 @@ pub fn run_within<A: Allocator + Copy, R: Source, W: Sink, S: Shelf<A>>(
     ensures ok { OnOk result (IfSome (R.left reader.old) (λ input.
         Converses (begun size) (lines input)
         (S.given shelf.old) (S.given shelf.new) (W.taken writer.old) (W.taken writer.new))) }
+    ensures held { OnOk result (W.held writer.old ≡ 0 → W.held writer.new ≡ 0) }
     ensures read { IsErrOf result RunError.Read →
         AnswersComplete (begun size) (R.left reader.old) (R.left reader.new)
         (S.given shelf.old) (S.given shelf.new) (W.taken writer.old) (W.taken writer.new) }
@@ -106,6 +109,7 @@ fn run_from<A: Allocator + Copy, R: Source, W: Sink, S: Shelf<A>>(
     ensures ok { OnOk result (IfSome (R.left reader.old) (λ input.
         Converses session.old (lines input)
         (S.given shelf.old) (S.given shelf.new) (W.taken writer.old) (W.taken writer.new))) }
+    ensures held { OnOk result (W.held writer.old ≡ 0 → W.held writer.new ≡ 0) }
     ensures read { IsErrOf result RunError.Read →
         AnswersComplete session.old (R.left reader.old) (R.left reader.new)
         (S.given shelf.old) (S.given shelf.new) (W.taken writer.old) (W.taken writer.new) }
@@ -164,6 +168,7 @@ fn feed<A: Allocator + Copy, W: Sink, S: Shelf<A>>(
         (S.given shelf.old) taken (W.taken writer.old) →
         Proceeds result start (read ++ chunk.now) line.new session.new given
         (S.given shelf.new) taken (W.taken writer.new) }
+    ensures held { OnOk result (W.held writer.old ≡ 0 → W.held writer.new ≡ 0) }
     ensures failures { W.failures writer.new ≡ failures_after result (W.failures writer.old) }
 {
     let mut rest = chunk;
@@ -195,6 +200,7 @@ fn end_line<A: Allocator + Copy, W: Sink, S: Shelf<A>>(
         (S.given shelf.old) taken (W.taken writer.old) →
         Proceeds result start (read ++ (part.now ++ 10 ∷ [])) line.new session.new given
         (S.given shelf.new) taken (W.taken writer.new) }
+    ensures held { OnOk result (W.held writer.old ≡ 0 → W.held writer.new ≡ 0) }
     ensures failures { W.failures writer.new ≡ failures_after result (W.failures writer.old) }
 {
     some_reply();
@@ -216,6 +222,7 @@ fn end_input<A: Allocator + Copy, W: Sink, S: Shelf<A>>(
         Progress start read line.now session.old given
         (S.given shelf.old) taken (W.taken writer.old) →
         Finishes result start read given (S.given shelf.new) taken (W.taken writer.new) }
+    ensures held { OnOk result (W.held writer.old ≡ 0 → W.held writer.new ≡ 0) }
     ensures failures { W.failures writer.new ≡ failures_after result (W.failures writer.old) }
 {
     some_reply();
@@ -234,6 +241,7 @@ fn respond<A: Allocator + Copy, W: Sink, S: Shelf<A>>(
 ) -> Result<Flow, WriteFault>
     ensures responds { Responds session.old session.new line.now result (S.given shelf.old)
         (S.given shelf.new) (W.taken writer.old) (W.taken writer.new) }
+    ensures held { OnOk result (W.held writer.old ≡ 0 → W.held writer.new ≡ 0) }
     ensures failures { W.failures writer.new ≡ failures_after result (W.failures writer.old) }
 {
     let fetched = fetch_for(line, shelf);
@@ -256,6 +264,8 @@ fn fetch_for<A: Allocator + Copy, S: Shelf<A>>(line: &Line, shelf: &mut S) -> Fe
 fn pass_on<W: Sink>(line: &Line, flow: Flow, writer: &mut W) -> Result<Flow, WriteFault>
     ensures same { IfOk result (λ passed. passed ≡ flow) }
     ensures bytes { W.taken writer.new ≡ W.taken writer.old }
+    ensures passed { OnOk result (has_bytes line.now.text ≡ true → W.held writer.new ≡ 0) }
+    ensures silent { has_bytes line.now.text ≡ false → W.held writer.new ≡ W.held writer.old }
     ensures failures { W.failures writer.new ≡ failures_after result (W.failures writer.old) }
 {
     if !line.has_words() {

@@ -1,5 +1,5 @@
--- loadsgf: what a line asks to be loaded, what comes of a record's bytes, and what is decided on that. The text of goref-printsgf is
--- of go_record.
+-- loadsgf: what a line asks to be loaded, what comes of a record's bytes, and what is decided on that. What goref-printsgf tells is
+-- the record of a game, which the crate of such records defines.
 use Rattle.std.specs.Prelude.{◌≡◌, ◌≢◌, ◌≤◌, ◌⊎◌, ℕ, List, Option, Some, None, Ok, Err, length, option_map, slice_get}
 use Rattle.std.specs.Option.{option_and_then}
 use Rattle.go_game.specs.Standings.{Standing}

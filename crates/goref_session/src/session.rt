@@ -1,4 +1,4 @@
-ghost use Rattle.std.specs.Prelude.{◌≡◌};
+ghost use Rattle.std.specs.Prelude.{◌≡◌, false};
 ghost use Rattle.go_board.specs.Device.{failures_after};
 ghost use Rattle.go_game.specs.Standings.{Standing};
 ghost use Rattle.goref_session.specs.Replies.{DecidesLine, is_end, line_id};
@@ -6,6 +6,7 @@ ghost use Rattle.goref_session.specs.Contents.{content_of};
 ghost use Rattle.goref_session.specs.Answered.{Answered, flow_of};
 ghost use Rattle.goref_session.specs.Starts.{begun};
 ghost use Rattle.goref_session.specs.Table.{Decides};
+ghost use Rattle.goref_lines.specs.Words.{has_bytes};
 
 use crate::answer::write_answer;
 use crate::command::{Command, command_asked};
@@ -63,6 +64,7 @@ impl<A: Allocator + Copy> Session<A> {
     ) -> Result<Flow, WriteFault>
         ensures answered { Answered self.old self.new line.now (content_of fetched) result
             (W.taken writer.old) (W.taken writer.new) }
+        ensures silent { has_bytes line.now.text ≡ false → W.held writer.new ≡ W.held writer.old }
         ensures failures { W.failures writer.new ≡ failures_after result (W.failures writer.old) }
     {
         if !line.has_words() {

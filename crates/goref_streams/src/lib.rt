@@ -149,6 +149,8 @@ impl<W: Write> Sink for Output<W> {
 
     ghost failures = { λ output. output.failures };
 
+    ghost held = { λ output. length output.kept };
+
     fn put(&mut self, bytes: &[u8]) -> Result<usize, Failed>
         ensures within { IfOk result (λ n. n ≤ length bytes.now) }
         ensures count { IfOk result

@@ -48,8 +48,10 @@ abbrev pub of_game : RecordError → ToolError
 of_game record_error.Memory = tool_error.Memory
 of_game why = Record why
 
--- the exit status: 1 for a refused record or game, 3 for a fault
+-- the exit status: 1 for a refused record or game, 3 for a fault, want of memory among them
 abbrev pub status_of : ToolError → ℕ
+status_of (Sgf Memory) = 3
+status_of (Record record_error.Memory) = 3
 status_of (Sgf _) = 1
 status_of (Record _) = 1
 status_of _ = 3

@@ -28,11 +28,13 @@ pub enum ToolError {
 }
 
 impl ToolError {
-    /// The exit status that tells of it: 1 where the record is refused, 3 for any other fault.
+    /// The exit status that tells of it: 1 where the record is refused, 3 for any other fault, want
+    /// of memory among them.
     pub fn status(&self) -> u8
         ensures { result ≡ status_of self.now }
     {
         match self {
+            ToolError::Sgf(SgfError::Memory) | ToolError::Record(RecordError::Memory) => 3,
             ToolError::Sgf(_) | ToolError::Record(_) => 1,
             ToolError::Read | ToolError::Write | ToolError::Memory => 3,
         }

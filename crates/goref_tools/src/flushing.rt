@@ -1,4 +1,4 @@
-ghost use Rattle.std.specs.Prelude.{◌≡◌, IfErr};
+ghost use Rattle.std.specs.Prelude.{◌≡◌, IfErr, OnOk};
 ghost use Rattle.goref_tools.specs.Tools.{write_failures_after};
 ghost use Rattle.goref_tools.specs.declared.error.ToolError.TheVariants.{Write};
 
@@ -8,6 +8,7 @@ use go_board::{Failed, Sink};
 /// Flushes the writer.
 pub fn passed_on<W: Sink>(writer: &mut W) -> Result<(), ToolError>
     ensures bytes { W.taken writer.new ≡ W.taken writer.old }
+    ensures passed { OnOk result (W.held writer.new ≡ 0) }
     ensures error { IfErr result (λ error. error ≡ Write) }
     ensures failures { W.failures writer.new ≡ write_failures_after result
         (W.failures writer.old) }

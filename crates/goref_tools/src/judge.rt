@@ -33,6 +33,7 @@ pub fn judge_run<A: Allocator + Copy, R: Source, W: Sink>(
 ) -> Result<(), ToolError>
     ensures ok { OnOk result (IfSome (R.left reader.old)
         (λ input. Judges input (W.taken writer.old) (W.taken writer.new))) }
+    ensures passed { OnOk result (W.held writer.new ≡ 0) }
     ensures refused { (why : SgfError) → IsErrOf result (Sgf why)
         → Refuses (R.left reader.old) why }
     ensures game_refused { (why : RecordError) → IsErrOf result (Record why)

@@ -2,7 +2,7 @@
 //! function that does nothing.
 ghost use Rattle.goref_tools.specs.Tidying.{TidyIsTidy};
 
-use go_sgf::laws::{canonical_spells_plain, one_record, spelled_is_fit};
+use go_sgf::laws::{canonical_spells_plain, one_record, spelled_is_fit, spelled_is_read};
 
 /// The canonical text of a record that was read is a record, if it isn't too long for one, and is
 /// written as itself.
@@ -12,4 +12,5 @@ pub fn tidy_is_tidy()
     canonical_spells_plain();
     one_record();
     spelled_is_fit();
+    spelled_is_read();
 }

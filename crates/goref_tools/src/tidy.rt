@@ -30,6 +30,7 @@ pub fn tidy_run<A: Allocator + Copy, R: Source, W: Sink>(
 ) -> Result<(), ToolError>
     ensures ok { OnOk result (IfSome (R.left reader.old)
         (λ input. Tidies input (W.taken writer.old) (W.taken writer.new))) }
+    ensures passed { OnOk result (W.held writer.new ≡ 0) }
     ensures refused { (why : SgfError) → IsErrOf result (Sgf why)
         → Refuses (R.left reader.old) why }
     ensures no_game_refused { (why : RecordError) → ¬ IsErrOf result (Record why) }

@@ -12,3 +12,9 @@ pub record Reading : Type 0 where
 pub record Writing : Type 0 where
   pub taken : List ℕ
   pub failures : ℕ
+
+-- a writer that holds bytes back: the bytes that it took, the count of those not passed on, and of failures
+pub record Holding : Type 0 where
+  pub taken : List ℕ
+  pub held : ℕ
+  pub failures : ℕ

@@ -12,27 +12,34 @@ pub struct HoldingWriter<'a, A: Allocator> {
     bytes: Vec<u8, A>,
     ends: Vec<usize, A>,
     passed: &'a Cell<usize>,
+    /// How many bytes it holds back.
+    held: usize,
     failures: Meter,
 }
 
 impl<'a, A: Allocator> Model for HoldingWriter<'a, A> {
-    ghost use Rattle.test_devices.specs.States.{Writing};
+    ghost use Rattle.test_devices.specs.States.{Holding};
 
-    ghost Value = { Writing };
+    ghost Value = { Holding };
 
-    ghost view = { λ writer. record { taken = writer.bytes.items; failures = writer.failures } };
+    ghost view = { λ writer. record {
+      taken = writer.bytes.items;
+      held = writer.held;
+      failures = writer.failures;
+    } };
 }
 
 impl<'a, A: Allocator + Copy> HoldingWriter<'a, A> {
     /// A writer that took nothing so far, and tells in this cell how many bytes it passed on.
     pub fn new(alloc: A, passed: &'a Cell<usize>) -> HoldingWriter<'a, A>
-        ensures { result ≡ record { taken = []; failures = 0 } }
+        ensures { result ≡ record { taken = []; held = 0; failures = 0 } }
     {
         passed.set(0);
         HoldingWriter {
             bytes: Vec::new(alloc),
             ends: Vec::new(alloc),
             passed,
+            held: 0,
             failures: Meter::new(),
         }
     }
@@ -55,12 +62,15 @@ impl<A: Allocator> Sink for HoldingWriter<'_, A> {
 
     ghost failures = { λ writer. writer.failures };
 
+    ghost held = { λ writer. writer.held };
+
     /// Want of memory is a failure.
     fn put(&mut self, bytes: &[u8]) -> Result<usize, Failed> {
         if self.bytes.extend_from_slice(bytes).is_err() {
             self.failures.tick();
             return Err(Failed);
         }
+        self.held = self.held.saturating_add(bytes.len());
         Ok(bytes.len())
     }
 
@@ -71,6 +81,7 @@ impl<A: Allocator> Sink for HoldingWriter<'_, A> {
             return Err(Failed);
         }
         self.passed.set(self.bytes.len());
+        self.held = 0;
         Ok(())
     }
 }

@@ -94,6 +94,8 @@ impl<A: Allocator> Sink for Writer<A> {
 
     ghost failures = { λ writer. writer.failures };
 
+    ghost held = { λ _. 0 };
+
     /// Want of memory is a failure too.
     fn put(&mut self, bytes: &[u8]) -> Result<usize, Failed> {
         let most = if self.stalls.count() { 0 } else { self.most };

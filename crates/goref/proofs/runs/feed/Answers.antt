@@ -7,7 +7,7 @@ use Rattle.goref.proofs.Progressing.{reads_on, settled}
 use Rattle.goref.proofs.runs.feed.Goals as goal
 
 pub loop-end-init : goal.loop-end-init
-loop-end-init g c = record { front = []; whole = refl; progress = λ start read given taken p. rw (append-nil read) p; failures = refl }
+loop-end-init g c = record { front = []; whole = refl; progress = λ start read given taken p. rw (append-nil read) p; held = λ none. none; failures = refl }
 
 pub end_line-requires : goal.end_line-requires
 end_line-requires g c = rw c.split_at.ensures.front (first_cut c.loop-end.rest.now c.in-Some.end c.in-Some.ensures).0
@@ -46,6 +46,7 @@ loop-end-preserved g c =
       progress = λ start read given taken p.
           rw (sym (append_assoc read now.front (part ++ 10 ∷ [])))
           (rw (c.in-Ok-More.is, c.in-Ok-More.field-0-is) at (c.end_line.ensures.proceeds start (read ++ now.front) given taken (now.progress start read given taken p)));
+      held = λ none. c.in-Ok-More.ensures.held (now.held none);
       failures = c.in-Ok-More.ensures.failures ∙ now.failures;
     }
 

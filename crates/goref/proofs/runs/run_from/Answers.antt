@@ -18,6 +18,7 @@ loop-init g c = record {
   pulls = omega arith;
   ends = refl;
   read_failures = refl;
+  held = λ none. none;
   write_failures = refl;
 }
 
@@ -74,6 +75,7 @@ loop-preserved g c =
       pulls = omega (arith, c.pull.ensures.pulls);
       ends = c.in-Ok.ensures.ends ∙ no_end_found Failed c.in-Ok.count _ _ c.if-count-eq0.false ∙ now.ends;
       read_failures = c.in-Ok.ensures.failures ∙ now.read_failures;
+      held = λ none. c.in-Ok-More.ensures.held (now.held none);
       write_failures = c.in-Ok-More.ensures.failures ∙ now.write_failures;
     }
 

@@ -13,5 +13,6 @@ invariant-loop g l = record {
   pulls : g.R.Source.pulls l.reader ≡ g.R.Source.pulls l.initial.reader + l.counter;
   ends : g.R.Source.ends l.reader ≡ g.R.Source.ends l.initial.reader;
   read_failures : g.R.Source.failures l.reader ≡ g.R.Source.failures l.initial.reader;
+  held : g.W.Sink.held l.initial.writer ≡ 0 → g.W.Sink.held l.writer ≡ 0;
   write_failures : g.W.Sink.failures l.writer ≡ g.W.Sink.failures l.initial.writer;
 }
