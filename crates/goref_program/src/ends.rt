@@ -68,6 +68,7 @@ pub fn tell<E: Write>(end: Result<(), Fault>, errors: &mut E) -> u8
 }
 
 /// Tells why no task came of the words, or the help that they asked for, and gives the exit status.
+/// Help that can't be written is a fault, and told so in one line.
 pub fn explain<O: Write, E: Write>(error: &clap::Error, output: &mut O, errors: &mut E) -> u8
     ensures status { (result ≡ words_status (kind_of error.now))
         ⊎ ((words_status (kind_of error.now) ≡ 0) × (result ≡ 3)) }
@@ -78,7 +79,10 @@ pub fn explain<O: Write, E: Write>(error: &clap::Error, output: &mut O, errors: 
     }
     match show(error, output) {
         Ok(()) => 0,
-        Err(_) => FAULT,
+        Err(_) => {
+            let _ = writeln!(errors, "goref: write fault");
+            FAULT
+        }
     }
 }
 

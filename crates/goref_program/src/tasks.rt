@@ -1,4 +1,7 @@
 //! What each task does on its streams.
+ghost use Rattle.std.specs.Prelude.{◌≡◌, IfErr, IfSome, OnOk};
+ghost use Rattle.goref_program.specs.Tasks.{Does, IsFaultOf};
+
 use crate::ends::Fault;
 use go_board::{Sink, Source};
 use goref::{Shelf, Task, judge_run, run, tidy_run};
@@ -31,7 +34,12 @@ fn perform<A: Allocator + Copy, R: Source, W: Sink, S: Shelf<A>>(
     input: &mut R,
     output: &mut W,
     shelf: &mut S,
-) -> Result<(), Fault> {
+) -> Result<(), Fault>
+    ensures ok { OnOk result (IfSome (R.left input.old) (λ bytes. Does task bytes
+        (S.given shelf.old) (S.given shelf.new) (W.taken output.old) (W.taken output.new))) }
+    ensures held { OnOk result (W.held output.old ≡ 0 → W.held output.new ≡ 0) }
+    ensures fault { IfErr result (IsFaultOf task) }
+{
     match task {
         Task::Gtp(size) => run(alloc, size, input, output, shelf)?,
         Task::Judge => judge_run(alloc, input, output)?,

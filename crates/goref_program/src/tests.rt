@@ -1,22 +1,22 @@
 mod streams;
 mod words;
 
-use crate::ends::{Fault, explain, tell};
 use crate::files::NamedFiles;
-use crate::tasks::obey;
-use go_board::Size;
+use crate::words::answer_words;
 use go_sgf::MAX_RECORD;
-use goref::{Fetched, Shelf, Task, task_of};
-use std::alloc::Global;
+use goref::{Fetched, Shelf};
+use std::alloc::{AllocError, Global};
 use std::fs;
 use std::io::{self, Read, Write};
 use std::test::Fail;
 
-/// A stream that keeps the bytes written to it, while it has room for them.
+/// A stream that keeps the bytes written to it, while it has room for them, and knows how many of
+/// them were flushed.
 #[derive(Drop)]
 struct Page {
     bytes: Vec<u8>,
     room: usize,
+    flushed: usize,
 }
 
 impl Page {
@@ -24,7 +24,13 @@ impl Page {
         Page {
             bytes: Vec::new(alloc),
             room,
+            flushed: 0,
         }
+    }
+
+    /// Whether it got this text, and all of it was flushed.
+    fn has_passed_on(&self, text: &[u8]) -> bool {
+        self.bytes.as_slice() == text && self.flushed == text.len()
     }
 }
 
@@ -39,6 +45,7 @@ impl Write for Page {
     }
 
     fn flush(&mut self) -> io::Result<()> {
+        self.flushed = self.bytes.len();
         Ok(())
     }
 }
@@ -53,144 +60,153 @@ impl Read for Broken {
     }
 }
 
-/// Whether a task writes this, tells of its fault by this line, and ends with this status.
+/// The words that the program is started with, its own name first.
+fn started_with(alloc: Global, words: &[&str]) -> Result<Vec<String>, AllocError> {
+    let mut all = Vec::new(alloc);
+    all.push(format!(in alloc; "goref")?)?;
+    for word in words {
+        all.push(format!(in alloc; "{word}")?)?;
+    }
+    Ok(all)
+}
+
+/// Whether words write this and no more to an output with so much room, tell this among the errors,
+/// and end with this status.
 fn comes_to(
     rt: &HostRuntime,
-    task: Task,
+    words: &[&str],
     input: impl Read + Drop,
     room: usize,
     written: &[u8],
-    line: &[u8],
+    told: &[u8],
     status: u8,
 ) -> bool {
     let mut output = Page::new(rt.alloc(), room);
-    let mut errors = Page::new(rt.alloc(), 1_000);
+    let mut errors = Page::new(rt.alloc(), 10_000);
     let mut files = NamedFiles::new(rt.alloc(), rt);
-    let end = obey(rt.alloc(), task, input, &mut output, &mut files);
-    tell(end, &mut errors) == status
-        && output.bytes.as_slice() == written
-        && errors.bytes.as_slice() == line
+    let words = started_with(rt.alloc(), words).ok();
+    let end = answer_words(
+        rt.alloc(),
+        words,
+        input,
+        &mut output,
+        &mut errors,
+        &mut files,
+    );
+    end == status && output.has_passed_on(written) && errors.bytes.as_slice() == told
 }
 
 #[test]
 fn judging_from_stream_to_stream(rt: HostRuntime) {
     let agrees = b"moves 1\nscore B+74.5\nstated agrees\n".as_slice();
     let record = b"(;GM[1]SZ[9]KM[6.5]RE[B+74.5];B[ee])".as_slice();
-    assert!(rt; comes_to(&rt, Task::Judge, record, 1_000, agrees, b"", 0));
-    assert!(rt;
-        comes_to(
-            &rt,
-            Task::Judge,
-            b"(;SZ[2];B[ab];W[bb];W[aa];B[ab])".as_slice(),
-            1_000,
-            b"",
-            b"goref: move 4 repeats the position after 3 moves\n",
-            1,
-        )
-    );
+    assert!(rt; comes_to(&rt, &["judge"], record, 1_000, agrees, b"", 0));
+    let repeating = b"(;SZ[2];B[ab];W[bb];W[aa];B[ab])".as_slice();
+    let told = b"goref: move 4 repeats the position after 3 moves\n".as_slice();
+    assert!(rt; comes_to(&rt, &["judge"], repeating, 1_000, b"", told, 1));
 }
 
 #[test]
 fn tidying_from_stream_to_stream(rt: HostRuntime) {
     let record = b"x(;GM[1] FF[4] ;B[aa](;W[bb])(;W[cc]C[a\\]b]))".as_slice();
     let tidy = b"(;GM[1]FF[4];B[aa](;W[bb])(;W[cc]C[a\\]b]))\n".as_slice();
-    assert!(rt; comes_to(&rt, Task::Tidy, record, 1_000, tidy, b"", 0));
-    assert!(rt;
-        comes_to(
-            &rt,
-            Task::Tidy,
-            record.split_at(44).0,
-            1_000,
-            b"",
-            b"goref: record ends inside a tree at byte 44\n",
-            1,
-        )
-    );
+    assert!(rt; comes_to(&rt, &["tidy"], record, 1_000, tidy, b"", 0));
+    let front = record.split_at(44).0;
+    let told = b"goref: record ends inside a tree at byte 44\n".as_slice();
+    assert!(rt; comes_to(&rt, &["tidy"], front, 1_000, b"", told, 1));
 }
 
 #[test]
 fn a_session_from_stream_to_stream(rt: HostRuntime) {
-    let nine = Size::new(9).expect(&rt, "a size");
-    assert!(rt;
-        comes_to(
-            &rt,
-            Task::Gtp(nine),
-            b"goref-printsgf\nplay b k10\nquit\n".as_slice(),
-            1_000,
-            b"= (;GM[1]FF[4]SZ[9]KM[0]PL[B])\n\n? illegal move\n\n=\n\n",
-            b"",
-            0,
-        )
-    );
+    let lines = b"goref-printsgf\nplay b k10\nquit\n".as_slice();
+    let answers = b"= (;GM[1]FF[4]SZ[9]KM[0]PL[B])\n\n? illegal move\n\n=\n\n".as_slice();
+    assert!(rt; comes_to(&rt, &["gtp", "--size", "9"], lines, 1_000, answers, b"", 0));
+    let lines = b"showboard\n".as_slice();
+    let diagram = b"= size 2 komi 0 prisoners B 0 W 0 moves 0 next B
+ 2 . .
+ 1 . .
+   A B
+
+"
+        .as_slice();
+    assert!(rt; comes_to(&rt, &["gtp", "--size=2"], lines, 1_000, diagram, b"", 0));
+    let usual = b"= (;GM[1]FF[4]SZ[19]KM[0]PL[B])\n\n".as_slice();
+    let line = b"goref-printsgf".as_slice();
+    assert!(rt; comes_to(&rt, &["gtp"], line, 1_000, usual, b"", 0));
+    assert!(rt; comes_to(&rt, &["gtp"], b"".as_slice(), 0, b"", b"", 0));
 }
 
 #[test]
 fn streams_that_fail(rt: HostRuntime) {
-    let size = Size::new(19).expect(&rt, "a size");
-    for task in [Task::Gtp(size), Task::Judge, Task::Tidy] {
-        assert!(rt; comes_to(&rt, task, Broken, 1_000, b"", b"goref: read fault\n", 3));
+    let told = b"goref: read fault\n".as_slice();
+    for word in ["gtp", "judge", "tidy"] {
+        assert!(rt; comes_to(&rt, &[word], Broken, 1_000, b"", told, 3));
     }
-    let record = b"(;SZ[1])".as_slice();
-    for task in [Task::Judge, Task::Tidy] {
-        assert!(rt; comes_to(&rt, task, record, 0, b"", b"goref: write fault\n", 3));
+    let told = b"goref: write fault\n".as_slice();
+    for word in ["judge", "tidy"] {
+        assert!(rt; comes_to(&rt, &[word], b"(;SZ[1])".as_slice(), 0, b"", told, 3));
     }
-    let line = b"name\n".as_slice();
-    assert!(rt;
-        comes_to(
-            &rt,
-            Task::Gtp(size),
-            line,
-            0,
-            b"",
-            b"goref: write fault\n",
-            3
-        )
-    );
+    assert!(rt; comes_to(&rt, &["gtp"], b"name\n".as_slice(), 0, b"", told, 3));
 }
 
-/// How many bytes are written to a stream with so much room and to the errors for words that name
-/// no task, and the status.
-fn explained_to(rt: &HostRuntime, words: &[&str], room: usize) -> Option<(usize, usize, u8)> {
+/// How many bytes are written to an output with so much room and flushed, and to the errors, and
+/// the status.
+fn explained_to(rt: &HostRuntime, words: &[&str], room: usize) -> (usize, usize, u8) {
     let mut output = Page::new(rt.alloc(), room);
     let mut errors = Page::new(rt.alloc(), 10_000);
-    let error = task_of(rt.alloc(), words).err()?;
-    let status = explain(&error, &mut output, &mut errors);
-    Some((output.bytes.len(), errors.bytes.len(), status))
+    let mut files = NamedFiles::new(rt.alloc(), rt);
+    let words = started_with(rt.alloc(), words).ok();
+    let status = answer_words(
+        rt.alloc(),
+        words,
+        Broken,
+        &mut output,
+        &mut errors,
+        &mut files,
+    );
+    (output.flushed, errors.bytes.len(), status)
 }
 
-/// Whether the words are answered by a text on the output, and by 3 where that is full.
+/// Whether the words are answered by a text on the output alone, and where that is full by a fault
+/// that is told in a line.
 fn are_answered(rt: &HostRuntime, words: &[&str]) -> bool {
-    let shown = match explained_to(rt, words, 10_000) {
-        Some((shown, told, status)) => shown > 0 && told == 0 && status == 0,
-        None => false,
-    };
-    shown && explained_to(rt, words, 0) == Some((0, 0, 3))
+    let (shown, told, status) = explained_to(rt, words, 10_000);
+    let fault = b"goref: write fault\n".as_slice();
+    shown > 0 && told == 0 && status == 0 && comes_to(rt, words, Broken, 0, b"", fault, 3)
 }
 
 /// Whether the words are refused, and that is told among the errors alone.
 fn are_refused(rt: &HostRuntime, words: &[&str]) -> bool {
-    match explained_to(rt, words, 10_000) {
-        Some((shown, told, status)) => shown == 0 && told > 0 && status == 2,
-        None => false,
-    }
+    let (shown, told, status) = explained_to(rt, words, 10_000);
+    shown == 0 && told > 0 && status == 2
 }
 
 #[test]
 fn words_that_name_no_task(rt: HostRuntime) {
-    assert!(rt; are_answered(&rt, &["goref", "--help"]));
-    assert!(rt; are_answered(&rt, &["goref", "gtp", "--help"]));
-    assert!(rt; are_answered(&rt, &["goref", "judge", "--help"]));
-    assert!(rt; are_answered(&rt, &["goref", "--version"]));
-    assert!(rt; are_refused(&rt, &["goref"]));
-    assert!(rt; are_refused(&rt, &["goref", "gtp", "--size", "26"]));
+    assert!(rt; are_answered(&rt, &["--help"]));
+    assert!(rt; are_answered(&rt, &["gtp", "--help"]));
+    assert!(rt; are_answered(&rt, &["judge", "--help"]));
+    assert!(rt; comes_to(&rt, &["--version"], Broken, 10, b"goref 1.0\n", b"", 0));
+    assert!(rt; are_refused(&rt, &[]));
+    assert!(rt; are_refused(&rt, &["gtp", "--size", "26"]));
 }
 
 #[test]
-fn nothing_is_told_of_an_end(rt: HostRuntime) {
+fn words_that_cannot_be_read(rt: HostRuntime) {
+    let mut output = Page::new(rt.alloc(), 1_000);
     let mut errors = Page::new(rt.alloc(), 1_000);
-    let end: Result<(), Fault> = Ok(());
-    assert_eq!(rt; tell(end, &mut errors), 0);
-    assert!(rt; errors.bytes.is_empty());
+    let mut files = NamedFiles::new(rt.alloc(), &rt);
+    let status = answer_words(
+        rt.alloc(),
+        None,
+        Broken,
+        &mut output,
+        &mut errors,
+        &mut files,
+    );
+    assert_eq!(rt; status, 2);
+    assert!(rt; output.has_passed_on(b""));
+    assert!(rt; errors.bytes.as_slice() == b"goref: the words cannot be read\n".as_slice());
 }
 
 /// What is fetched by a name.
@@ -249,6 +265,23 @@ fn files_by_whole_paths(rt: HostRuntime) -> Result<(), Fail> {
     Ok(())
 }
 
+/// A path may be longer than the name of a file may be.
+#[test]
+fn files_by_long_paths(rt: HostRuntime) -> Result<(), Fail> {
+    let alloc = rt.alloc();
+    let mut path = Vec::new(alloc);
+    for _ in 0..150u32 {
+        path.extend_from_slice(b"./")?;
+    }
+    path.extend_from_slice(b"long.sgf")?;
+    fs::write(&rt, "long.sgf", b"(;)".as_slice())?;
+    let outcome = fetched(&rt, path.as_slice());
+    fs::remove_file(&rt, "long.sgf")?;
+    assert!(rt; path.len() == 308);
+    assert!(rt; holds(&outcome, b"(;)"));
+    Ok(())
+}
+
 #[test]
 fn files_that_are_missing(rt: HostRuntime) -> Result<(), Fail> {
     assert!(rt; matches!(fetched_of(&rt, "gone.sgf", b"(;)")?, Fetched::Bytes(_)));
@@ -280,6 +313,8 @@ fn names_that_are_no_text(rt: HostRuntime) -> Result<(), Fail> {
 fn files_at_the_limit(rt: HostRuntime) -> Result<(), Fail> {
     let alloc = rt.alloc();
     let mut text = vec![in alloc; b' '; MAX_RECORD]?;
+    let large = text.split_at(2_000_000).0;
+    assert!(rt; holds(&fetched_of(&rt, "large.sgf", large)?, large));
     let longest = fetched_of(&rt, "longest.sgf", text.as_slice())?;
     assert!(rt; holds(&longest, text.as_slice()));
     text.push(b' ')?;

@@ -113,6 +113,21 @@ fn input_comes_as_the_stream_gives_it(rt: HostRuntime) {
     assert!(rt; input.pull(&mut buffer) == Ok(0));
 }
 
+#[test]
+fn reads_of_each_length(rt: HostRuntime) -> Result<(), Fail> {
+    let text = letters(rt.alloc(), 4_200)?;
+    let mut buffer = [0u8; 4_096];
+    for count in 0..=4_200usize {
+        let front = text.as_slice().split_at(count.min(text.len())).0;
+        let mut input = Input::new(front);
+        assert!(rt;
+            input.pull(&mut buffer) == Ok(count.min(4_096)),
+            "{count} bytes"
+        );
+    }
+    Ok(())
+}
+
 /// A stream of one byte, the first reads of which are interrupted.
 #[derive(Drop)]
 struct Interrupted {
@@ -134,7 +149,7 @@ impl Read for Interrupted {
 
 #[test]
 fn an_interrupted_read_is_tried_again(rt: HostRuntime) {
-    for left in 0..4u32 {
+    for left in 0..200u32 {
         let why = ErrorKind::Interrupted;
         let mut input = Input::new(Interrupted { left, why });
         let mut buffer = [0u8; 4];

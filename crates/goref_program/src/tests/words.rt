@@ -1,5 +1,5 @@
 use clap::error::ErrorKind;
-use go_board::{MAX_LINES, Size};
+use go_board::Size;
 use goref::{Task, task_of};
 use std::alloc::Global;
 use std::process::Abort;
@@ -80,40 +80,92 @@ fn version(rt: HostRuntime) -> Result<(), Fail> {
     Ok(())
 }
 
+/// Asserts that the words are answered by this text.
+fn are_told(rt: &impl Abort, alloc: Global, words: &[&str], text: &str) -> Result<(), Fail> {
+    let told = refusal(alloc, words)?;
+    assert!(rt; told.as_str() == text, "{told}");
+    Ok(())
+}
+
+const HELP: &str = "A Go engine and referee for the Tromp-Taylor rules
+
+Usage: goref <COMMAND>
+
+Commands:
+  gtp    Answers the commands of the Go Text Protocol, version 2
+  judge  Replays a record in SGF, and writes its score and whether it states that score
+  tidy   Reads a record in SGF, and writes it in its one canonical spelling
+  help   Print this message or the help of the given subcommand(s)
+
+Options:
+  -h, --help     Print help
+  -V, --version  Print version
+";
+
+const HELP_ON_GTP: &str = "Answers the commands of the Go Text Protocol, version 2
+
+Usage: goref gtp [OPTIONS]
+
+Options:
+      --size <N>  The lines of the board at the start, from 1 to 25 [default: 19]
+  -h, --help      Print help
+
+Example: goref gtp --size 9
+";
+
+const HELP_ON_JUDGE: &str =
+    "Replays a record in SGF, and writes its score and whether it states that score
+
+Usage: goref judge
+
+Options:
+  -h, --help  Print help
+
+Example: goref judge < game.sgf
+";
+
+const HELP_ON_TIDY: &str = "Reads a record in SGF, and writes it in its one canonical spelling
+
+Usage: goref tidy
+
+Options:
+  -h, --help  Print help
+
+Example: goref tidy < game.sgf
+";
+
 #[test]
 fn help(rt: HostRuntime) -> Result<(), Fail> {
     let alloc = rt.alloc();
     assert!(rt; asked(alloc, &["goref", "--help"]) == Err(ErrorKind::DisplayHelp));
     assert!(rt; asked(alloc, &["goref", "help"]) == Err(ErrorKind::DisplayHelp));
-    let words = refusal(alloc, &["goref", "--help"])?;
-    assert!(rt;
-        words
-            .as_str()
-            .contains("Answers the commands of the Go Text Protocol"),
-        "{words}"
-    );
-    assert!(rt;
-        words
-            .as_str()
-            .contains("writes it in its one canonical spelling"),
-        "{words}"
-    );
-    assert!(rt;
-        words
-            .as_str()
-            .contains("writes its score and whether it states that score"),
-        "{words}"
-    );
-    let judge = refusal(alloc, &["goref", "judge", "--help"])?;
-    assert!(rt;
-        judge.as_str().contains("goref judge < game.sgf"),
-        "{judge}"
-    );
-    let tidy = refusal(alloc, &["goref", "tidy", "--help"])?;
-    assert!(rt; tidy.as_str().contains("goref tidy < game.sgf"), "{tidy}");
-    let text = refusal(alloc, &["goref", "gtp", "--help"])?;
-    let range = format!(in alloc; "from 1 to {MAX_LINES}")?;
-    assert!(rt; text.as_str().contains(range.as_str()), "{text}");
-    assert!(rt; text.as_str().contains("goref gtp --size 9"), "{text}");
-    Ok(())
+    are_told(&rt, alloc, &["goref", "--help"], HELP)?;
+    are_told(&rt, alloc, &["goref", "gtp", "--help"], HELP_ON_GTP)?;
+    are_told(&rt, alloc, &["goref", "judge", "--help"], HELP_ON_JUDGE)?;
+    are_told(&rt, alloc, &["goref", "tidy", "--help"], HELP_ON_TIDY)
+}
+
+#[test]
+fn texts_of_refused_words(rt: HostRuntime) -> Result<(), Fail> {
+    let alloc = rt.alloc();
+    are_told(
+        &rt,
+        alloc,
+        &["goref", "judge", "game.sgf"],
+        "error: unexpected argument 'game.sgf' found
+
+Usage: goref judge
+
+For more information, try '--help'.
+",
+    )?;
+    are_told(
+        &rt,
+        alloc,
+        &["goref", "gtp", "--size", "26"],
+        "error: invalid value '26' for '--size <N>': 26 is not in 1..=25
+
+For more information, try '--help'.
+",
+    )
 }
