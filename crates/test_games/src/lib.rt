@@ -15,11 +15,15 @@ mod games;
 #[cfg(test)]
 mod histories;
 #[cfg(test)]
+mod laws;
+#[cfg(test)]
 mod packs;
 #[cfg(test)]
 mod plain_game;
 #[cfg(test)]
 mod refused;
+#[cfg(test)]
+mod seen;
 #[cfg(test)]
 mod situations;
 #[cfg(test)]

@@ -1,8 +1,7 @@
 //! Calls that may want memory, on small and on large records, where there is enough of it.
-use crate::judging::judged;
 use crate::records::copies;
-use crate::replays::{game_of, has_verdict, is_written_as};
-use crate::tidying::tidied;
+use crate::replays::{Judged, game_of, has_verdict, is_written_as};
+use crate::tools::Tool;
 use go_board::{Colour, Move, Point, Vertex};
 use go_game::Game;
 use go_record::Stated;
@@ -94,58 +93,55 @@ fn count_of(game: &Game<Global>, colour: Colour) -> u16 {
     count
 }
 
+/// Parts of the long record: up to which move, how many moves these are, and how many stones stand
+/// then, all of them black.
+const FRONTS: &[(Option<u32>, u16, u16)] = &[
+    (Some(1), 0, 0),
+    (Some(1_000), 999, 84),
+    (Some(1_001), 1_000, 84),
+    (Some(1_150), 1_149, 96),
+    (Some(1_200), 1_199, 100),
+    (Some(1_201), 1_200, 100),
+    (Some(2_147_483_647), 1_200, 100),
+    (None, 1_200, 100),
+];
+
+/// Whether a game has so many black stones and no white one.
+fn has_stones(game: &Game<Global>, stones: u16) -> bool {
+    count_of(game, Colour::Black) == stones && count_of(game, Colour::White) == 0
+}
+
 #[test]
 fn a_long_record_up_to_a_move(rt: HostRuntime) -> Result<(), Fail> {
-    let alloc = rt.alloc();
-    let record = long_record(alloc, b"")?;
-    for (number, moves, stones) in [
-        (Some(1), 0u16, 0u16),
-        (Some(1_000), 999, 84),
-        (Some(1_001), 1_000, 84),
-        (Some(1_150), 1_149, 96),
-        (Some(1_200), 1_199, 100),
-        (Some(1_201), 1_200, 100),
-        (Some(2_147_483_647), 1_200, 100),
-        (None, 1_200, 100),
-    ] {
-        let game = game_of(&rt, alloc, record.as_slice(), number);
-        has_made(&rt, &game, moves);
-        assert_eq!(rt; count_of(&game, Colour::Black), stones);
-        assert_eq!(rt; count_of(&game, Colour::White), 0);
+    let record = long_record(rt.alloc(), b"")?;
+    for (row, (number, moves, stones)) in FRONTS.iter().enumerate() {
+        let game = game_of(&rt, rt.alloc(), record.as_slice(), *number);
+        has_made(&rt, &game, *moves);
+        assert!(rt; has_stones(&game, *stones), "row {row}");
     }
     Ok(())
 }
 
 #[test]
 fn the_verdict_on_a_long_record(rt: HostRuntime) -> Result<(), Fail> {
-    let alloc = rt.alloc();
-    let record = long_record(alloc, b"RE[B+361]")?;
-    has_verdict(
-        &rt,
-        alloc,
-        record.as_slice(),
-        1_200,
-        "B+361",
-        Stated::Agrees,
-    );
-    judged(
-        &rt,
-        alloc,
-        record.as_slice(),
-        b"moves 1200\nscore B+361\nstated agrees\n",
-    );
+    let record = long_record(rt.alloc(), b"RE[B+361]")?;
+    let source = record.as_slice();
+    let verdict = (1_200, "B+361", Stated::Agrees);
+    assert!(rt; has_verdict(&rt, rt.alloc(), source, verdict));
+    let text = b"moves 1200\nscore B+361\nstated agrees\n";
+    assert!(rt; Tool::Judge.writes(rt.alloc(), source, text));
     Ok(())
 }
 
 #[test]
 fn a_long_record_is_tidied(rt: HostRuntime) -> Result<(), Fail> {
-    let alloc = rt.alloc();
-    let record = long_record(alloc, b"")?;
-    let text = copies(alloc, record.as_slice(), 1, b"\n")?;
-    tidied(&rt, alloc, record.as_slice(), text.as_slice());
-    let blank = copies(alloc, b" \n\t", 2_000, b"")?;
-    let behind = copies(alloc, blank.as_slice(), 1, record.as_slice())?;
-    tidied(&rt, alloc, behind.as_slice(), text.as_slice());
+    let record = long_record(rt.alloc(), b"")?;
+    let text = copies(rt.alloc(), record.as_slice(), 1, b"\n")?;
+    for blanks in [0u32, 2_000] {
+        let source = copies(rt.alloc(), b" \n\t", blanks, record.as_slice())?;
+        let is_tidy = Tool::Tidy.writes(rt.alloc(), source.as_slice(), text.as_slice());
+        assert!(rt; is_tidy, "{blanks} blanks");
+    }
     Ok(())
 }
 
@@ -157,54 +153,86 @@ fn commented(alloc: Global, letters: u32, back: &[u8]) -> Result<Vec<u8>, AllocE
 
 #[test]
 fn a_long_comment(rt: HostRuntime) -> Result<(), Fail> {
-    let alloc = rt.alloc();
-    let record = commented(alloc, 200_000, b"])")?;
-    let text = commented(alloc, 200_000, b"])\n")?;
-    tidied(&rt, alloc, record.as_slice(), text.as_slice());
+    let record = commented(rt.alloc(), 200_000, b"])")?;
+    let text = commented(rt.alloc(), 200_000, b"])\n")?;
+    assert!(rt; Tool::Tidy.writes(rt.alloc(), record.as_slice(), text.as_slice()));
     let verdict = b"moves 0\nscore 0\nstated none\n";
-    judged(&rt, alloc, record.as_slice(), verdict);
+    assert!(rt; Tool::Judge.writes(rt.alloc(), record.as_slice(), verdict));
     Ok(())
 }
 
-#[test]
-fn an_empty_record(rt: HostRuntime) {
-    let alloc = rt.alloc();
-    for record in [b"(;)".as_slice(), b" ( ; ) ", b"(;(;))"] {
-        let text = b"(;GM[1]FF[4]SZ[19]KM[0]PL[B])\n";
-        is_written_as(&rt, alloc, record, text);
-        has_verdict(&rt, alloc, record, 0, "0", Stated::None);
-        judged(&rt, alloc, record, b"moves 0\nscore 0\nstated none\n");
-    }
-    tidied(&rt, alloc, b" ( ; ) ", b"(;)\n");
-}
-
-#[test]
-fn a_record_of_passes(rt: HostRuntime) {
-    let record = b"(;SZ[9]KM[0.5];B[];W[tt];W[ ])";
-    let text = b"(;GM[1]FF[4]SZ[9]KM[0.5]PL[B];B[];W[];W[])\n";
-    is_written_as(&rt, rt.alloc(), record, text);
-    has_verdict(&rt, rt.alloc(), record, 3, "W+0.5", Stated::None);
-}
-
-#[test]
-fn a_record_with_variations(rt: HostRuntime) {
-    let record = b"(;SZ[9];B[aa](;W[bb];B[cc](;W[dd];B[])(;W[ee]))(;W[ff];B[gg]))(;SZ[5];B[aa])";
-    let text = b"(;GM[1]FF[4]SZ[9]KM[0]PL[B];B[aa];W[bb];B[cc];W[dd];B[])\n";
-    is_written_as(&rt, rt.alloc(), record, text);
-    has_verdict(&rt, rt.alloc(), record, 5, "0", Stated::None);
-}
-
-#[test]
-fn a_record_with_few_and_many_stones(rt: HostRuntime) {
-    let alloc = rt.alloc();
-    is_written_as(
-        &rt,
-        alloc,
+/// Small records, and what is written of their games: without a move, with passes, with variations
+/// and with a stone.
+const WRITTEN: &[(&[u8], &[u8])] = &[
+    (b"(;)", b"(;GM[1]FF[4]SZ[19]KM[0]PL[B])\n"),
+    (b" ( ; ) ", b"(;GM[1]FF[4]SZ[19]KM[0]PL[B])\n"),
+    (b"(;(;))", b"(;GM[1]FF[4]SZ[19]KM[0]PL[B])\n"),
+    (
+        b"(;SZ[9]KM[0.5];B[];W[tt];W[ ])",
+        b"(;GM[1]FF[4]SZ[9]KM[0.5]PL[B];B[];W[];W[])\n",
+    ),
+    (
+        b"(;SZ[9];B[aa](;W[bb];B[cc](;W[dd];B[])(;W[ee]))(;W[ff];B[gg]))(;SZ[5];B[aa])",
+        b"(;GM[1]FF[4]SZ[9]KM[0]PL[B];B[aa];W[bb];B[cc];W[dd];B[])\n",
+    ),
+    (
         b"(;SZ[2]AW[ab];B[bb])",
         b"(;GM[1]FF[4]SZ[2]KM[0]PL[B]AW[ab];B[bb])\n",
-    );
-    let most = b"(;SZ[25]AB[aa:yy]AE[mm];W[];B[])";
-    has_verdict(&rt, alloc, most, 2, "B+625", Stated::None);
-    let both = b"(;SZ[25]AB[aa:ly]AW[na:yy]PL[W];W[];B[])";
-    has_verdict(&rt, alloc, both, 2, "0", Stated::None);
+    ),
+];
+
+#[test]
+fn small_records_are_written(rt: HostRuntime) {
+    for (number, (source, text)) in WRITTEN.iter().enumerate() {
+        assert!(rt;
+            is_written_as(&rt, rt.alloc(), source, text),
+            "row {number}"
+        );
+    }
+}
+
+/// The verdicts on small records, and on two with as many stones as there can be.
+const VERDICTS: &[(&[u8], Judged)] = &[
+    (b"(;)", (0, "0", Stated::None)),
+    (b" ( ; ) ", (0, "0", Stated::None)),
+    (b"(;(;))", (0, "0", Stated::None)),
+    (
+        b"(;SZ[9]KM[0.5];B[];W[tt];W[ ])",
+        (3, "W+0.5", Stated::None),
+    ),
+    (
+        b"(;SZ[9];B[aa](;W[bb];B[cc](;W[dd];B[])(;W[ee]))(;W[ff];B[gg]))(;SZ[5];B[aa])",
+        (5, "0", Stated::None),
+    ),
+    (
+        b"(;SZ[25]AB[aa:yy]AE[mm];W[];B[])",
+        (2, "B+625", Stated::None),
+    ),
+    (
+        b"(;SZ[25]AB[aa:ly]AW[na:yy]PL[W];W[];B[])",
+        (2, "0", Stated::None),
+    ),
+];
+
+#[test]
+fn verdicts_without_a_stated_score(rt: HostRuntime) {
+    for (number, (source, verdict)) in VERDICTS.iter().enumerate() {
+        assert!(rt;
+            has_verdict(&rt, rt.alloc(), source, *verdict),
+            "row {number}"
+        );
+    }
+}
+
+#[test]
+fn empty_records_are_judged(rt: HostRuntime) {
+    let text = b"moves 0\nscore 0\nstated none\n";
+    for record in [b"(;)".as_slice(), b" ( ; ) ", b"(;(;))"] {
+        assert!(rt; Tool::Judge.writes(rt.alloc(), record, text));
+    }
+}
+
+#[test]
+fn an_empty_record_is_tidied(rt: HostRuntime) {
+    assert!(rt; Tool::Tidy.writes(rt.alloc(), b" ( ; ) ", b"(;)\n"));
 }

@@ -8,6 +8,10 @@ mod ends;
 #[cfg(test)]
 mod judging;
 #[cfg(test)]
+mod kinds;
+#[cfg(test)]
+mod laws;
+#[cfg(test)]
 mod records;
 #[cfg(test)]
 mod replays;

@@ -2,8 +2,8 @@ ghost use Rattle.std.specs.Prelude.{◌≡◌};
 
 use go_board::{Point, Size, Vertex, WriteFault, read_vertex};
 use go_sgf::{
-    Collection, Rectangle, Row, SgfError, check, cook_simple, cook_text, escape, hundredths_of,
-    number_of, point_of, points_in, points_of, read, tidy, write,
+    Collection, Node, Property, Rectangle, Row, SgfError, Tree, check, cook_simple, cook_text,
+    escape, hundredths_of, number_of, point_of, points_in, points_of, read, tidy, write,
 };
 use std::alloc::{AllocError, Allocator, Global};
 use std::process::Abort;
@@ -19,10 +19,9 @@ fn nine(rt: &impl Abort) -> Size
     Size::new(9).expect(rt, "a size")
 }
 
-/// Asserts what a source is refused with.
-fn refused(rt: &impl Abort, alloc: Global, source: &[u8], why: SgfError) {
-    assert!(rt; read(alloc, source).err() == Some(why));
-    assert!(rt; check(source) == Err(why));
+/// Whether a source is refused with this.
+fn is_refused(alloc: Global, source: &[u8], why: SgfError) -> bool {
+    read(alloc, source).err() == Some(why) && check(source) == Err(why)
 }
 
 /// Writes the text of a record.
@@ -33,19 +32,30 @@ fn written(
     write(collection, writer)
 }
 
-/// Asserts what a source is written as, from its trees and from its bytes alone, however the writer
-/// cuts the text.
-fn tidied(rt: &impl Abort, alloc: Global, source: &[u8], text: &[u8]) {
-    let collection = read(alloc, source).expect(rt, "a record");
-    assert!(rt; check(source) == Ok(()));
+/// Whether the trees of a record are written as this text, by so many bytes at most.
+fn writes(alloc: Global, collection: &Collection<'_, Global>, most: usize, text: &[u8]) -> bool {
+    let mut writer = Writer::new(alloc).in_pieces_of(most);
+    written(collection, &mut writer) == Ok(()) && writer.bytes() == text
+}
+
+/// Whether the bytes of a source are written as this text, by so many bytes at most.
+fn tidies(alloc: Global, source: &[u8], most: usize, text: &[u8]) -> bool {
+    let mut writer = Writer::new(alloc).in_pieces_of(most);
+    tidy(source, &mut writer) == Ok(()) && writer.bytes() == text
+}
+
+/// Whether a source is written as this text, from its trees and from its bytes alone, however the
+/// writer cuts it.
+fn is_tidied(alloc: Global, source: &[u8], text: &[u8]) -> bool {
+    let Ok(collection) = read(alloc, source) else {
+        return false;
+    };
     for most in [1, 3, 4_096] {
-        let mut writer = Writer::new(alloc).in_pieces_of(most);
-        assert!(rt; written(&collection, &mut writer) == Ok(()));
-        assert!(rt; writer.bytes() == text);
-        let mut tidying = Writer::new(alloc).in_pieces_of(most);
-        assert!(rt; tidy(source, &mut tidying) == Ok(()));
-        assert!(rt; tidying.bytes() == text);
+        if !writes(alloc, &collection, most, text) || !tidies(alloc, source, most, text) {
+            return false;
+        }
     }
+    check(source) == Ok(())
 }
 
 /// So many copies of a piece, and a back.
@@ -63,23 +73,28 @@ pub(crate) fn copies(
     Ok(text)
 }
 
+/// Sources that are refused, and why.
+const FAULTS: &[(&[u8], SgfError)] = &[
+    (b"()", SgfError::NoTree),
+    (b"(;B[aa]7)", SgfError::Unexpected(7)),
+    (b"(;ab[cc])", SgfError::Unexpected(4)),
+    (b"(;B)", SgfError::Unexpected(3)),
+    (b"(;A B[x])", SgfError::Unexpected(4)),
+    (b"(;a [x])", SgfError::Unexpected(3)),
+    (b"(;B[aa]())", SgfError::Unexpected(8)),
+    (b"(;B[aa](;W[bb]);W[cc])", SgfError::Unexpected(15)),
+    (b"(;C[a\\", SgfError::EndInside(6)),
+];
+
 #[test]
 fn fault_places(rt: HostRuntime) {
-    let alloc = rt.alloc();
-    refused(&rt, alloc, b"()", SgfError::NoTree);
-    refused(&rt, alloc, b"(;B[aa]7)", SgfError::Unexpected(7));
-    refused(&rt, alloc, b"(;ab[cc])", SgfError::Unexpected(4));
-    refused(&rt, alloc, b"(;B)", SgfError::Unexpected(3));
-    refused(&rt, alloc, b"(;A B[x])", SgfError::Unexpected(4));
-    refused(&rt, alloc, b"(;a [x])", SgfError::Unexpected(3));
-    refused(&rt, alloc, b"(;B[aa]())", SgfError::Unexpected(8));
-    refused(
-        &rt,
-        alloc,
-        b"(;B[aa](;W[bb]);W[cc])",
-        SgfError::Unexpected(15),
-    );
-    refused(&rt, alloc, b"(;C[a\\", SgfError::EndInside(6));
+    for (number, (source, why)) in FAULTS.iter().enumerate() {
+        assert!(rt; is_refused(rt.alloc(), source, *why), "row {number}");
+    }
+}
+
+#[test]
+fn fronts_of_a_record(rt: HostRuntime) {
     assert_eq!(rt; SAMPLE.len(), 45);
     for (length, _) in SAMPLE.iter().enumerate() {
         let why = if length < 3 {
@@ -87,157 +102,287 @@ fn fault_places(rt: HostRuntime) {
         } else {
             SgfError::EndInside(length)
         };
-        refused(&rt, alloc, SAMPLE.split_at(length).0, why);
+        let front = SAMPLE.split_at(length).0;
+        assert!(rt; is_refused(rt.alloc(), front, why), "{length} bytes");
     }
 }
 
+/// How many trees begin one in another, what stands behind that, and why the whole is refused.
+const DEPTHS: &[(u32, &[u8], SgfError)] = &[
+    (1_001, b"", SgfError::TooDeep(2_000)),
+    (1_000, b"", SgfError::EndInside(2_000)),
+    (1_000, b"(x", SgfError::TooDeep(2_000)),
+];
+
 #[test]
-fn deep_records(rt: HostRuntime) -> Result<(), Fail> {
-    let alloc = rt.alloc();
-    let deep = copies(alloc, b"(;", 1_001, b"")?;
-    refused(&rt, alloc, deep.as_slice(), SgfError::TooDeep(2_000));
-    let open = copies(alloc, b"(;", 1_000, b"")?;
-    refused(&rt, alloc, open.as_slice(), SgfError::EndInside(2_000));
-    let stray = copies(alloc, b"(;", 1_000, b"(x")?;
-    refused(&rt, alloc, stray.as_slice(), SgfError::TooDeep(2_000));
-    let closing = copies(alloc, b")", 1_000, b"")?;
-    let whole = copies(alloc, b"(;", 1_000, closing.as_slice())?;
-    let text = copies(alloc, b"", 0, whole.as_slice())?;
-    let text = copies(alloc, text.as_slice(), 1, b"\n")?;
-    tidied(&rt, alloc, whole.as_slice(), text.as_slice());
+fn too_deep_records(rt: HostRuntime) -> Result<(), Fail> {
+    for (number, (depth, back, why)) in DEPTHS.iter().enumerate() {
+        let source = copies(rt.alloc(), b"(;", *depth, back)?;
+        assert!(rt;
+            is_refused(rt.alloc(), source.as_slice(), *why),
+            "row {number}"
+        );
+    }
+    Ok(())
+}
+
+/// A thousand trees one in another, and a back.
+fn thousand_trees(alloc: Global, back: &[u8]) -> Result<Vec<u8>, AllocError> {
+    let closing = copies(alloc, b")", 1_000, back)?;
+    copies(alloc, b"(;", 1_000, closing.as_slice())
+}
+
+#[test]
+fn the_deepest_record(rt: HostRuntime) -> Result<(), Fail> {
+    let whole = thousand_trees(rt.alloc(), b"")?;
+    let text = thousand_trees(rt.alloc(), b"\n")?;
+    assert!(rt; is_tidied(rt.alloc(), whole.as_slice(), text.as_slice()));
     Ok(())
 }
 
 #[test]
 fn long_records(rt: HostRuntime) -> Result<(), Fail> {
-    let alloc = rt.alloc();
-    let blank = vec![in alloc; b' '; 16_777_217]?;
-    refused(&rt, alloc, blank.as_slice(), SgfError::TooLong);
-    refused(
-        &rt,
-        alloc,
-        blank.as_slice().split_at(16_777_216).0,
-        SgfError::NoTree,
-    );
-    let values = copies(alloc, b"[]", 1_000_000, b")")?;
-    let many = copies(alloc, b"(;A", 1, values.as_slice())?;
-    let collection = read(alloc, many.as_slice()).expect(&rt, "a record");
-    let property = collection
-        .trees()
-        .first()
-        .and_then(|tree| tree.nodes().first())
-        .and_then(|node| node.properties().first())
-        .expect(&rt, "a property");
-    assert_eq!(rt; property.values().len(), 1_000_000);
+    let blank = vec![in rt.alloc(); b' '; 16_777_217]?;
+    let longest = blank.as_slice().split_at(16_777_216).0;
+    assert!(rt; is_refused(rt.alloc(), blank.as_slice(), SgfError::TooLong));
+    assert!(rt; is_refused(rt.alloc(), longest, SgfError::NoTree));
     Ok(())
 }
 
+/// How many values the first property of a record has.
+fn first_values(collection: &Collection<'_, Global>) -> Option<usize> {
+    let tree = collection.trees().first()?;
+    let node = tree.nodes().first()?;
+    let property = node.properties().first()?;
+    Some(property.values().len())
+}
+
 #[test]
-fn tidy_a_record(rt: HostRuntime) {
-    let alloc = rt.alloc();
-    let text = b"(;GM[1]FF[4];B[aa](;W[bb])(;W[cc]C[a\\]b]))\n";
-    tidied(&rt, alloc, SAMPLE, text);
-    tidied(&rt, alloc, b"(;B[aa])x(;W[bb])", b"(;B[aa])\n");
-    tidied(&rt, alloc, b"(;B[aa])()", b"(;B[aa])\n");
-    tidied(
-        &rt,
-        alloc,
-        b"(;CoPyright [x] [y])(;)",
-        b"(;CP[x][y])\n(;)\n",
-    );
-    tidied(
-        &rt,
-        alloc,
+fn many_values(rt: HostRuntime) -> Result<(), Fail> {
+    let values = copies(rt.alloc(), b"[]", 1_000_000, b")")?;
+    let many = copies(rt.alloc(), b"(;A", 1, values.as_slice())?;
+    let collection = read(rt.alloc(), many.as_slice()).expect(&rt, "a record");
+    assert!(rt; first_values(&collection) == Some(1_000_000));
+    Ok(())
+}
+
+const TIDY: &[u8] = b"(;GM[1]FF[4];B[aa](;W[bb])(;W[cc]C[a\\]b]))\n";
+
+/// Records, and what they are written as.
+const TIDIED: &[(&[u8], &[u8])] = &[
+    (SAMPLE, TIDY),
+    (b"(;B[aa])x(;W[bb])", b"(;B[aa])\n"),
+    (b"(;B[aa])()", b"(;B[aa])\n"),
+    (b"(;CoPyright [x] [y])(;)", b"(;CP[x][y])\n(;)\n"),
+    (
         b"(;B[aa]\n;W[bb] C[x\\]y]Kb[1][2] [3];;AB[aa]\t[bb]W[cc](;B[dd]) (;W[ee]))",
         b"(;B[aa];W[bb]C[x\\]y]K[1][2][3];;AB[aa][bb]W[cc](;B[dd])(;W[ee]))\n",
-    );
-    let collection = read(alloc, SAMPLE).expect(&rt, "a record");
+    ),
+];
+
+#[test]
+fn tidy_a_record(rt: HostRuntime) {
+    for (number, (source, text)) in TIDIED.iter().enumerate() {
+        assert!(rt; is_tidied(rt.alloc(), source, text), "row {number}");
+    }
+}
+
+/// Whether the trees of a record break off at a writer, which takes a front of this text alone.
+fn breaks_off(
+    collection: &Collection<'_, Global>,
+    mut writer: Writer<Global>,
+    text: &[u8],
+) -> bool {
+    written(collection, &mut writer) == Err(WriteFault)
+        && writer.bytes() != text
+        && text.starts_with(writer.bytes())
+}
+
+/// How many writes a record takes.
+fn writes_of(rt: &impl Abort, alloc: Global, collection: &Collection<'_, Global>) -> u64 {
     let mut whole = Writer::new(alloc);
-    assert!(rt; written(&collection, &mut whole) == Ok(()));
-    for put in 1..=whole.put_count() {
-        let mut failing = Writer::new(alloc).failing_at_put(put);
-        assert!(rt; written(&collection, &mut failing) == Err(WriteFault));
-        assert!(rt; failing.bytes() != text.as_slice() && text.starts_with(failing.bytes()));
-        let mut stalling = Writer::new(alloc).stalling_at_put(put);
-        assert!(rt; written(&collection, &mut stalling) == Err(WriteFault));
+    assert!(rt; written(collection, &mut whole) == Ok(()));
+    whole.put_count()
+}
+
+/// Asserts that each write of a record which fails or takes nothing breaks it off.
+fn each_breaks_off(rt: &impl Abort, alloc: Global, collection: &Collection<'_, Global>) {
+    for put in 1..=writes_of(rt, alloc, collection) {
+        let failing = Writer::new(alloc).failing_at_put(put);
+        assert!(rt; breaks_off(collection, failing, TIDY), "put {put}");
+        let stalling = Writer::new(alloc).stalling_at_put(put);
+        assert!(rt; breaks_off(collection, stalling, TIDY), "put {put}");
     }
 }
 
 #[test]
-fn parts_of_a_record(rt: HostRuntime) {
-    let source = b"(;GaMe[1]SZ[9]Ab[cc][dd];B[aa][bb];KOMI[6.5](;W[])(;W[cc]))(;)";
-    let collection = read(rt.alloc(), source).expect(&rt, "a record");
-    let trees = collection.trees();
-    assert_eq!(rt; trees.len(), 2);
-    let (nodes, children) = (trees[0].nodes(), trees[0].children());
-    assert!(rt; nodes.len() == 3);
-    assert!(rt; children.len() == 2);
-    let root = nodes[0].properties();
-    assert!(rt; root.len() == 3);
-    let game = &root[0];
-    assert!(rt; game.is(b"GM") && !game.is(b"GaMe") && !game.is(b"G") && !game.is(b"GMM"));
-    assert!(rt; game.name() == b"GaMe".as_slice());
-    assert!(rt; game.values() == [b"1".as_slice()].as_slice());
-    assert!(rt; root[1].name() == b"SZ".as_slice());
-    assert!(rt; root[2].name() == b"Ab".as_slice());
-    let other = &trees[1];
-    assert!(rt; other.nodes().len() == 1 && other.children().is_empty());
-    let node = other.nodes().first().expect(&rt, "a node");
-    assert!(rt; node.properties().is_empty());
+fn a_record_that_breaks_off(rt: HostRuntime) {
+    let collection = read(rt.alloc(), SAMPLE).expect(&rt, "a record");
+    each_breaks_off(&rt, rt.alloc(), &collection);
+}
+
+/// A name as it stands, the name without its lower-case letters, and values.
+type Named = (&'static [u8], &'static [u8], &'static [&'static [u8]]);
+
+/// Whether a property is this.
+fn is_named(property: &Property<'_, Global>, named: Named) -> bool {
+    let (name, plain, values) = named;
+    property.name() == name && property.is(plain) && property.values() == values
+}
+
+/// Whether this is the first property of a node.
+fn begins(node: &Node<'_, Global>, named: Named) -> bool {
+    match node.properties().first() {
+        Some(property) => is_named(property, named),
+        None => false,
+    }
+}
+
+const PARTS: &[u8] = b"(;GaMe[1]SZ[9]Ab[cc][dd];B[aa][bb];KOMI[6.5](;W[])(;W[cc]))(;)";
+
+/// How many nodes, children and properties of its first node each tree has.
+const SHAPES: &[(usize, usize, usize)] = &[(3, 2, 3), (1, 0, 0)];
+
+/// How many nodes, children and properties of its first node a tree has.
+fn shape(rt: &impl Abort, tree: &Tree<'_, Global>) -> (usize, usize, usize) {
+    let node = tree.nodes().first().expect(rt, "a node");
+    let properties = node.properties().len();
+    (tree.nodes().len(), tree.children().len(), properties)
+}
+
+/// Asserts the shapes of trees.
+fn have_shapes(rt: &impl Abort, trees: &[Tree<'_, Global>]) {
+    assert_eq!(rt; trees.len(), SHAPES.len());
+    for (number, (tree, expected)) in trees.iter().zip(SHAPES).enumerate() {
+        assert!(rt; shape(rt, tree) == *expected, "tree {number}");
+    }
+}
+
+#[test]
+fn trees_of_a_record(rt: HostRuntime) {
+    let collection = read(rt.alloc(), PARTS).expect(&rt, "a record");
+    have_shapes(&rt, collection.trees());
+}
+
+/// The properties of the first node.
+const ROOT: &[Named] = &[
+    (b"GaMe", b"GM", &[b"1"]),
+    (b"SZ", b"SZ", &[b"9"]),
+    (b"Ab", b"A", &[b"cc", b"dd"]),
+];
+
+/// Names that the first property hasn't.
+const OTHERS: &[&[u8]] = &[b"GaMe", b"G", b"GMM"];
+
+/// Asserts the properties of the first node, and by which names the first of them doesn't go.
+fn has_root(rt: &impl Abort, properties: &[Property<'_, Global>]) {
+    assert_eq!(rt; properties.len(), ROOT.len());
+    for (number, (property, named)) in properties.iter().zip(ROOT).enumerate() {
+        assert!(rt; is_named(property, *named), "property {number}");
+    }
+    let game = properties.first().expect(rt, "a property");
+    for (number, name) in OTHERS.iter().enumerate() {
+        assert!(rt; !game.is(name), "name {number}");
+    }
+}
+
+/// Asserts the properties of the first node of a tree.
+fn roots(rt: &impl Abort, trees: &[Tree<'_, Global>]) {
+    let tree = trees.first().expect(rt, "a tree");
+    let node = tree.nodes().first().expect(rt, "a node");
+    has_root(rt, node.properties());
+}
+
+#[test]
+fn properties_of_a_node(rt: HostRuntime) {
+    let collection = read(rt.alloc(), PARTS).expect(&rt, "a record");
+    roots(&rt, collection.trees());
+}
+
+/// The first property of each node of a tree, and of each node of its children.
+const NODES: &[Named] = &[(b"B", b"B", &[b"aa", b"bb"]), (b"KOMI", b"KOMI", &[b"6.5"])];
+
+const CHILDREN: &[&[Named]] = &[&[(b"W", b"W", &[b""])], &[(b"W", b"W", &[b"cc"])]];
+
+/// Asserts the first property of each node.
+fn begin(rt: &impl Abort, nodes: &[Node<'_, Global>], first: &[Named]) {
+    assert_eq!(rt; nodes.len(), first.len());
+    for (number, (node, named)) in nodes.iter().zip(first).enumerate() {
+        assert!(rt; begins(node, *named), "node {number}");
+    }
+}
+
+/// Asserts the first property of each node of a tree and of its children.
+fn tree_begins(rt: &impl Abort, trees: &[Tree<'_, Global>]) {
+    let tree = trees.first().expect(rt, "a tree");
+    begin(rt, tree.nodes(), NODES);
+    assert_eq!(rt; tree.children().len(), CHILDREN.len());
+    for (child, first) in tree.children().iter().zip(CHILDREN) {
+        begin(rt, child.nodes(), first);
+    }
 }
 
 #[test]
 fn values_of_a_record(rt: HostRuntime) {
     let source = b"(;B[aa][bb];KOMI[6.5](;W[])(;W[cc]))";
     let collection = read(rt.alloc(), source).expect(&rt, "a record");
-    let tree = collection.trees().first().expect(&rt, "a tree");
-    let nodes = tree.nodes();
-    assert!(rt; nodes.len() == 2);
-    let moves = nodes[0].properties().first().expect(&rt, "a move");
-    assert!(rt; moves.name() == b"B".as_slice());
-    assert!(rt; moves.values() == [b"aa".as_slice(), b"bb"].as_slice());
-    let komi = nodes[1].properties().first().expect(&rt, "a komi");
-    assert!(rt; komi.is(b"KOMI") && komi.name() == b"KOMI".as_slice());
-    assert!(rt; komi.values() == [b"6.5".as_slice()].as_slice());
-    let child = tree.children().first().expect(&rt, "a child");
-    let node = child.nodes().first().expect(&rt, "a node");
-    let pass = node.properties().first().expect(&rt, "a pass");
-    assert!(rt; pass.is(b"W") && pass.values() == [b"".as_slice()].as_slice());
+    tree_begins(&rt, collection.trees());
 }
 
-/// Asserts what a call made of its bytes.
-fn gives(rt: &impl Abort, made: Result<Vec<u8>, AllocError>, text: &[u8]) {
-    assert!(rt; made.expect(rt, "memory").as_slice() == text);
+/// What is made of a value or a text.
+#[derive(Clone, Copy)]
+enum Maker {
+    Text,
+    Simple,
+    Escape,
 }
+
+impl Maker {
+    /// Whether it makes this of these bytes.
+    fn makes(self, rt: &impl Abort, alloc: Global, bytes: &[u8], text: &[u8]) -> bool {
+        let made = match self {
+            Maker::Text => cook_text(alloc, bytes),
+            Maker::Simple => cook_simple(alloc, bytes),
+            Maker::Escape => escape(alloc, bytes),
+        };
+        made.expect(rt, "memory").as_slice() == text
+    }
+}
+
+const MADE: &[(Maker, &[u8], &[u8])] = &[
+    (Maker::Text, b"a\\]b\\\nc\td", b"a]bc d"),
+    (Maker::Text, b"a\r\nb", b"a\nb"),
+    (Maker::Simple, b"a\r\nb", b"a b"),
+    (Maker::Text, b"\n\r\r\n\r\r", b"\n\n\n\n"),
+    (Maker::Simple, b"a\\\r\nb\\", b"ab"),
+    (Maker::Escape, b"a]b\\", b"a\\]b\\\\"),
+    (Maker::Text, b"", b""),
+    (Maker::Simple, b"", b""),
+    (Maker::Escape, b"", b""),
+];
 
 #[test]
 fn cooked_and_escaped(rt: HostRuntime) {
-    let alloc = rt.alloc();
-    gives(&rt, cook_text(alloc, b"a\\]b\\\nc\td"), b"a]bc d");
-    gives(&rt, cook_text(alloc, b"a\r\nb"), b"a\nb");
-    gives(&rt, cook_simple(alloc, b"a\r\nb"), b"a b");
-    gives(&rt, cook_text(alloc, b"\n\r\r\n\r\r"), b"\n\n\n\n");
-    gives(&rt, cook_simple(alloc, b"a\\\r\nb\\"), b"ab");
-    gives(&rt, escape(alloc, b"a]b\\"), b"a\\]b\\\\");
+    for (number, (maker, bytes, text)) in MADE.iter().enumerate() {
+        assert!(rt; maker.makes(&rt, rt.alloc(), bytes, text), "row {number}");
+    }
 }
 
-#[test]
-fn cooked_and_escaped_nothing(rt: HostRuntime) {
-    let alloc = rt.alloc();
-    gives(&rt, cook_text(alloc, b""), b"");
-    gives(&rt, cook_simple(alloc, b""), b"");
-    gives(&rt, escape(alloc, b""), b"");
-}
+/// A piece of a value or a text, and what is made of it, each a thousand times before a letter.
+const MADE_AT_LENGTH: &[(Maker, &[u8], &[u8])] = &[
+    (Maker::Text, b"a\\]\n", b"a]\n"),
+    (Maker::Simple, b"a\\]\n", b"a] "),
+    (Maker::Escape, b"a]\n", b"a\\]\n"),
+];
 
 #[test]
 fn cooked_and_escaped_at_length(rt: HostRuntime) -> Result<(), Fail> {
-    let alloc = rt.alloc();
-    let value = copies(alloc, b"a\\]\n", 1_000, b"b")?;
-    let text = copies(alloc, b"a]\n", 1_000, b"b")?;
-    gives(&rt, cook_text(alloc, value.as_slice()), text.as_slice());
-    let simple = copies(alloc, b"a] ", 1_000, b"b")?;
-    gives(&rt, cook_simple(alloc, value.as_slice()), simple.as_slice());
-    gives(&rt, escape(alloc, text.as_slice()), value.as_slice());
+    for (number, (maker, piece, made)) in MADE_AT_LENGTH.iter().enumerate() {
+        let bytes = copies(rt.alloc(), piece, 1_000, b"b")?;
+        let text = copies(rt.alloc(), made, 1_000, b"b")?;
+        let is_made = maker.makes(&rt, rt.alloc(), bytes.as_slice(), text.as_slice());
+        assert!(rt; is_made, "row {number}");
+    }
     Ok(())
 }
 
@@ -258,106 +403,155 @@ fn listed(alloc: Global, rectangle: Rectangle) -> Result<Vec<Point>, AllocError>
     Ok(points)
 }
 
-/// Asserts the points that a value names on nine lines, by their words.
-fn names(rt: &impl Abort, alloc: Global, value: &[u8], words: &[&[u8]]) {
+/// Whether points on nine lines are those that words name, in this order.
+fn are(points: &[Point], words: &[&[u8]], size: Size) -> bool {
+    for (point, word) in points.iter().zip(words) {
+        if read_vertex(word, size) != Ok(Vertex::At(*point)) {
+            return false;
+        }
+    }
+    points.len() == words.len()
+}
+
+/// Whether a value names these points on nine lines, by their words.
+fn names(rt: &impl Abort, alloc: Global, value: &[u8], words: &[&[u8]]) -> bool {
     let rectangle = points_in(value, nine(rt)).expect(rt, "points");
     let points = listed(alloc, rectangle).expect(rt, "memory");
-    assert_eq!(rt; points.len(), words.len());
-    for (point, word) in points.iter().zip(words) {
-        assert!(rt; read_vertex(word, nine(rt)) == Ok(Vertex::At(*point)));
-    }
+    are(points.as_slice(), words, nine(rt))
 }
+
+const MOVES: &[(&[u8], Option<Vertex>)] = &[
+    (b"aa", Some(Vertex::At(Point { col: 0, row: 8 }))),
+    (b" cc ", Some(Vertex::At(Point { col: 2, row: 6 }))),
+    (b"", Some(Vertex::Pass)),
+    (b"tt", Some(Vertex::Pass)),
+    (b"jj", None),
+    (b"a", None),
+    (b"aaa", None),
+    (b"AA", None),
+    (b"a a", None),
+    (b"ja", None),
+];
 
 #[test]
 fn the_point_of_a_move(rt: HostRuntime) {
-    let size = nine(&rt);
-    assert!(rt; point_of(b"aa", size) == Some(Vertex::At(Point { col: 0, row: 8 })));
-    assert!(rt; point_of(b" cc ", size) == Some(Vertex::At(Point { col: 2, row: 6 })));
-    assert!(rt; point_of(b"", size) == Some(Vertex::Pass));
-    assert!(rt; point_of(b"tt", size) == Some(Vertex::Pass));
-    for word in [b"jj".as_slice(), b"a", b"aaa", b"AA", b"a a", b"ja"] {
-        assert!(rt; point_of(word, size).is_none());
+    for (number, (value, vertex)) in MOVES.iter().enumerate() {
+        assert!(rt; point_of(value, nine(&rt)) == *vertex, "row {number}");
     }
 }
+
+/// Values, and the points that they name, row by row from below.
+const POINTS: &[(&[u8], &[&[u8]])] = &[
+    (b"aa", &[b"a9"]),
+    (b"\tcc\n", &[b"c7"]),
+    (b"", &[]),
+    (b" \n", &[]),
+    (b"aa:bb", &[b"a8", b"b8", b"a9", b"b9"]),
+    (b"bb:aa", &[b"a8", b"b8", b"a9", b"b9"]),
+    (b"ba:ab", &[b"a8", b"b8", b"a9", b"b9"]),
+    (b"ab:ba", &[b"a8", b"b8", b"a9", b"b9"]),
+    (b" aa : ba ", &[b"a9", b"b9"]),
+    (b"ig:ii", &[b"j1", b"j2", b"j3"]),
+    (b"ii:ig", &[b"j1", b"j2", b"j3"]),
+    (b"ee:ee", &[b"e5"]),
+];
 
 #[test]
 fn points_of_a_value(rt: HostRuntime) {
-    let alloc = rt.alloc();
-    names(&rt, alloc, b"aa", &[b"a9".as_slice()]);
-    names(&rt, alloc, b"\tcc\n", &[b"c7".as_slice()]);
-    names(&rt, alloc, b"", &[]);
-    names(&rt, alloc, b" \n", &[]);
-    let square = [b"a8".as_slice(), b"b8", b"a9", b"b9"];
-    for value in [b"aa:bb".as_slice(), b"bb:aa", b"ba:ab", b"ab:ba"] {
-        names(&rt, alloc, value, &square);
-    }
-    names(
-        &rt,
-        alloc,
-        b" aa : ba ",
-        &[b"a9".as_slice(), b"b9".as_slice()],
-    );
-    let column = [b"j1".as_slice(), b"j2", b"j3"];
-    names(&rt, alloc, b"ig:ii", &column);
-    names(&rt, alloc, b"ii:ig", &column);
-    names(&rt, alloc, b"ee:ee", &[b"e5".as_slice()]);
-    for value in [
-        b"tt".as_slice(),
-        b"aa:",
-        b":aa",
-        b":",
-        b"aa:bb:cc",
-        b"aa:jj",
-        b"jj:aa",
-        b"a",
-        b"AA",
-    ] {
-        assert!(rt; points_in(value, nine(&rt)).is_none());
+    for (number, (value, words)) in POINTS.iter().enumerate() {
+        assert!(rt; names(&rt, rt.alloc(), value, words), "row {number}");
     }
 }
 
-/// Asserts the points that values name on nine lines, by their words.
-fn list(rt: &impl Abort, alloc: Global, values: &[&[u8]], words: &[&[u8]]) {
-    match points_of(alloc, values, nine(rt)) {
-        Ok(Some(points)) => {
-            assert_eq!(rt; points.len(), words.len());
-            for (point, word) in points.iter().zip(words) {
-                assert!(rt; read_vertex(word, nine(rt)) == Ok(Vertex::At(*point)));
-            }
-        }
-        _ => assert!(rt; false, "no points"),
+const MALFORMED: &[&[u8]] = &[
+    b"tt",
+    b"aa:",
+    b":aa",
+    b":",
+    b"aa:bb:cc",
+    b"aa:jj",
+    b"jj:aa",
+    b"a",
+    b"AA",
+];
+
+#[test]
+fn malformed_values(rt: HostRuntime) {
+    for (number, value) in MALFORMED.iter().enumerate() {
+        assert!(rt; points_in(value, nine(&rt)).is_none(), "row {number}");
     }
 }
+
+/// Whether values name these points on nine lines, by their words, or name none.
+fn list(rt: &impl Abort, alloc: Global, values: &[&[u8]], words: Option<&[&[u8]]>) -> bool {
+    let points = points_of(alloc, values, nine(rt)).expect(rt, "memory");
+    match (points, words) {
+        (Some(points), Some(words)) => are(points.as_slice(), words, nine(rt)),
+        (None, None) => true,
+        _ => false,
+    }
+}
+
+const LISTS: &[(&[&[u8]], Option<&[&[u8]]>)] = &[
+    (
+        &[b"bb:aa", b"aa"],
+        Some(&[b"a8", b"b8", b"a9", b"b9", b"a9"]),
+    ),
+    (&[b""], Some(&[])),
+    (&[], Some(&[])),
+    (&[b"aa", b"tt"], None),
+    (&[b"aa", b"aa:"], None),
+    (&[b"aa", b"jj"], None),
+];
 
 #[test]
 fn points_of_values(rt: HostRuntime) {
-    let alloc = rt.alloc();
-    let words = [b"a8".as_slice(), b"b8", b"a9", b"b9", b"a9"];
-    list(&rt, alloc, &[b"bb:aa".as_slice(), b"aa"], &words);
-    list(&rt, alloc, &[b"".as_slice()], &[]);
-    list(&rt, alloc, &[], &[]);
-    for malformed in [b"tt".as_slice(), b"aa:", b"jj"] {
-        match points_of(alloc, &[b"aa".as_slice(), malformed], nine(&rt)) {
-            Ok(points) => assert!(rt; points.is_none()),
-            Err(_) => assert!(rt; false, "no memory"),
-        }
+    for (number, (values, words)) in LISTS.iter().enumerate() {
+        assert!(rt; list(&rt, rt.alloc(), values, *words), "row {number}");
     }
 }
 
 #[test]
-fn points_of_long_values(rt: HostRuntime) -> Result<(), Fail> {
-    let alloc = rt.alloc();
-    let padded = copies(alloc, b" ", 1_500, b"aa")?;
-    names(&rt, alloc, padded.as_slice(), &[b"a9".as_slice()]);
+fn a_point_behind_spaces(rt: HostRuntime) -> Result<(), Fail> {
+    let padded = copies(rt.alloc(), b" ", 1_500, b"aa")?;
+    assert!(rt; names(&rt, rt.alloc(), padded.as_slice(), &[b"a9"]));
+    Ok(())
+}
+
+/// Numbers of points of the largest board, and the points.
+const NUMBERED: &[(usize, Point)] = &[
+    (0, Point { col: 0, row: 0 }),
+    (26, Point { col: 1, row: 1 }),
+    (624, Point { col: 24, row: 24 }),
+];
+
+/// Whether points are numbered so.
+fn are_numbered(points: &[Point]) -> bool {
+    for (number, point) in NUMBERED {
+        if points.get(*number) != Some(point) {
+            return false;
+        }
+    }
+    points.len() == 625
+}
+
+#[test]
+fn the_largest_rectangle(rt: HostRuntime) {
     let largest = Size::new(25).expect(&rt, "a size");
     let rectangle = points_in(b"ya:ay", largest).expect(&rt, "points");
     assert_eq!(rt; rectangle.rows(), 25);
-    let points = listed(alloc, rectangle)?;
-    assert_eq!(rt; points.len(), 625);
-    assert!(rt; points[0] == Point { col: 0, row: 0 });
-    assert!(rt; points[26] == Point { col: 1, row: 1 });
-    assert!(rt; points[624] == Point { col: 24, row: 24 });
-    Ok(())
+    let points = listed(rt.alloc(), rectangle).expect(&rt, "memory");
+    assert!(rt; are_numbered(points.as_slice()));
+}
+
+/// The only point that a value names.
+fn only(value: &[u8], size: Size) -> Option<Point> {
+    let rectangle = points_in(value, size)?;
+    if rectangle.rows() == 1 {
+        rectangle.row(0).next()
+    } else {
+        None
+    }
 }
 
 #[test]
@@ -369,42 +563,48 @@ fn two_letters_t(rt: HostRuntime) {
         let size = Size::new(lines).expect(&rt, "a size");
         let point = Point { col: 19, row };
         assert!(rt; point_of(b"tt", size) == Some(Vertex::At(point)));
-        let rectangle = points_in(b"tt", size).expect(&rt, "points");
-        assert_eq!(rt; rectangle.rows(), 1);
-        assert!(rt; rectangle.row(0).next() == Some(point));
+        assert!(rt; only(b"tt", size) == Some(point));
     }
 }
 
+const NUMBERS: &[(&[u8], Option<u32>)] = &[
+    (b"+1", Some(1)),
+    (b" 007\n", Some(7)),
+    (b"2147483647", Some(2_147_483_647)),
+    (b"2147483648", None),
+    (b"", None),
+    (b"-1", None),
+    (b"+", None),
+    (b"1 2", None),
+    (b"99999999999999999999", None),
+];
+
 #[test]
-fn numbers_and_hundredths(rt: HostRuntime) {
-    assert!(rt; number_of(b"+1") == Some(1));
-    assert!(rt; number_of(b" 007\n") == Some(7));
-    assert!(rt; number_of(b"2147483647") == Some(2_147_483_647));
-    for word in [
-        b"2147483648".as_slice(),
-        b"",
-        b"-1",
-        b"+",
-        b"1 2",
-        b"99999999999999999999",
-    ] {
-        assert!(rt; number_of(word).is_none());
+fn numbers(rt: HostRuntime) {
+    for (row, (word, number)) in NUMBERS.iter().enumerate() {
+        assert!(rt; number_of(word) == *number, "row {row}");
     }
-    assert!(rt; hundredths_of(b" 6.50 ") == Some(650));
-    assert!(rt; hundredths_of(b"6.") == Some(600));
-    assert!(rt; hundredths_of(b".5") == Some(50));
-    assert!(rt; hundredths_of(b"-0.5") == Some(-50));
-    assert!(rt; hundredths_of(b"+999999999.99") == Some(99_999_999_999));
-    for word in [
-        b"".as_slice(),
-        b"6.505",
-        b"1000000000",
-        b".",
-        b"1e3",
-        b"--1",
-        b"1.2.3",
-    ] {
-        assert!(rt; hundredths_of(word).is_none());
+}
+
+const HUNDREDTHS: &[(&[u8], Option<i64>)] = &[
+    (b" 6.50 ", Some(650)),
+    (b"6.", Some(600)),
+    (b".5", Some(50)),
+    (b"-0.5", Some(-50)),
+    (b"+999999999.99", Some(99_999_999_999)),
+    (b"", None),
+    (b"6.505", None),
+    (b"1000000000", None),
+    (b".", None),
+    (b"1e3", None),
+    (b"--1", None),
+    (b"1.2.3", None),
+];
+
+#[test]
+fn hundredths(rt: HostRuntime) {
+    for (row, (word, number)) in HUNDREDTHS.iter().enumerate() {
+        assert!(rt; hundredths_of(word) == *number, "row {row}");
     }
 }
 
@@ -424,17 +624,22 @@ fn read_always_memory(rt: HostRuntime) {
     assert!(rt; reads(&rt, rt.alloc()));
 }
 
+/// Whether a call comes to its end with this allocator.
+fn is_done<A: Allocator + Copy>(rt: &impl Abort, alloc: A, call: u8) -> bool {
+    match call {
+        0 => reads(rt, alloc),
+        1 => cook_text(alloc, b"a\\]b").is_ok(),
+        2 => cook_simple(alloc, b"a\nb").is_ok(),
+        3 => points_of(alloc, &[b"aa:ii".as_slice()], nine(rt)).is_ok(),
+        _ => escape(alloc, b"]]]]").is_ok(),
+    }
+}
+
 /// How many requests a call makes, each of which it is refused with.
 fn each_refused(rt: &impl Abort, alloc: Global, call: u8) -> u64 {
     for number in 1..100u64 {
         let failing = Failing::new(alloc, number);
-        let done = match call {
-            0 => reads(rt, &failing),
-            1 => cook_text(&failing, b"a\\]b").is_ok(),
-            2 => cook_simple(&failing, b"a\nb").is_ok(),
-            3 => points_of(&failing, &[b"aa:ii".as_slice()], nine(rt)).is_ok(),
-            _ => escape(&failing, b"]]]]").is_ok(),
-        };
+        let done = is_done(rt, &failing, call);
         assert!(rt; done == failing.waits(), "request {number} of call {call}");
         if done {
             return number - 1;

@@ -34,12 +34,9 @@ pub(crate) fn game_of(
     replayed(rt, alloc, source, number).expect(rt, "a game")
 }
 
-/// Asserts what the replay of a source is refused with, and the text of that.
-fn refused(rt: &impl Abort, alloc: Global, source: &[u8], why: RecordError, text: &str) {
-    let refusal = replayed(rt, alloc, source, None).err();
-    let error = refusal.expect(rt, "a refusal");
-    assert!(rt; error == why, "{error}");
-    has_text(rt, alloc, error, text);
+/// Whether the replay of a source is refused with this.
+fn is_refused(rt: &impl Abort, alloc: Global, source: &[u8], why: RecordError) -> bool {
+    replayed(rt, alloc, source, None).err() == Some(why)
 }
 
 /// Asserts the text of a refusal.
@@ -48,105 +45,56 @@ fn has_text(rt: &impl Abort, alloc: Global, error: RecordError, text: &str) {
     assert!(rt; told.as_str() == text, "{told}");
 }
 
-fn stone(rt: &impl Abort, game: &Game<Global>, word: &[u8]) -> Option<Colour> {
-    match read_vertex(word, game.size()) {
-        Ok(Vertex::At(point)) => game.colour_at(point),
-        _ => panic!(rt; "no point"),
-    }
-}
-
-#[test]
-fn refusals_of_replay(rt: HostRuntime) {
-    let alloc = rt.alloc();
-    refused(
-        &rt,
-        alloc,
-        b"(;GM[2])",
-        RecordError::NotGo,
-        "not a Go record",
-    );
-    refused(
-        &rt,
-        alloc,
-        b"(;SZ[0])",
-        RecordError::BadSize,
-        "bad board size",
-    );
-    refused(
-        &rt,
-        alloc,
-        b"(;SZ[26])",
-        RecordError::BadSize,
-        "bad board size",
-    );
-    refused(
-        &rt,
-        alloc,
-        b"(;SZ[9:8])",
-        RecordError::BadSize,
-        "bad board size",
-    );
-    refused(&rt, alloc, b"(;KM[x])", RecordError::BadKomi, "bad komi");
-    refused(
-        &rt,
-        alloc,
-        b"(;B[zz])",
-        RecordError::BadValue(0),
-        "bad value in node 0",
-    );
-    refused(
-        &rt,
-        alloc,
+/// Records without a game, why, and the texts of that.
+const REFUSALS: &[(&[u8], RecordError, &str)] = &[
+    (b"(;GM[2])", RecordError::NotGo, "not a Go record"),
+    (b"(;SZ[0])", RecordError::BadSize, "bad board size"),
+    (b"(;SZ[26])", RecordError::BadSize, "bad board size"),
+    (b"(;SZ[9:8])", RecordError::BadSize, "bad board size"),
+    (b"(;KM[x])", RecordError::BadKomi, "bad komi"),
+    (b"(;B[zz])", RecordError::BadValue(0), "bad value in node 0"),
+    (
         b"(;SZ[2];B[aa:ab])",
         RecordError::BadValue(1),
         "bad value in node 1",
-    );
-    refused(
-        &rt,
-        alloc,
+    ),
+    (
         b"(;SZ[9];B[aa];AB[bb])",
         RecordError::SetupAfterMove(2),
         "set-up after a move in node 2",
-    );
-    refused(
-        &rt,
-        alloc,
+    ),
+    (
         b"(;SZ[9];B[aa];W[aa])",
         RecordError::Illegal(2, PlayError::Occupied),
         "move 2 is on a stone",
-    );
-}
-
-#[test]
-fn records_refused(rt: HostRuntime) {
-    let alloc = rt.alloc();
-    let corner = Point { col: 0, row: 8 };
-    refused(
-        &rt,
-        alloc,
+    ),
+    (
         b"(;SZ[9]AB[aa]AW[ab][ba])",
-        RecordError::DeadSetup(corner),
+        RecordError::DeadSetup(Point { col: 0, row: 8 }),
         "set-up without liberty at A9",
-    );
-    refused(
-        &rt,
-        alloc,
+    ),
+    (
         REPEATING,
         RecordError::Illegal(4, PlayError::Repeats(3)),
         "move 4 repeats the position after 3 moves",
-    );
-    let first = Point { col: 0, row: 0 };
-    for source in [
-        b"(;SZ[1]AB[aa])".as_slice(),
-        b"(;SZ[2]AB[aa:bb])".as_slice(),
-    ] {
-        refused(
-            &rt,
-            alloc,
-            source,
-            RecordError::DeadSetup(first),
-            "set-up without liberty at A1",
-        );
+    ),
+    (
+        b"(;SZ[1]AB[aa])",
+        RecordError::DeadSetup(Point { col: 0, row: 0 }),
+        "set-up without liberty at A1",
+    ),
+    (
+        b"(;SZ[2]AB[aa:bb])",
+        RecordError::DeadSetup(Point { col: 0, row: 0 }),
+        "set-up without liberty at A1",
+    ),
+];
+
+#[test]
+fn refusals_of_replay(rt: HostRuntime) {
+    for (number, (source, why, text)) in REFUSALS.iter().enumerate() {
+        assert!(rt; is_refused(&rt, rt.alloc(), source, *why), "row {number}");
+        has_text(&rt, rt.alloc(), *why, text);
     }
 }
 
@@ -157,71 +105,122 @@ fn texts_of_other_refusals(rt: HostRuntime) {
     has_text(&rt, rt.alloc(), RecordError::Memory, "out of memory");
 }
 
+/// A point's word, and the stone there.
+type Stone = (&'static [u8], Option<Colour>);
+
+/// Whether a game has these stones.
+fn has_stones(rt: &impl Abort, game: &Game<Global>, stones: &[Stone]) -> bool {
+    for (word, colour) in stones {
+        if stone(rt, game, word) != *colour {
+            return false;
+        }
+    }
+    true
+}
+
+fn stone(rt: &impl Abort, game: &Game<Global>, word: &[u8]) -> Option<Colour> {
+    match read_vertex(word, game.size()) {
+        Ok(Vertex::At(point)) => game.colour_at(point),
+        _ => panic!(rt; "no point"),
+    }
+}
+
+/// So much of a record, and what stands after it: how many lines the board has, how many moves were
+/// made, and some stones.
+type Standing = (&'static [u8], Option<u32>, u8, usize, &'static [Stone]);
+
+const STANDINGS: &[Standing] = &[
+    (b"(;SZ[9];B[aa];W[aa])", Some(2), 9, 1, &[]),
+    (b"(;SZ[9:9]AB[])", None, 9, 0, &[]),
+    (b"(;B[pd])", None, 19, 1, &[(b"q16", Some(Colour::Black))]),
+    (b"(;B[sa])", None, 19, 1, &[(b"t19", Some(Colour::Black))]),
+    (
+        b"(;SZ[20];B[tt])",
+        None,
+        20,
+        1,
+        &[(b"u1", Some(Colour::Black))],
+    ),
+    (b"(;SZ[19];B[tt])", None, 19, 1, &[]),
+    (
+        b"(;SZ[25]AB[yy])",
+        None,
+        25,
+        0,
+        &[(b"z1", Some(Colour::Black))],
+    ),
+];
+
+/// Whether a game stands so.
+fn stands(rt: &impl Abort, game: &Game<Global>, standing: &Standing) -> bool {
+    let (_, _, lines, moves, stones) = standing;
+    game.size().lines() == *lines && game.move_count() == *moves && has_stones(rt, game, stones)
+}
+
 #[test]
-fn numbers_end_the_walk(rt: HostRuntime) {
-    let alloc = rt.alloc();
-    let one = game_of(&rt, alloc, b"(;SZ[9];B[aa];W[aa])", Some(2));
-    assert_eq!(rt; one.move_count(), 1);
-    let square = game_of(&rt, alloc, b"(;SZ[9:9]AB[])", None);
-    assert_eq!(rt; square.size().lines(), 9);
+fn standings(rt: HostRuntime) {
+    for (row, standing) in STANDINGS.iter().enumerate() {
+        let (source, number, _, _, _) = standing;
+        let game = game_of(&rt, rt.alloc(), source, *number);
+        assert!(rt; stands(&rt, &game, standing), "row {row}");
+    }
+}
+
+/// A board is vacant where a list of stones is empty, and two letters t are a pass.
+#[test]
+fn nothing_is_set_and_passed(rt: HostRuntime) {
+    let square = game_of(&rt, rt.alloc(), b"(;SZ[9:9]AB[])", None);
     assert!(rt; square.is_vacant());
-}
-
-#[test]
-fn a_record_without_a_size(rt: HostRuntime) {
-    let alloc = rt.alloc();
-    let game = game_of(&rt, alloc, b"(;B[pd])", None);
-    assert_eq!(rt; game.size().lines(), 19);
-    assert!(rt; stone(&rt, &game, b"q16") == Some(Colour::Black));
-    let corner = game_of(&rt, alloc, b"(;B[sa])", None);
-    assert!(rt; stone(&rt, &corner, b"t19") == Some(Colour::Black));
-}
-
-#[test]
-fn two_letters_t(rt: HostRuntime) {
-    let alloc = rt.alloc();
-    let point = game_of(&rt, alloc, b"(;SZ[20];B[tt])", None);
-    assert_eq!(rt; point.size().lines(), 20);
-    assert!(rt; stone(&rt, &point, b"u1") == Some(Colour::Black));
-    let pass = game_of(&rt, alloc, b"(;SZ[19];B[tt])", None);
-    assert_eq!(rt; pass.move_count(), 1);
     let made = Move {
         colour: Colour::Black,
         vertex: Vertex::Pass,
     };
+    let pass = game_of(&rt, rt.alloc(), b"(;SZ[19];B[tt])", None);
     assert!(rt; pass.move_at(0) == Some(made));
 }
 
-#[test]
-fn a_start_on_the_largest_board(rt: HostRuntime) {
-    let game = game_of(&rt, rt.alloc(), b"(;SZ[25]AB[yy])", None);
-    assert_eq!(rt; game.size().lines(), 25);
-    assert_eq!(rt; game.move_count(), 0);
-    assert!(rt; stone(&rt, &game, b"z1") == Some(Colour::Black));
+/// So much of the record with stones set up, and what stands after it: how many moves were made,
+/// whose turn it is, and the stone in the centre.
+type Part = (Option<u32>, usize, Colour, Option<Colour>);
+
+const PARTS: &[Part] = &[
+    (Some(2), 1, Colour::Black, Some(Colour::White)),
+    (Some(0), 0, Colour::White, None),
+    (Some(99), 2, Colour::White, Some(Colour::White)),
+    (None, 2, Colour::White, Some(Colour::White)),
+];
+
+const HANDICAP_STONES: &[Stone] = &[(b"c7", Some(Colour::Black)), (b"g3", Some(Colour::Black))];
+
+/// Whether a game is on the board of that record, with its komi and its stones, and none was taken.
+fn is_set_up(rt: &impl Abort, game: &Game<Global>) -> bool {
+    game.size().lines() == 9
+        && hundredths_text(game.komi()).as_str() == "5.5"
+        && game.prisoners(Colour::Black) == 0
+        && game.prisoners(Colour::White) == 0
+        && has_stones(rt, game, HANDICAP_STONES)
 }
 
-/// Asserts what stands after so much of the record with stones set up.
-fn set_up(rt: &impl Abort, alloc: Global, number: Option<u32>, moves: usize, next: Colour) {
-    let game = game_of(rt, alloc, SET_UP, number);
-    assert_eq!(rt; game.size().lines(), 9);
-    assert!(rt; hundredths_text(game.komi()).as_str() == "5.5");
-    assert_eq!(rt; game.move_count(), moves);
-    assert!(rt; game.mover() == next);
-    assert!(rt; game.prisoners(Colour::Black) == 0 && game.prisoners(Colour::White) == 0);
-    assert!(rt; stone(rt, &game, b"c7") == Some(Colour::Black));
-    assert!(rt; stone(rt, &game, b"g3") == Some(Colour::Black));
-    let centre = if moves > 0 { Some(Colour::White) } else { None };
-    assert!(rt; stone(rt, &game, b"e5") == centre);
+/// Whether a game stands as after this part.
+fn stands_after(rt: &impl Abort, game: &Game<Global>, part: Part) -> bool {
+    let (_, moves, next, centre) = part;
+    game.move_count() == moves
+        && game.mover() == next
+        && stone(rt, game, b"e5") == centre
+        && is_set_up(rt, game)
 }
 
 #[test]
 fn load_a_record(rt: HostRuntime) {
-    let alloc = rt.alloc();
-    set_up(&rt, alloc, Some(2), 1, Colour::Black);
-    set_up(&rt, alloc, Some(0), 0, Colour::White);
-    set_up(&rt, alloc, Some(99), 2, Colour::White);
-    set_up(&rt, alloc, None, 2, Colour::White);
-    let mut game = game_of(&rt, alloc, SET_UP, Some(2));
+    for (row, part) in PARTS.iter().enumerate() {
+        let game = game_of(&rt, rt.alloc(), SET_UP, part.0);
+        assert!(rt; stands_after(&rt, &game, *part), "row {row}");
+    }
+}
+
+#[test]
+fn moves_of_a_record_are_undone(rt: HostRuntime) {
+    let mut game = game_of(&rt, rt.alloc(), SET_UP, Some(2));
     assert!(rt; game.undo().is_some());
     assert!(rt; game.undo().is_none());
 }
@@ -235,19 +234,22 @@ fn the_rule_of_a_record(rt: HostRuntime) {
     }
 }
 
+/// Asserts what a game is after a part of a short record, and that it is vacant where the whole of
+/// it is refused.
+fn replays_short(rt: &impl Abort, game: &mut Game<Global>, short: &Collection<'_, Global>) {
+    assert!(rt; replay_on(game, short, Some(3)).is_ok());
+    assert!(rt; game.size().lines() == 2 && game.move_count() == 2 && game.komi() == 0);
+    assert!(rt; stone(rt, game, b"a2") == Some(Colour::Black));
+    let why = RecordError::Illegal(4, PlayError::Repeats(3));
+    assert!(rt; replay_on(game, short, None) == Err(why));
+    assert!(rt; game.is_vacant());
+}
+
 #[test]
 fn replay_in_place(rt: HostRuntime) {
-    let alloc = rt.alloc();
-    let mut game = game_of(&rt, alloc, SET_UP, None);
-    let short = read(alloc, REPEATING).expect(&rt, "a record");
-    assert!(rt; replay_on(&mut game, &short, Some(3)).is_ok());
-    assert!(rt; game.size().lines() == 2 && game.move_count() == 2 && game.komi() == 0);
-    assert!(rt; stone(&rt, &game, b"a2") == Some(Colour::Black));
-    let why = replay_on(&mut game, &short, None)
-        .err()
-        .expect(&rt, "a refusal");
-    assert!(rt; why == RecordError::Illegal(4, PlayError::Repeats(3)));
-    assert!(rt; game.is_vacant());
+    let mut game = game_of(&rt, rt.alloc(), SET_UP, None);
+    let short = read(rt.alloc(), REPEATING).expect(&rt, "a record");
+    replays_short(&rt, &mut game, &short);
 }
 
 /// Writes the record of a game.
@@ -255,61 +257,69 @@ fn written(game: &Game<Global>, writer: &mut Writer<Global>) -> Result<(), Write
     write_record(game, writer)
 }
 
-/// The text that is written of a record's game, if the record has one.
-pub(crate) fn is_written_as(rt: &impl Abort, alloc: Global, source: &[u8], text: &[u8]) {
-    let game = game_of(rt, alloc, source, None);
+/// Whether this text is written of a game, however the writer cuts it.
+fn writes(game: &Game<Global>, alloc: Global, text: &[u8]) -> bool {
     for most in [1, 3, 4_096] {
         let mut writer = Writer::new(alloc).in_pieces_of(most);
-        assert!(rt; written(&game, &mut writer) == Ok(()));
-        assert!(rt; writer.bytes() == text);
+        if written(game, &mut writer) != Ok(()) || writer.bytes() != text {
+            return false;
+        }
     }
+    true
 }
+
+/// Whether this text is written of a record's game, if the record has one.
+pub(crate) fn is_written_as(rt: &impl Abort, alloc: Global, source: &[u8], text: &[u8]) -> bool {
+    let game = game_of(rt, alloc, source, None);
+    writes(&game, alloc, text)
+}
+
+/// Records, and what is written of their games.
+const PRINTED: &[(&[u8], &[u8])] = &[
+    (
+        b"(;SZ[9]KM[6.5]AB[cg][gc];W[ee];B[])",
+        b"(;GM[1]FF[4]SZ[9]KM[6.5]PL[W]AB[cg][gc];W[ee];B[])\n",
+    ),
+    (
+        b"(;GM[1]FF[4]SZ[9]KM[6.5]PL[W]AB[cg][gc];W[ee];B[])\n",
+        b"(;GM[1]FF[4]SZ[9]KM[6.5]PL[W]AB[cg][gc];W[ee];B[])\n",
+    ),
+    (
+        b"(;SZ[3]AB[cc:aa]AE[ bb ][])",
+        b"(;GM[1]FF[4]SZ[3]KM[0]PL[W]AB[ac][bc][cc][ab][cb][aa][ba][ca])\n",
+    ),
+    (
+        b"(;SZ[4]AW[][ ]AB[da:aa]AW[ab:\tad])",
+        b"(;GM[1]FF[4]SZ[4]KM[0]PL[B]AB[aa][ba][ca][da]AW[ad][ac][ab])\n",
+    ),
+    (
+        b"(;SZ[3]AB[aa:ca][ac:ac]AE[ca:ac]AW[ba][bb]AE[bb:bb])",
+        b"(;GM[1]FF[4]SZ[3]KM[0]PL[B]AW[ba])\n",
+    ),
+];
 
 #[test]
 fn print_the_record(rt: HostRuntime) {
-    let text = b"(;GM[1]FF[4]SZ[9]KM[6.5]PL[W]AB[cg][gc];W[ee];B[])\n";
-    is_written_as(
-        &rt,
-        rt.alloc(),
-        b"(;SZ[9]KM[6.5]AB[cg][gc];W[ee];B[])",
-        text,
-    );
-    is_written_as(&rt, rt.alloc(), text, text);
+    for (number, (source, text)) in PRINTED.iter().enumerate() {
+        assert!(rt;
+            is_written_as(&rt, rt.alloc(), source, text),
+            "row {number}"
+        );
+    }
 }
 
-#[test]
-fn set_up_by_rectangles(rt: HostRuntime) {
-    let alloc = rt.alloc();
-    is_written_as(
-        &rt,
-        alloc,
-        b"(;SZ[3]AB[cc:aa]AE[ bb ][])",
-        b"(;GM[1]FF[4]SZ[3]KM[0]PL[W]AB[ac][bc][cc][ab][cb][aa][ba][ca])\n",
-    );
-    is_written_as(
-        &rt,
-        alloc,
-        b"(;SZ[4]AW[][ ]AB[da:aa]AW[ab:\tad])",
-        b"(;GM[1]FF[4]SZ[4]KM[0]PL[B]AB[aa][ba][ca][da]AW[ad][ac][ab])\n",
-    );
-    is_written_as(
-        &rt,
-        alloc,
-        b"(;SZ[3]AB[aa:ca][ac:ac]AE[ca:ac]AW[ba][bb]AE[bb:bb])",
-        b"(;GM[1]FF[4]SZ[3]KM[0]PL[B]AW[ba])\n",
-    );
-}
+/// Records whose second node has a malformed value.
+const MALFORMED: &[&[u8]] = &[
+    b"(;SZ[3];AB[aa:cc][]AE[aa][ba][dd][ca])",
+    b"(;SZ[3];AE[aa:cc][aa:])",
+    b"(;SZ[3]AB[bb];AW[aa:ab][a];B[])",
+];
 
 #[test]
 fn set_up_by_malformed_values(rt: HostRuntime) {
-    let alloc = rt.alloc();
-    for source in [
-        b"(;SZ[3];AB[aa:cc][]AE[aa][ba][dd][ca])".as_slice(),
-        b"(;SZ[3];AE[aa:cc][aa:])".as_slice(),
-        b"(;SZ[3]AB[bb];AW[aa:ab][a];B[])".as_slice(),
-    ] {
-        let refusal = replayed(&rt, alloc, source, None).err();
-        assert!(rt; refusal == Some(RecordError::BadValue(1)));
+    let why = RecordError::BadValue(1);
+    for (number, source) in MALFORMED.iter().enumerate() {
+        assert!(rt; is_refused(&rt, rt.alloc(), source, why), "row {number}");
     }
 }
 
@@ -318,74 +328,45 @@ fn judged(rt: &impl Abort, alloc: Global, source: &[u8]) -> Result<Verdict, Reco
     judge(alloc, &collection)
 }
 
-/// Asserts the verdict on a record.
-pub(crate) fn has_verdict(
-    rt: &impl Abort,
-    alloc: Global,
-    source: &[u8],
-    moves: usize,
-    score: &str,
-    stated: Stated,
-) {
+/// How many moves a record has, its score, and what it states of that.
+pub(crate) type Judged = (usize, &'static str, Stated);
+
+/// Whether this is the verdict on a record.
+pub(crate) fn has_verdict(rt: &impl Abort, alloc: Global, source: &[u8], expected: Judged) -> bool {
     let verdict = judged(rt, alloc, source).expect(rt, "a verdict");
-    assert_eq!(rt; verdict.moves, moves);
-    assert!(rt; score_text(verdict.margin).as_str() == score);
-    assert!(rt; verdict.stated == stated);
+    let (moves, score, stated) = expected;
+    verdict.moves == moves
+        && score_text(verdict.margin).as_str() == score
+        && verdict.stated == stated
 }
+
+/// Records, and the verdicts on them.
+const VERDICTS: &[(&[u8], Judged)] = &[
+    (
+        b"(;GM[1]SZ[9]KM[6.5]RE[B+74.5];B[ee])",
+        (1, "B+74.5", Stated::Agrees),
+    ),
+    (b"(;SZ[9]KM[0.5]RE[W+0.5])", (0, "W+0.5", Stated::Agrees)),
+    (b"(;SZ[9]KM[0.5]RE[ Draw ])", (0, "W+0.5", Stated::Differs)),
+    (b"(;SZ[9]KM[0.5]RE[B+R])", (0, "W+0.5", Stated::None)),
+    (b"(;SZ[2]AB[aa:bb]AE[ab])", (0, "B+4", Stated::None)),
+    (b"(;SZ[2]AB[aa:bb]AE[ab];W[ab])", (1, "W+4", Stated::None)),
+];
 
 #[test]
 fn judge_a_record(rt: HostRuntime) {
-    let alloc = rt.alloc();
-    has_verdict(
-        &rt,
-        alloc,
-        b"(;GM[1]SZ[9]KM[6.5]RE[B+74.5];B[ee])",
-        1,
-        "B+74.5",
-        Stated::Agrees,
-    );
+    for (number, (source, verdict)) in VERDICTS.iter().enumerate() {
+        assert!(rt;
+            has_verdict(&rt, rt.alloc(), source, *verdict),
+            "row {number}"
+        );
+    }
+}
+
+#[test]
+fn no_verdict_on_a_repetition(rt: HostRuntime) {
     let why = RecordError::Illegal(4, PlayError::Repeats(3));
-    assert!(rt; judged(&rt, alloc, REPEATING) == Err(why));
-    has_verdict(
-        &rt,
-        alloc,
-        b"(;SZ[9]KM[0.5]RE[W+0.5])",
-        0,
-        "W+0.5",
-        Stated::Agrees,
-    );
-    has_verdict(
-        &rt,
-        alloc,
-        b"(;SZ[9]KM[0.5]RE[ Draw ])",
-        0,
-        "W+0.5",
-        Stated::Differs,
-    );
-    has_verdict(
-        &rt,
-        alloc,
-        b"(;SZ[9]KM[0.5]RE[B+R])",
-        0,
-        "W+0.5",
-        Stated::None,
-    );
-    has_verdict(
-        &rt,
-        alloc,
-        b"(;SZ[2]AB[aa:bb]AE[ab])",
-        0,
-        "B+4",
-        Stated::None,
-    );
-    has_verdict(
-        &rt,
-        alloc,
-        b"(;SZ[2]AB[aa:bb]AE[ab];W[ab])",
-        1,
-        "W+4",
-        Stated::None,
-    );
+    assert!(rt; judged(&rt, rt.alloc(), REPEATING) == Err(why));
 }
 
 /// What a replay of a record tells.
@@ -451,26 +432,37 @@ fn each_request_for_memory_refused(rt: HostRuntime) {
     each_refused(&rt, rt.alloc(), true);
 }
 
-/// Whether a replay in place comes to its end with this allocator. Where memory was wanted the game
-/// is vacant, and replays the record then.
-fn replays_in_place(rt: &impl Abort, failing: &Failing<Global>, ample: Global) -> bool {
-    let mut game = Game::new(failing, Size::new(9).expect(rt, "a size"));
-    let collection = match read(failing, SET_UP) {
-        Ok(collection) => collection,
+/// Replays the record with stones set up, once more where memory was wanted, which leaves the game
+/// vacant. Whether it wasn't.
+fn replays<A: Allocator + Copy>(
+    rt: &impl Abort,
+    game: &mut Game<A>,
+    collection: &Collection<'_, A>,
+) -> bool {
+    let result = replay_on(game, collection, None);
+    if result.is_ok() {
+        return true;
+    }
+    assert!(rt; result == Err(RecordError::Memory));
+    assert!(rt; game.is_vacant() && game.area() == Area { black: 0, white: 0 });
+    assert!(rt; replay_on(game, collection, None) == Ok(()));
+    false
+}
+
+/// Whether a replay in place comes to its end with this allocator.
+fn replays_in_place<A: Allocator + Copy>(rt: &impl Abort, alloc: A) -> bool {
+    match read(alloc, SET_UP) {
+        Ok(collection) => {
+            let mut game = Game::new(alloc, Size::new(9).expect(rt, "a size"));
+            let done = replays(rt, &mut game, &collection);
+            assert!(rt; game.move_count() == 2 && game.margin() == 200 - 100 - 550);
+            done
+        }
         Err(why) => {
             assert!(rt; why == SgfError::Memory);
-            return false;
+            false
         }
-    };
-    let result = replay_on(&mut game, &collection, None);
-    if result.is_err() {
-        assert!(rt; result == Err(RecordError::Memory));
-        assert!(rt; game.is_vacant() && game.area() == Area { black: 0, white: 0 });
-        assert!(rt; replay_on(&mut game, &collection, None) == Ok(()));
     }
-    let twin = game_of(rt, ample, SET_UP, None);
-    assert!(rt; game.move_count() == twin.move_count() && game.margin() == twin.margin());
-    result.is_ok()
 }
 
 #[test]
@@ -478,7 +470,7 @@ fn each_request_of_a_replay_in_place(rt: HostRuntime) {
     let mut requests = 0u64;
     for number in 1..200u64 {
         let failing = Failing::new(rt.alloc(), number);
-        let done = replays_in_place(&rt, &failing, rt.alloc());
+        let done = replays_in_place(&rt, &failing);
         assert!(rt; done == failing.waits(), "request {number}");
         if done {
             requests = number - 1;

@@ -9,32 +9,41 @@ const SAMPLE: &[u8] = b"x(;GM[1] FF[4] ;B[aa](;W[bb])(;W[cc]C[a\\]b]))";
 
 const TIDY: &[u8] = b"(;GM[1]FF[4];B[aa](;W[bb])(;W[cc]C[a\\]b]))\n";
 
-/// Asserts what a record is written as.
-pub(crate) fn tidied(rt: &impl Abort, alloc: Global, source: &[u8], text: &[u8]) {
-    Tool::Tidy.writes(rt, alloc, source, text);
-}
-
-/// Asserts what a source is refused with.
-fn refused(rt: &impl Abort, alloc: Global, source: &[u8], why: SgfError) {
-    Tool::Tidy.fails(rt, alloc, Reader::new(source), ToolError::Sgf(why));
-}
+/// Records, and what they are written as.
+const TIDIED: &[(&[u8], &[u8])] = &[
+    (SAMPLE, TIDY),
+    (TIDY, TIDY),
+    (b"(;B[aa])x(;W[bb])", b"(;B[aa])\n"),
+    (b"(;CoPyright [x] [y])(;)", b"(;CP[x][y])\n(;)\n"),
+];
 
 #[test]
 fn tidy_a_record(rt: HostRuntime) {
-    let alloc = rt.alloc();
-    assert!(rt; SAMPLE.len() == 45);
-    tidied(&rt, alloc, SAMPLE, TIDY);
-    tidied(&rt, alloc, TIDY, TIDY);
-    tidied(&rt, alloc, b"(;B[aa])x(;W[bb])", b"(;B[aa])\n");
-    tidied(
-        &rt,
-        alloc,
-        b"(;CoPyright [x] [y])(;)",
-        b"(;CP[x][y])\n(;)\n",
-    );
-    refused(&rt, alloc, SAMPLE.split_at(44).0, SgfError::EndInside(44));
-    refused(&rt, alloc, b"", SgfError::NoTree);
-    refused(&rt, alloc, b"(;B[aa]7)", SgfError::Unexpected(7));
+    for (number, (source, text)) in TIDIED.iter().enumerate() {
+        assert!(rt; Tool::Tidy.writes(rt.alloc(), source, text), "row {number}");
+    }
+}
+
+/// Whether a source is refused with this.
+fn is_refused(alloc: Global, source: &[u8], why: SgfError) -> bool {
+    Tool::Tidy.fails(alloc, Reader::new(source), ToolError::Sgf(why))
+}
+
+/// Inputs that spell no record, the first of them the sample without its last byte, and why.
+const NO_RECORDS: &[(&[u8], SgfError)] = &[
+    (
+        b"x(;GM[1] FF[4] ;B[aa](;W[bb])(;W[cc]C[a\\]b])",
+        SgfError::EndInside(44),
+    ),
+    (b"", SgfError::NoTree),
+    (b"(;B[aa]7)", SgfError::Unexpected(7)),
+];
+
+#[test]
+fn inputs_without_a_record(rt: HostRuntime) {
+    for (number, (source, why)) in NO_RECORDS.iter().enumerate() {
+        assert!(rt; is_refused(rt.alloc(), source, *why), "row {number}");
+    }
 }
 
 /// A tree behind so many spaces.
@@ -56,7 +65,7 @@ fn tree_alone(rt: &impl Abort, alloc: Global, spaces: usize) {
 /// Asserts that a tree behind so many spaces is too long.
 fn too_long(rt: &impl Abort, alloc: Global, spaces: usize) {
     let source = tree_behind(alloc, spaces).expect(rt, "memory");
-    refused(rt, alloc, source.as_slice(), SgfError::TooLong);
+    assert!(rt; is_refused(alloc, source.as_slice(), SgfError::TooLong));
 }
 
 /// How many pulls of 4096 bytes are made of a tree behind so many spaces, which is too long.
@@ -88,45 +97,33 @@ fn each_request_for_memory_refused(rt: HostRuntime) {
     assert_eq!(rt; requests, 1);
 }
 
-#[test]
-fn texts_and_statuses(rt: HostRuntime) {
-    let alloc = rt.alloc();
-    told(
-        &rt,
-        alloc,
-        ToolError::Sgf(SgfError::NoTree),
-        "no game tree",
-        1,
-    );
-    told(
-        &rt,
-        alloc,
+/// Faults, their texts, and the statuses that the program ends with.
+const TEXTS: &[(ToolError, &str, u8)] = &[
+    (ToolError::Sgf(SgfError::NoTree), "no game tree", 1),
+    (
         ToolError::Sgf(SgfError::EndInside(44)),
         "record ends inside a tree at byte 44",
         1,
-    );
-    told(
-        &rt,
-        alloc,
+    ),
+    (
         ToolError::Sgf(SgfError::Unexpected(7)),
         "unexpected byte at 7",
         1,
-    );
-    told(
-        &rt,
-        alloc,
+    ),
+    (
         ToolError::Sgf(SgfError::TooDeep(2_000)),
         "too deep at byte 2000",
         1,
-    );
-    told(
-        &rt,
-        alloc,
-        ToolError::Sgf(SgfError::TooLong),
-        "record too long",
-        1,
-    );
-    told(&rt, alloc, ToolError::Read, "read fault", 3);
-    told(&rt, alloc, ToolError::Write, "write fault", 3);
-    told(&rt, alloc, ToolError::Memory, "out of memory", 3);
+    ),
+    (ToolError::Sgf(SgfError::TooLong), "record too long", 1),
+    (ToolError::Read, "read fault", 3),
+    (ToolError::Write, "write fault", 3),
+    (ToolError::Memory, "out of memory", 3),
+];
+
+#[test]
+fn texts_and_statuses(rt: HostRuntime) {
+    for (fault, text, status) in TEXTS {
+        told(&rt, rt.alloc(), *fault, text, *status);
+    }
 }

@@ -27,72 +27,65 @@ impl Tool {
         }
     }
 
-    /// Asserts what is written of a source, however it is read and written, with one flush.
-    pub(crate) fn writes(self, rt: &impl Abort, alloc: Global, source: &[u8], text: &[u8]) {
+    /// Whether this is written of a source, however it is read and written, with one flush.
+    pub(crate) fn writes(self, alloc: Global, source: &[u8], text: &[u8]) -> bool {
         for (most, least) in [(1, 4_096), (2, 1), (7, 3), (4_096, 7)] {
             let reader = Reader::new(source).in_pieces_of(most);
             let writer = Writer::new(alloc).in_pieces_of(least);
-            self.writes_on(rt, alloc, reader, writer, text);
+            if !self.writes_on(alloc, reader, writer, text) {
+                return false;
+            }
         }
+        true
     }
 
-    /// Asserts what is written on a device, with one flush.
+    /// Whether this is written on a device, with one flush.
     fn writes_on(
         self,
-        rt: &impl Abort,
         alloc: Global,
         mut reader: Reader<'_>,
         mut writer: Writer<Global>,
         text: &[u8],
-    ) {
-        assert!(rt; self.run(alloc, &mut reader, &mut writer).is_ok());
-        assert!(rt; writer.bytes() == text);
-        assert!(rt; writer.flush_count() == 1);
+    ) -> bool {
+        self.run(alloc, &mut reader, &mut writer).is_ok()
+            && writer.bytes() == text
+            && writer.flush_count() == 1
     }
 
-    /// Asserts why nothing is written of what is read.
-    pub(crate) fn fails(
-        self,
-        rt: &impl Abort,
-        alloc: Global,
-        mut reader: Reader<'_>,
-        fault: ToolError,
-    ) {
+    /// Whether nothing is written of what is read, for this reason.
+    pub(crate) fn fails(self, alloc: Global, mut reader: Reader<'_>, fault: ToolError) -> bool {
         let mut writer = Writer::new(alloc);
-        assert!(rt; self.run(alloc, &mut reader, &mut writer) == Err(fault));
-        assert!(rt; writer.put_count() == 0 && writer.flush_count() == 0);
+        self.run(alloc, &mut reader, &mut writer) == Err(fault)
+            && writer.put_count() == 0
+            && writer.flush_count() == 0
     }
 
-    /// Asserts that a run fails at its writer, which takes so many bytes of the text.
-    fn takes(
-        self,
-        rt: &impl Abort,
-        alloc: Global,
-        source: &[u8],
-        mut writer: Writer<Global>,
-        front: &[u8],
-    ) {
-        let end = self.run(alloc, &mut Reader::new(source), &mut writer);
-        assert!(rt; end == Err(ToolError::Write));
-        assert!(rt; writer.bytes() == front);
+    /// Whether a run fails at its writer, which takes so many bytes of the text.
+    fn takes(self, alloc: Global, source: &[u8], mut writer: Writer<Global>, front: &[u8]) -> bool {
+        self.run(alloc, &mut Reader::new(source), &mut writer) == Err(ToolError::Write)
+            && writer.bytes() == front
     }
 
     /// Asserts what is left where each read, each write and the flush fails in turn.
     pub(crate) fn meets_faults(self, rt: &impl Abort, alloc: Global, source: &[u8], text: &[u8]) {
         for byte in 0..=source.len() as u64 {
             let reader = Reader::new(source).in_pieces_of(1).failing_at(byte + 1);
-            self.fails(rt, alloc, reader, ToolError::Read);
+            assert!(rt; self.fails(alloc, reader, ToolError::Read), "byte {byte}");
         }
         for byte in 0..text.len() {
             let front = text.split_at(byte).0;
-            let put = byte as u64 + 1;
-            let failing = Writer::new(alloc).in_pieces_of(1).failing_at_put(put);
-            self.takes(rt, alloc, source, failing, front);
-            let stalling = Writer::new(alloc).in_pieces_of(1).stalling_at_put(put);
-            self.takes(rt, alloc, source, stalling, front);
+            assert!(rt; self.breaks_off(alloc, source, front), "byte {byte}");
         }
         let unflushed = Writer::new(alloc).failing_at_flush(1);
-        self.takes(rt, alloc, source, unflushed, text);
+        assert!(rt; self.takes(alloc, source, unflushed, text));
+    }
+
+    /// Whether no more than a front is written, where the write behind it fails or takes nothing.
+    fn breaks_off(self, alloc: Global, source: &[u8], front: &[u8]) -> bool {
+        let put = (front.len() as u64).saturating_add(1);
+        let failing = Writer::new(alloc).in_pieces_of(1).failing_at_put(put);
+        let stalling = Writer::new(alloc).in_pieces_of(1).stalling_at_put(put);
+        self.takes(alloc, source, failing, front) && self.takes(alloc, source, stalling, front)
     }
 
     /// Whether a source is written with this allocator; that memory was wanted and nothing was
@@ -140,5 +133,5 @@ impl Tool {
 pub(crate) fn told(rt: &impl Abort, alloc: Global, fault: ToolError, text: &str, status: u8) {
     let words = format!(in alloc; "{fault}").expect(rt, "a text");
     assert!(rt; words.as_str() == text, "{words}");
-    assert!(rt; fault.status() == status);
+    assert!(rt; fault.status() == status, "{words}");
 }

@@ -46,17 +46,23 @@ fn comes_again(
     Ok(())
 }
 
+/// Takes each move back, and asserts that the board before it stands again.
+fn all_come_again(
+    rt: &impl Abort,
+    alloc: Global,
+    session: &mut Session<Global>,
+    boards: &[Vec<u8>],
+) {
+    for before in boards.iter().rev() {
+        let ended = comes_again(rt, alloc, session, before.as_slice());
+        assert!(rt; ended == Ok(()));
+    }
+}
+
 #[test]
 fn diagrams_and_chains_come_again(rt: HostRuntime) {
-    let alloc = rt.alloc();
-    let mut session = Session::new(alloc, Size::new(5).expect(&rt, "a size"));
-    let mut boards = boards_before_moves(&rt, alloc, &mut session).expect(&rt, "memory");
+    let mut session = Session::new(rt.alloc(), Size::new(5).expect(&rt, "a size"));
+    let boards = boards_before_moves(&rt, rt.alloc(), &mut session).expect(&rt, "memory");
     assert_eq!(rt; boards.len(), 60);
-    for _ in 0..60u32 {
-        if let Some(before) = boards.pop() {
-            let ended = comes_again(&rt, alloc, &mut session, before.as_slice());
-            assert!(rt; ended == Ok(()));
-        }
-    }
-    assert!(rt; boards.is_empty());
+    all_come_again(&rt, rt.alloc(), &mut session, boards.as_slice());
 }

@@ -2,9 +2,9 @@
 //! front of its answers. And what a session answers after a fault.
 use crate::rows::CAPTURE;
 use crate::scripts::ends;
-use crate::sessions::answered;
-use go_board::{Size, WriteFault};
-use goref::{Flow, Line, RunError, Session};
+use crate::sessions::{Answered, answers, fails_at};
+use go_board::Size;
+use goref::{RunError, Session};
 use std::alloc::Global;
 use std::process::Abort;
 use test_devices::{Reader, Writer};
@@ -30,7 +30,7 @@ fn first_answers(text: &[u8], count: usize) -> &[u8] {
     text
 }
 
-/// Asserts how a run of the script ends, and what it wrote.
+/// Whether a run of the script ends so, and wrote this.
 fn breaks_off(
     rt: &impl Abort,
     alloc: Global,
@@ -38,9 +38,26 @@ fn breaks_off(
     mut writer: Writer<Global>,
     fault: RunError,
     written: &[u8],
-) {
-    assert!(rt; ends(rt, alloc, reader, &mut writer) == Err(fault));
-    assert!(rt; writer.bytes() == written);
+) -> bool {
+    ends(rt, alloc, reader, &mut writer) == Err(fault) && writer.bytes() == written
+}
+
+/// Whether a run reads no further than this reader, and wrote this.
+fn stops_reading(rt: &impl Abort, alloc: Global, reader: Reader<'_>, written: &[u8]) -> bool {
+    breaks_off(
+        rt,
+        alloc,
+        reader,
+        Writer::new(alloc),
+        RunError::Read,
+        written,
+    )
+}
+
+/// Whether a run writes no further than this writer, and wrote this.
+fn stops_writing(rt: &impl Abort, alloc: Global, writer: Writer<Global>, written: &[u8]) -> bool {
+    let reader = Reader::new(CAPTURE.script);
+    breaks_off(rt, alloc, reader, writer, RunError::Write, written)
 }
 
 /// Those answers are written whose lines were read.
@@ -51,8 +68,10 @@ fn each_read_fails(rt: HostRuntime) {
         let read = script.split_at((pull as usize - 1).min(script.len())).0;
         let written = first_answers(CAPTURE.answers, lines_in(read));
         let reader = Reader::new(script).in_pieces_of(1).failing_at(pull);
-        let writer = Writer::new(rt.alloc());
-        breaks_off(&rt, rt.alloc(), reader, writer, RunError::Read, written);
+        assert!(rt;
+            stops_reading(&rt, rt.alloc(), reader, written),
+            "read {pull}"
+        );
     }
 }
 
@@ -62,22 +81,30 @@ fn each_read_of_a_line_fails(rt: HostRuntime) {
     for pull in 1..=8u64 {
         let written = first_answers(CAPTURE.answers, pull as usize - 1);
         let reader = Reader::new(CAPTURE.script).in_lines().failing_at(pull);
-        let writer = Writer::new(rt.alloc());
-        breaks_off(&rt, rt.alloc(), reader, writer, RunError::Read, written);
+        assert!(rt;
+            stops_reading(&rt, rt.alloc(), reader, written),
+            "read {pull}"
+        );
     }
 }
 
+/// No more is written than a front of the answers, where the write of the byte behind it fails or
+/// takes nothing.
 #[test]
 fn each_write_fails(rt: HostRuntime) {
     let answers = CAPTURE.answers;
     for put in 1..=answers.len() as u64 {
         let written = answers.split_at((put as usize - 1).min(answers.len())).0;
         let failing = Writer::new(rt.alloc()).in_pieces_of(1).failing_at_put(put);
-        let reader = Reader::new(CAPTURE.script);
-        breaks_off(&rt, rt.alloc(), reader, failing, RunError::Write, written);
+        assert!(rt;
+            stops_writing(&rt, rt.alloc(), failing, written),
+            "write {put}"
+        );
         let stalling = Writer::new(rt.alloc()).in_pieces_of(1).stalling_at_put(put);
-        let reader = Reader::new(CAPTURE.script);
-        breaks_off(&rt, rt.alloc(), reader, stalling, RunError::Write, written);
+        assert!(rt;
+            stops_writing(&rt, rt.alloc(), stalling, written),
+            "write {put}"
+        );
     }
 }
 
@@ -85,9 +112,11 @@ fn each_write_fails(rt: HostRuntime) {
 fn each_flush_fails(rt: HostRuntime) {
     for flush in 1..=7u64 {
         let written = first_answers(CAPTURE.answers, flush as usize);
-        let reader = Reader::new(CAPTURE.script);
         let writer = Writer::new(rt.alloc()).failing_at_flush(flush);
-        breaks_off(&rt, rt.alloc(), reader, writer, RunError::Write, written);
+        assert!(rt;
+            stops_writing(&rt, rt.alloc(), writer, written),
+            "flush {flush}"
+        );
     }
 }
 
@@ -105,78 +134,73 @@ fn no_call_fails(rt: HostRuntime) {
     assert!(rt; writer.bytes() == CAPTURE.answers);
 }
 
-/// Asserts what a session answers to a line.
-fn is_answered(
-    rt: &impl Abort,
-    alloc: Global,
-    session: &mut Session<Global>,
-    line: &[u8],
-    text: &[u8],
-) {
-    let mut writer = Writer::new(alloc);
-    let end = answered(session, &Line::of(line), &mut writer);
-    assert!(rt; end == Ok(Flow::More));
-    assert!(rt; writer.bytes() == text);
+/// Lines on a board of two lines, one whose answer fails, and what is answered behind that.
+struct Broken {
+    before: &'static [Answered],
+    failing: Answered,
+    behind: &'static [Answered],
 }
 
-/// A session on two lines in which these lines were answered `=`.
-fn session_after(rt: &impl Abort, alloc: Global, lines: &[&[u8]]) -> Session<Global> {
-    let mut session = Session::new(alloc, Size::new(2).expect(rt, "a size"));
-    for line in lines {
-        is_answered(rt, alloc, &mut session, line, b"=\n\n");
+const DONE: &[u8] = b"=\n\n";
+
+/// A play whose answer fails stands.
+const PLAY: Broken = Broken {
+    before: &[(b"play b A1", DONE), (b"play w B1", DONE)],
+    failing: (b"play w A2", DONE),
+    behind: &[
+        (b"goref-chains", b"= W B1 : A1 B2\nW A2 : A1 B2\n\n"),
+        (b"undo", DONE),
+        (b"goref-chains", b"= B A1 : A2\nW B1 : B2\n\n"),
+    ],
+};
+
+/// An undo whose answer fails is done.
+const UNDO: Broken = Broken {
+    before: &[(b"play b A1", DONE), (b"play w B1", DONE)],
+    failing: (b"undo", DONE),
+    behind: &[(b"undo", DONE), (b"undo", b"? cannot undo\n\n")],
+};
+
+/// A list that fails changes nothing.
+const LIST: Broken = Broken {
+    before: &[
+        (b"play b A1", DONE),
+        (b"play w B1", DONE),
+        (b"play w A2", DONE),
+    ],
+    failing: (b"goref-chains", b"= W B1 : A1 B2\nW A2 : A1 B2\n\n"),
+    behind: &[
+        (b"goref-chains", b"= W B1 : A1 B2\nW A2 : A1 B2\n\n"),
+        (b"undo", DONE),
+    ],
+};
+
+/// Whether a session answers as a row says, where the answer fails at the write with this number.
+fn breaks(alloc: Global, session: &mut Session<Global>, row: &Broken, put: u64) -> bool {
+    answers(alloc, session, row.before)
+        && fails_at(alloc, session, row.failing, put)
+        && answers(alloc, session, row.behind)
+}
+
+/// Asserts what is answered before and behind an answer that fails at each write in turn.
+fn each_breaks(rt: &impl Abort, alloc: Global, row: &Broken) {
+    for put in 1..=row.failing.1.len() as u64 {
+        let mut session = Session::new(alloc, Size::new(2).expect(rt, "a size"));
+        assert!(rt; breaks(alloc, &mut session, row, put), "write {put}");
     }
-    session
-}
-
-/// Asserts that the answer to a line breaks off at a write with this number.
-fn fails_at(
-    rt: &impl Abort,
-    alloc: Global,
-    session: &mut Session<Global>,
-    line: &[u8],
-    put: u64,
-    text: &[u8],
-) {
-    let mut writer = Writer::new(alloc).in_pieces_of(1).failing_at_put(put);
-    assert!(rt; answered(session, &Line::of(line), &mut writer) == Err(WriteFault));
-    assert!(rt; text.starts_with(writer.bytes()));
-    assert_eq!(rt; writer.bytes().len() as u64 + 1, put);
 }
 
 #[test]
 fn a_play_whose_answer_fails_stands(rt: HostRuntime) {
-    let alloc = rt.alloc();
-    for put in 1..=3u64 {
-        let mut session = session_after(&rt, alloc, &[b"play b A1".as_slice(), b"play w B1"]);
-        fails_at(&rt, alloc, &mut session, b"play w A2", put, b"=\n\n");
-        let stands = b"= W B1 : A1 B2\nW A2 : A1 B2\n\n".as_slice();
-        is_answered(&rt, alloc, &mut session, b"goref-chains", stands);
-        is_answered(&rt, alloc, &mut session, b"undo", b"=\n\n");
-        let before = b"= B A1 : A2\nW B1 : B2\n\n".as_slice();
-        is_answered(&rt, alloc, &mut session, b"goref-chains", before);
-    }
+    each_breaks(&rt, rt.alloc(), &PLAY);
 }
 
 #[test]
 fn an_undo_whose_answer_fails_is_done(rt: HostRuntime) {
-    let alloc = rt.alloc();
-    for put in 1..=3u64 {
-        let mut session = session_after(&rt, alloc, &[b"play b A1".as_slice(), b"play w B1"]);
-        fails_at(&rt, alloc, &mut session, b"undo", put, b"=\n\n");
-        is_answered(&rt, alloc, &mut session, b"undo", b"=\n\n");
-        is_answered(&rt, alloc, &mut session, b"undo", b"? cannot undo\n\n");
-    }
+    each_breaks(&rt, rt.alloc(), &UNDO);
 }
 
 #[test]
 fn a_list_that_fails_changes_nothing(rt: HostRuntime) {
-    let alloc = rt.alloc();
-    let text = b"= W B1 : A1 B2\nW A2 : A1 B2\n\n".as_slice();
-    for put in 1..=text.len() as u64 {
-        let plays = [b"play b A1".as_slice(), b"play w B1", b"play w A2"];
-        let mut session = session_after(&rt, alloc, &plays);
-        fails_at(&rt, alloc, &mut session, b"goref-chains", put, text);
-        is_answered(&rt, alloc, &mut session, b"goref-chains", text);
-        is_answered(&rt, alloc, &mut session, b"undo", b"=\n\n");
-    }
+    each_breaks(&rt, rt.alloc(), &LIST);
 }

@@ -4,11 +4,15 @@
 #[cfg(test)]
 mod again;
 #[cfg(test)]
+mod ample;
+#[cfg(test)]
 mod boards;
 #[cfg(test)]
 mod faults;
 #[cfg(test)]
 mod handicaps;
+#[cfg(test)]
+mod laws;
 #[cfg(test)]
 mod lines;
 #[cfg(test)]

@@ -1,9 +1,8 @@
-use crate::sessions::answered;
+use crate::sessions::answers_line;
 use go_board::Size;
 use goref::{Line, Session};
 use std::alloc::Global;
 use std::process::Abort;
-use test_devices::Writer;
 
 fn same(bytes: &[u8], text: &[u8]) -> bool {
     let line = Line::of(bytes);
@@ -20,132 +19,103 @@ fn filled(front: &[u8], byte: u8, count: u32, back: &[u8]) -> Line {
     line
 }
 
+/// Lines, and what is kept of them.
+const KEPT: &[(&[u8], &[u8])] = &[
+    (b"", b""),
+    (b"# note", b""),
+    (b" \t ", b""),
+    (b"na\r\x07me\r", b"name"),
+    (b"name#x", b"name"),
+    (b"\t12\t\tversion", b"12 version"),
+    (b"  play  b\tA1 \x7f # the corner", b"play b A1"),
+    (b"\xc3\xa9 \xff", b"\xc3\xa9 \xff"),
+];
+
 #[test]
 fn lines_as_sent(rt: HostRuntime) {
-    assert!(rt; same(b"", b""));
-    assert!(rt; same(b"# note", b""));
-    assert!(rt; same(b" \t ", b""));
-    assert!(rt; same(b"na\r\x07me\r", b"name"));
-    assert!(rt; same(b"name#x", b"name"));
-    assert!(rt; same(b"\t12\t\tversion", b"12 version"));
-    assert!(rt; same(b"  play  b\tA1 \x7f # the corner", b"play b A1"));
-    assert!(rt; same(b"\xc3\xa9 \xff", b"\xc3\xa9 \xff"));
+    for (row, (bytes, text)) in KEPT.iter().enumerate() {
+        assert!(rt; same(bytes, text), "row {row}");
+    }
 }
+
+/// A front, a byte, so many copies of it, and a back.
+type Filled = (&'static [u8], u8, u32, &'static [u8]);
+
+/// Whether a line is long, and how many bytes are kept of it.
+const LONG: &[(Filled, bool, usize)] = &[
+    ((b"play ", b'a', 8_188, b""), true, 8_192),
+    ((b"play ", b'a', 8_187, b""), false, 8_192),
+    ((b"play ", b'a', 8_187, b"   # and more"), false, 8_192),
+    ((b"9 play ", b'a', 8_186, b""), true, 8_192),
+    ((b"", 7, 10_000, b""), false, 0),
+    ((b"", b' ', 1_000_000, b""), false, 0),
+    ((b"", b'a', 8_192, b""), false, 8_192),
+    ((b"", b'a', 8_193, b""), true, 8_192),
+    ((b"", b'1', 5_000, b""), false, 5_000),
+    ((b"2147483648 ", b'a', 5_000, b""), false, 5_011),
+    ((b"", b'1', 9_000, b""), true, 8_192),
+    ((b"2147483648 ", b'a', 9_000, b""), true, 8_192),
+];
 
 #[test]
 fn long_lines(rt: HostRuntime) {
-    let long = filled(b"play ", b'a', 8_188, b"");
-    assert!(rt; long.is_long());
-    assert_eq!(rt; long.text().len(), 8_192);
-    let fits = filled(b"play ", b'a', 8_187, b"");
-    assert!(rt; !fits.is_long());
-    assert_eq!(rt; fits.text().len(), 8_192);
-    let fits = filled(b"play ", b'a', 8_187, b"   # and more");
-    assert!(rt; !fits.is_long());
+    for (row, ((front, byte, count, back), long, length)) in LONG.iter().enumerate() {
+        let line = filled(front, *byte, *count, back);
+        assert!(rt; line.is_long() == *long, "row {row}");
+        assert!(rt; line.text().len() == *length, "row {row}");
+    }
+}
+
+#[test]
+fn the_front_of_a_long_line(rt: HostRuntime) {
     let with_id = filled(b"9 play ", b'a', 8_186, b"");
-    assert!(rt; with_id.is_long());
     assert!(rt; with_id.text().starts_with(b"9 play a"));
 }
 
 #[test]
-fn hostile_lines(rt: HostRuntime) {
-    let bells = filled(b"", 7, 10_000, b"");
-    assert!(rt; bells.text().is_empty() && !bells.is_long());
-    let spaces = filled(b"", b' ', 1_000_000, b"");
-    assert!(rt; spaces.text().is_empty() && !spaces.is_long());
-    assert!(rt; !filled(b"", b'a', 8_192, b"").is_long());
-    assert!(rt; filled(b"", b'a', 8_193, b"").is_long());
-    assert!(rt; !filled(b"", b'1', 5_000, b"").is_long());
-    assert!(rt; !filled(b"2147483648 ", b'a', 5_000, b"").is_long());
-    assert!(rt; filled(b"", b'1', 9_000, b"").is_long());
-    assert!(rt; filled(b"2147483648 ", b'a', 9_000, b"").is_long());
+fn a_line_is_used_again(rt: HostRuntime) {
     let mut reused = filled(b"", b'a', 9_000, b"#");
     reused.clear();
     reused.extend(b"quit");
     assert!(rt; reused.text() == b"quit".as_slice() && !reused.is_long());
 }
 
-/// Asserts how a line is answered over an empty board.
-fn answers(rt: &impl Abort, alloc: Global, line: &Line, text: &[u8]) {
+/// Whether a line is answered so over an empty board.
+fn answers(rt: &impl Abort, alloc: Global, line: &Line, text: &[u8]) -> bool {
     let size = Size::new(19).expect(rt, "a size");
     let mut session = Session::new(alloc, size);
-    let mut writer = Writer::new(alloc);
-    assert!(rt; answered(&mut session, line, &mut writer).is_ok());
-    assert!(rt; writer.bytes() == text);
+    answers_line(alloc, &mut session, line, text)
 }
+
+/// Lines, and what they are answered.
+const ANSWERED: &[(Filled, &[u8])] = &[
+    ((b"play ", b'a', 8_188, b""), b"? line too long\n\n"),
+    ((b"play ", b'a', 8_187, b""), b"? syntax error\n\n"),
+    ((b"9 play ", b'a', 8_186, b""), b"?9 line too long\n\n"),
+    ((b"", b'a', 8_192, b""), b"? unknown command\n\n"),
+    ((b"", b'a', 8_193, b""), b"? line too long\n\n"),
+    ((b"", b'1', 5_000, b""), b"? unknown command\n\n"),
+    ((b"2147483648 ", b'a', 5_000, b""), b"? unknown command\n\n"),
+    ((b"", b'1', 9_000, b""), b"? line too long\n\n"),
+    ((b"2147483648 ", b'a', 9_000, b""), b"? line too long\n\n"),
+    ((b"", 7, 10_000, b""), b""),
+    ((b"", b' ', 1_000_000, b""), b""),
+    ((b"# note", b'#', 0, b""), b""),
+];
 
 #[test]
 fn long_lines_are_answered(rt: HostRuntime) {
-    let alloc = rt.alloc();
-    answers(
-        &rt,
-        alloc,
-        &filled(b"play ", b'a', 8_188, b""),
-        b"? line too long\n\n",
-    );
-    answers(
-        &rt,
-        alloc,
-        &filled(b"play ", b'a', 8_187, b""),
-        b"? syntax error\n\n",
-    );
-    answers(
-        &rt,
-        alloc,
-        &filled(b"9 play ", b'a', 8_186, b""),
-        b"?9 line too long\n\n",
-    );
-    answers(
-        &rt,
-        alloc,
-        &filled(b"", b'a', 8_192, b""),
-        b"? unknown command\n\n",
-    );
-    answers(
-        &rt,
-        alloc,
-        &filled(b"", b'a', 8_193, b""),
-        b"? line too long\n\n",
-    );
-    answers(
-        &rt,
-        alloc,
-        &filled(b"", b'1', 5_000, b""),
-        b"? unknown command\n\n",
-    );
-    answers(
-        &rt,
-        alloc,
-        &filled(b"2147483648 ", b'a', 5_000, b""),
-        b"? unknown command\n\n",
-    );
+    for (row, ((front, byte, count, back), text)) in ANSWERED.iter().enumerate() {
+        let line = filled(front, *byte, *count, back);
+        assert!(rt; answers(&rt, rt.alloc(), &line, text), "row {row}");
+    }
+}
+
+#[test]
+fn a_long_comment(rt: HostRuntime) {
     let mut commented = filled(b"play ", b'a', 8_187, b"   #");
     for _ in 0..9_000u16 {
         commented.push(b'x');
     }
-    answers(&rt, alloc, &commented, b"? syntax error\n\n");
-}
-
-#[test]
-fn long_lines_without_an_id(rt: HostRuntime) {
-    let alloc = rt.alloc();
-    answers(
-        &rt,
-        alloc,
-        &filled(b"", b'1', 9_000, b""),
-        b"? line too long\n\n",
-    );
-    answers(
-        &rt,
-        alloc,
-        &filled(b"2147483648 ", b'a', 9_000, b""),
-        b"? line too long\n\n",
-    );
-}
-
-#[test]
-fn silent_lines(rt: HostRuntime) {
-    answers(&rt, rt.alloc(), &filled(b"", 7, 10_000, b""), b"");
-    answers(&rt, rt.alloc(), &filled(b"", b' ', 1_000_000, b""), b"");
-    answers(&rt, rt.alloc(), &Line::of(b"# note"), b"");
+    assert!(rt; answers(&rt, rt.alloc(), &commented, b"? syntax error\n\n"));
 }

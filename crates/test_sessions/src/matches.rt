@@ -70,7 +70,31 @@ fn goref_moves(
     Ok(vertex)
 }
 
-/// The opponent's move for White: the last of its legal plays, or a pass late in the game.
+/// The opponent's choice for White, behind a space: the last of its legal plays, or a pass late in
+/// the game.
+fn choice(legal: &[u8], moves: usize) -> &[u8] {
+    if moves < 30 && !legal.is_empty() {
+        last_word(legal)
+    } else {
+        b" pass"
+    }
+}
+
+/// Plays for White what stands behind a space, which goref must accept.
+fn plays_white(
+    rt: &impl Abort,
+    alloc: Global,
+    session: &mut Session<Global>,
+    word: &[u8],
+) -> Result<(), AllocError> {
+    let mut line = b"play w".to_vec(alloc)?;
+    line.extend_from_slice(word)?;
+    let answer = told(rt, alloc, session, line.as_slice())?;
+    assert!(rt; answer.is_empty());
+    Ok(())
+}
+
+/// The opponent's move for White.
 fn opponent_moves(
     rt: &impl Abort,
     alloc: Global,
@@ -78,17 +102,11 @@ fn opponent_moves(
     judge: &mut Game<Global>,
 ) -> Result<Vertex, AllocError> {
     let legal = told(rt, alloc, session, b"goref-legal w")?;
-    assert!(rt; legal.as_slice() == legal_for_white(rt, alloc, judge)?.as_slice());
-    let word = if judge.move_count() < 30 && !legal.is_empty() {
-        last_word(legal.as_slice())
-    } else {
-        b" pass".as_slice()
-    };
-    let mut line = b"play w".to_vec(alloc)?;
-    line.extend_from_slice(word)?;
-    assert!(rt; told(rt, alloc, session, line.as_slice())?.is_empty());
-    let read = read_vertex(bare(word), judge.size());
-    Ok(read.expect(rt, "a vertex"))
+    let expected = legal_for_white(rt, alloc, judge)?;
+    assert!(rt; legal.as_slice() == expected.as_slice());
+    let word = choice(legal.as_slice(), judge.move_count());
+    plays_white(rt, alloc, session, word)?;
+    Ok(read_vertex(bare(word), judge.size()).expect(rt, "a vertex"))
 }
 
 /// Asserts that goref's board is the judge's.
@@ -147,27 +165,26 @@ fn same_score(rt: &impl Abort, alloc: Global, session: &mut Session<Global>, jud
     assert!(rt; bare(score.as_slice()) == score_text(judge.margin()).as_bytes());
 }
 
-/// Asserts that goref takes a move back.
-fn undoes(rt: &impl Abort, alloc: Global, session: &mut Session<Global>) {
-    let answer = told(rt, alloc, session, b"undo").expect(rt, "memory");
-    assert!(rt; answer.is_empty());
-}
-
-#[test]
-fn a_game_to_its_end(rt: HostRuntime) {
-    let alloc = rt.alloc();
-    let size = Size::new(5).expect(&rt, "a size");
-    let mut session = Session::new(alloc, size);
-    let mut judge = Game::new(alloc, size);
-    plays_to_the_end(&rt, alloc, &mut session, &mut judge);
-    assert!(rt; judge.move_count() > 30);
-    same_score(&rt, alloc, &mut session, &judge);
+/// Asserts that goref takes each move back, to the board of the judge.
+fn undoes(rt: &impl Abort, alloc: Global, session: &mut Session<Global>, judge: &mut Game<Global>) {
     for _ in 0..300u32 {
         if judge.undo().is_none() {
             break;
         }
-        undoes(&rt, alloc, &mut session);
-        same_board(&rt, &session, &judge);
+        let answer = told(rt, alloc, session, b"undo").expect(rt, "memory");
+        assert!(rt; answer.is_empty());
+        same_board(rt, session, judge);
     }
     assert_eq!(rt; judge.move_count(), 0);
+}
+
+#[test]
+fn a_game_to_its_end(rt: HostRuntime) {
+    let size = Size::new(5).expect(&rt, "a size");
+    let mut session = Session::new(rt.alloc(), size);
+    let mut judge = Game::new(rt.alloc(), size);
+    plays_to_the_end(&rt, rt.alloc(), &mut session, &mut judge);
+    assert!(rt; judge.move_count() > 30);
+    same_score(&rt, rt.alloc(), &mut session, &judge);
+    undoes(&rt, rt.alloc(), &mut session, &mut judge);
 }

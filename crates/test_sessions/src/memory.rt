@@ -27,22 +27,29 @@ fn meets_request(rt: &impl Abort, alloc: Global, row: Row, number: u64) -> bool 
     let mut shelf = OneFile::named(b"f", &failing, Gift::Bytes(HANDICAP_GAME));
     let size = Size::new(19).expect(rt, "a size");
     let end = run_within(&failing, READS, size, &mut reader, &mut writer, &mut shelf);
-    assert!(rt; end == Ok(()), "request {number}");
-    assert!(rt; writer.kept() == row.answers, "request {number}");
     let is_met = !failing.waits();
-    let refusals = u32::from(is_met);
-    assert_eq!(rt; writer.refusals(), refusals, "request {number}");
-    if row.script.starts_with(b"loadsgf f") {
-        assert_eq!(rt; shelf.asked(), 1 + refusals as usize);
-    } else {
-        assert_eq!(rt; shelf.asked(), 0);
-    }
+    let holds = end == Ok(())
+        && writer.kept() == row.answers
+        && writer.refusals() == u32::from(is_met)
+        && shelf.asked() == fetches(row, is_met);
+    let name = row.name;
+    assert!(rt; holds, "{name}, request {number}");
     is_met
+}
+
+/// How often the file of a row is fetched: once more where a request was refused.
+fn fetches(row: Row, is_met: bool) -> usize {
+    if row.script.starts_with(b"loadsgf f") {
+        1 + usize::from(is_met)
+    } else {
+        0
+    }
 }
 
 /// Asserts what a row is answered, whichever of its requests for memory is refused, until a run
 /// meets no refusal.
 fn each_refused(rt: &impl Abort, alloc: Global, row: Row) {
+    let name = row.name;
     let mut met = 0u32;
     for number in 1..100u64 {
         if !meets_request(rt, alloc, row, number) {
@@ -50,52 +57,27 @@ fn each_refused(rt: &impl Abort, alloc: Global, row: Row) {
         }
         met = met.wrapping_add(1);
     }
-    assert!(rt; met > 0 && met < 99, "{met} requests");
+    assert!(rt; met > 0 && met < 99, "{met} requests of {name}");
 }
 
-#[test]
-fn repetition_refused(rt: HostRuntime) {
-    each_refused(&rt, rt.alloc(), REPETITION);
-}
+/// Rows that ask for memory. That of a handicap after a pass asks for nothing but by the handicap,
+/// which is refused for the pass.
+const ROWS: &[Row] = &[
+    REPETITION,
+    KO,
+    KO_AFTER_PASSES,
+    HANDICAP,
+    HANDICAP_AFTER_PASS,
+    CHOICE_ON_TINY_BOARDS,
+    CHOICE_ON_TWO_LINES,
+    LOAD,
+    PRINTED,
+    FREE_HANDICAP,
+];
 
 #[test]
-fn ko(rt: HostRuntime) {
-    each_refused(&rt, rt.alloc(), KO);
-}
-
-#[test]
-fn ko_after_passes(rt: HostRuntime) {
-    each_refused(&rt, rt.alloc(), KO_AFTER_PASSES);
-}
-
-/// The second of the rows asks for nothing but by its handicap, which is refused for the pass.
-#[test]
-fn handicap_is_no_move(rt: HostRuntime) {
-    each_refused(&rt, rt.alloc(), HANDICAP);
-    each_refused(&rt, rt.alloc(), HANDICAP_AFTER_PASS);
-}
-
-#[test]
-fn choice_on_tiny_boards(rt: HostRuntime) {
-    each_refused(&rt, rt.alloc(), CHOICE_ON_TINY_BOARDS);
-}
-
-#[test]
-fn choice_on_two_lines(rt: HostRuntime) {
-    each_refused(&rt, rt.alloc(), CHOICE_ON_TWO_LINES);
-}
-
-#[test]
-fn load_a_record(rt: HostRuntime) {
-    each_refused(&rt, rt.alloc(), LOAD);
-}
-
-#[test]
-fn print_the_record(rt: HostRuntime) {
-    each_refused(&rt, rt.alloc(), PRINTED);
-}
-
-#[test]
-fn free_handicap(rt: HostRuntime) {
-    each_refused(&rt, rt.alloc(), FREE_HANDICAP);
+fn each_request_for_memory_refused(rt: HostRuntime) {
+    for row in ROWS {
+        each_refused(&rt, rt.alloc(), *row);
+    }
 }

@@ -16,11 +16,28 @@ const AFTER: &[u8] = b"showboard\ngoref-printsgf\ngoref-chains\ngoref-legal b\ng
     undo\nshowboard\ngoref-legal w\nundo\nshowboard\ngoref-legal b\nundo\nshowboard\nundo\nshowboard\n\
     undo\nshowboard\nundo\nshowboard\nundo\nshowboard\nundo\ngoref-printsgf\ngoref-legal w\n";
 
-/// A text behind another.
-fn joined(alloc: Global, front: &[u8], back: &[u8]) -> Result<Vec<u8>, AllocError> {
-    let mut text = front.to_vec(alloc)?;
-    text.extend_from_slice(back)?;
-    Ok(text)
+/// Three texts, one behind another.
+fn joined(alloc: Global, front: &[u8], text: &[u8], back: &[u8]) -> Result<Vec<u8>, AllocError> {
+    let mut whole = front.to_vec(alloc)?;
+    whole.extend_from_slice(text)?;
+    whole.extend_from_slice(back)?;
+    Ok(whole)
+}
+
+/// The answers in the midst of which a line is refused so, and all others are those of a session
+/// without it.
+fn with_refusal(
+    rt: &impl Abort,
+    alloc: Global,
+    gift: Gift<'_>,
+    refusal: &[u8],
+) -> Result<Vec<u8>, AllocError> {
+    let early = answers_over(rt, alloc, gift, BEFORE)?;
+    let without = joined(alloc, BEFORE, b"", AFTER)?;
+    let all = answers_over(rt, alloc, gift, without.as_slice())?;
+    assert!(rt; all.as_slice().starts_with(early.as_slice()));
+    let (_, late) = all.as_slice().split_at(early.len().min(all.len()));
+    joined(alloc, early.as_slice(), refusal, late)
 }
 
 /// Asserts how a line is answered in the midst of the game, and that all answers around it are
@@ -32,15 +49,8 @@ fn is_refused(
     line: &[u8],
     refusal: &[u8],
 ) -> Result<(), AllocError> {
-    let front = joined(alloc, BEFORE, line)?;
-    let script = joined(alloc, front.as_slice(), AFTER)?;
-    let without = joined(alloc, BEFORE, AFTER)?;
-    let early = answers_over(rt, alloc, gift, BEFORE)?;
-    let all = answers_over(rt, alloc, gift, without.as_slice())?;
-    assert!(rt; all.as_slice().starts_with(early.as_slice()));
-    let (_, late) = all.as_slice().split_at(early.len().min(all.len()));
-    let refused = joined(alloc, early.as_slice(), refusal)?;
-    let expected = joined(alloc, refused.as_slice(), late)?;
+    let script = joined(alloc, BEFORE, line, AFTER)?;
+    let expected = with_refusal(rt, alloc, gift, refusal)?;
     let answers = answers_over(rt, alloc, gift, script.as_slice())?;
     assert!(rt; answers.as_slice() == expected.as_slice());
     Ok(())
@@ -59,7 +69,7 @@ fn load_is_refused(
 #[test]
 fn the_game_before(rt: HostRuntime) -> Result<(), Fail> {
     let alloc = rt.alloc();
-    let script = joined(alloc, BEFORE, b"goref-printsgf\nplay w b2\n")?;
+    let script = joined(alloc, BEFORE, b"goref-printsgf\n", b"play w b2\n")?;
     let answers = answers_over(&rt, alloc, Gift::Missing, script.as_slice())?;
     assert!(rt;
         answers.as_slice()

@@ -102,6 +102,8 @@ impl Sink for Sifting<'_> {
 
     ghost failures = { λ writer. writer.failures };
 
+    ghost held = { λ _. 0 };
+
     fn put(&mut self, bytes: &[u8]) -> Result<usize, Failed> {
         if self.kept.extend_from_slice(bytes).is_err() {
             self.failures.tick();

@@ -1,7 +1,7 @@
-use crate::rows::{KO, KO_AFTER_PASSES};
-use crate::sessions::answered;
+use crate::rows::{KO, KO_AFTER_PASSES, Row};
+use crate::sessions::{answered, answers, fails_at};
 use go_board::Size;
-use goref::{Fetched, Flow, Line, RunError, Session, Shelf, run, run_within};
+use goref::{Fetched, Line, RunError, Session, Shelf, run, run_within};
 use std::alloc::{AllocError, Allocator, Global};
 use std::process::Abort;
 use std::test::Fail;
@@ -26,32 +26,44 @@ fn usual(rt: &impl Abort) -> Size {
     Size::new(19).expect(rt, "a board has so many lines")
 }
 
-/// Asserts that a script is answered by this text, however its bytes come in and the answers leave.
-pub(crate) fn says(rt: &impl Abort, alloc: Global, script: &[u8], answers: &[u8]) {
-    read_as(rt, alloc, Reader::new(script), answers);
-    read_as(rt, alloc, Reader::new(script).in_lines(), answers);
-    for most in [1, 2, 7] {
-        read_as(rt, alloc, Reader::new(script).in_pieces_of(most), answers);
+/// Whether a script is answered by this text, however its bytes come in and the answers leave.
+pub(crate) fn says(rt: &impl Abort, alloc: Global, script: &[u8], answers: &[u8]) -> bool {
+    for most in [1, 2, 7, usize::MAX] {
+        let reader = Reader::new(script).in_pieces_of(most);
+        if !is_answered(rt, alloc, reader, answers) {
+            return false;
+        }
     }
     let single = Writer::new(alloc).in_pieces_of(1);
-    answers_to(rt, alloc, Reader::new(script), single, answers);
+    is_answered(rt, alloc, Reader::new(script).in_lines(), answers)
+        && is_answered_to(rt, alloc, Reader::new(script), single, answers)
 }
 
-/// Asserts that what is read is answered by this text, to a writer that takes it whole.
-fn read_as(rt: &impl Abort, alloc: Global, reader: Reader<'_>, answers: &[u8]) {
-    answers_to(rt, alloc, reader, Writer::new(alloc), answers);
+/// Whether what is read is answered by this text, to a writer that takes it whole.
+fn is_answered(rt: &impl Abort, alloc: Global, reader: Reader<'_>, answers: &[u8]) -> bool {
+    is_answered_to(rt, alloc, reader, Writer::new(alloc), answers)
 }
 
-/// Asserts that what is read is answered by this text.
-fn answers_to(
+/// Whether what is read is answered by this text.
+fn is_answered_to(
     rt: &impl Abort,
     alloc: Global,
     reader: Reader<'_>,
     mut writer: Writer<Global>,
     answers: &[u8],
-) {
-    assert!(rt; ends(rt, alloc, reader, &mut writer) == Ok(()));
-    assert!(rt; writer.bytes() == answers);
+) -> bool {
+    ends(rt, alloc, reader, &mut writer) == Ok(()) && writer.bytes() == answers
+}
+
+/// Asserts that the lines of each row are answered so.
+pub(crate) fn all_say(rt: &impl Abort, alloc: Global, rows: &[Row]) {
+    for (number, row) in rows.iter().enumerate() {
+        let name = row.name;
+        assert!(rt;
+            says(rt, alloc, row.script, row.answers),
+            "row {number}: {name}"
+        );
+    }
 }
 
 /// How a run ends.
@@ -64,65 +76,85 @@ pub(crate) fn ends(
     run(alloc, usual(rt), &mut reader, writer, &mut NoFiles)
 }
 
-#[test]
-fn first_run(rt: HostRuntime) {
-    says(
-        &rt,
-        rt.alloc(),
-        b"boardsize 9\nplay b e5\nundo\nquit\n",
-        b"=\n\n=\n\n=\n\n=\n\n",
-    );
-}
+/// Commands, lines and their arguments.
+const TALKS: &[Row] = &[
+    Row {
+        name: "first run",
+        script: b"boardsize 9\nplay b e5\nundo\nquit\n",
+        answers: b"=\n\n=\n\n=\n\n=\n\n",
+    },
+    Row {
+        name: "nothing to undo",
+        script: b"undo\n",
+        answers: b"? cannot undo\n\n",
+    },
+    Row {
+        name: "ids and known commands",
+        script: b"007 name\n5\n2147483647 name\n2147483648 name\nknown_command play\nknown_command Play\n0 name\n00 quit\n",
+        answers: b"=7 goref\n\n?5 unknown command\n\n=2147483647 goref\n\n? unknown command\n\n= true\n\n= false\n\n=0 goref\n\n=0\n\n",
+    },
+    Row {
+        name: "ids and known commands",
+        script: b"known_command\nprotocol_version 7\n\t12\t\tversion\n",
+        answers: b"? syntax error\n\n= 2\n\n=12 1.0\n\n",
+    },
+    Row {
+        name: "commands are known",
+        script: b"known_command komi\nknown_command goref-superko\nknown_command goref-Superko\nknown_command superko\n",
+        answers: b"= true\n\n= true\n\n= false\n\n= false\n\n",
+    },
+    Row {
+        name: "commands are listed",
+        script: b"list_commands\n",
+        answers: b"= protocol_version\nname\nversion\nknown_command\nlist_commands\nquit\nboardsize\nclear_board\nkomi\nplay\ngenmove\nundo\nreg_genmove\nloadsgf\nfixed_handicap\nplace_free_handicap\nset_free_handicap\nfinal_score\nshowboard\ntime_settings\ntime_left\ngoref-chains\ngoref-legal\ngoref-printsgf\ngoref-superko\n\n",
+    },
+    Row {
+        name: "lines as sent",
+        script: b" \t\n# note\nna\r\x07me\r\nname#x",
+        answers: b"= goref\n\n= goref\n\n",
+    },
+    Row {
+        name: "sizes and vertices",
+        script: b"boardsize 20\nboardsize 0\nboardsize x\nboardsize 2147483648\nboardsize 9\nplay b k1\n",
+        answers: b"=\n\n? unacceptable size\n\n? syntax error\n\n? syntax error\n\n=\n\n? illegal move\n\n",
+    },
+    Row {
+        name: "sizes and vertices",
+        script: b"boardsize 9\nplay b i5\nplay b a25\nplay b a26\nplay b a0\nplay b A05\nplay b a5\n",
+        answers: b"=\n\n? syntax error\n\n? illegal move\n\n? syntax error\n\n? syntax error\n\n=\n\n? illegal move\n\n",
+    },
+    Row {
+        name: "empty input and quit",
+        script: b"",
+        answers: b"",
+    },
+    Row {
+        name: "empty input and quit",
+        script: b"quit\nname\n",
+        answers: b"=\n\n",
+    },
+    KO,
+    KO_AFTER_PASSES,
+    Row {
+        name: "komi",
+        script: b"komi .5\nkomi 6.\nkomi -0.05\nkomi 999999999.99\nkomi +6.500\n",
+        answers: b"=\n\n=\n\n=\n\n=\n\n=\n\n",
+    },
+    Row {
+        name: "komi",
+        script: b"komi .\nkomi +\nkomi 999999999.991\nkomi\nkomi 1000000000\nkomi 6.505\n",
+        answers: b"? syntax error\n\n? syntax error\n\n? syntax error\n\n? syntax error\n\n? syntax error\n\n? syntax error\n\n",
+    },
+    Row {
+        name: "komi",
+        script: b"komi 3\nplay b a1\nkomi 4\nundo\nundo\n",
+        answers: b"=\n\n=\n\n=\n\n=\n\n? cannot undo\n\n",
+    },
+];
 
 #[test]
-fn nothing_to_undo(rt: HostRuntime) {
-    says(&rt, rt.alloc(), b"undo\n", b"? cannot undo\n\n");
-}
-
-#[test]
-fn ids_and_known_commands(rt: HostRuntime) {
-    says(
-        &rt,
-        rt.alloc(),
-        b"007 name\n5\n2147483647 name\n2147483648 name\nknown_command play\nknown_command Play\n0 name\n00 quit\n",
-        b"=7 goref\n\n?5 unknown command\n\n=2147483647 goref\n\n? unknown command\n\n= true\n\n= false\n\n=0 goref\n\n=0\n\n",
-    );
-    says(
-        &rt,
-        rt.alloc(),
-        b"known_command\nprotocol_version 7\n\t12\t\tversion\n",
-        b"? syntax error\n\n= 2\n\n=12 1.0\n\n",
-    );
-}
-
-#[test]
-fn commands_are_known(rt: HostRuntime) {
-    says(
-        &rt,
-        rt.alloc(),
-        b"known_command komi\nknown_command goref-superko\nknown_command goref-Superko\nknown_command superko\n",
-        b"= true\n\n= true\n\n= false\n\n= false\n\n",
-    );
-}
-
-#[test]
-fn commands_are_listed(rt: HostRuntime) {
-    says(
-        &rt,
-        rt.alloc(),
-        b"list_commands\n",
-        b"= protocol_version\nname\nversion\nknown_command\nlist_commands\nquit\nboardsize\nclear_board\nkomi\nplay\ngenmove\nundo\nreg_genmove\nloadsgf\nfixed_handicap\nplace_free_handicap\nset_free_handicap\nfinal_score\nshowboard\ntime_settings\ntime_left\ngoref-chains\ngoref-legal\ngoref-printsgf\ngoref-superko\n\n",
-    );
-}
-
-#[test]
-fn lines_as_sent(rt: HostRuntime) {
-    says(
-        &rt,
-        rt.alloc(),
-        b" \t\n# note\nna\r\x07me\r\nname#x",
-        b"= goref\n\n= goref\n\n",
-    );
+fn commands_and_lines(rt: HostRuntime) {
+    all_say(&rt, rt.alloc(), TALKS);
 }
 
 /// A line of a front and so many letters, with its end.
@@ -146,90 +178,53 @@ fn long_lines(rt: HostRuntime) -> Result<(), Fail> {
     ] {
         script.extend_from_slice(long_line(alloc, front, letters)?.as_slice())?;
     }
-    says(
-        &rt,
-        alloc,
-        script.as_slice(),
-        b"? line too long\n\n? syntax error\n\n?9 line too long\n\n",
-    );
+    let answers = b"? line too long\n\n? syntax error\n\n?9 line too long\n\n";
+    assert!(rt; says(&rt, alloc, script.as_slice(), answers));
     Ok(())
 }
 
-/// The first play has 8,192 bytes, the second one more.
+/// A board, a play with 8,192 bytes and one with a byte more.
+fn longest_lines(alloc: Global) -> Result<Vec<u8>, AllocError> {
+    let mut script = b"boardsize 9\n".to_vec(alloc)?;
+    script.extend_from_slice(long_line(alloc, b"play b e5 ", 8_182)?.as_slice())?;
+    script.extend_from_slice(long_line(alloc, b"play w e6 ", 8_183)?.as_slice())?;
+    script.extend_from_slice(b"goref-chains\n")?;
+    Ok(script)
+}
+
 #[test]
 fn the_longest_line_is_done(rt: HostRuntime) -> Result<(), Fail> {
-    let alloc = rt.alloc();
-    let mut script = b"boardsize 9\n".to_vec(alloc)?;
-    for (front, letters) in [
-        (b"play b e5 ".as_slice(), 8_182u32),
-        (b"play w e6 ".as_slice(), 8_183),
-    ] {
-        let line = long_line(alloc, front, letters)?;
-        script.extend_from_slice(line.as_slice())?;
-    }
-    script.extend_from_slice(b"goref-chains\n")?;
+    let script = longest_lines(rt.alloc())?;
     let text = b"=\n\n=\n\n? line too long\n\n= B E5 : E4 D5 F5 E6\n\n";
-    says(&rt, alloc, script.as_slice(), text);
+    assert!(rt; says(&rt, rt.alloc(), script.as_slice(), text));
     for most in [3, 64, 1_000, 2_731, 4_095] {
         let reader = Reader::new(script.as_slice()).in_pieces_of(most);
-        read_as(&rt, alloc, reader, text);
+        assert!(rt; is_answered(&rt, rt.alloc(), reader, text), "{most} bytes");
     }
     Ok(())
 }
 
-#[test]
-fn sizes_and_vertices(rt: HostRuntime) {
-    says(
-        &rt,
-        rt.alloc(),
-        b"boardsize 20\nboardsize 0\nboardsize x\nboardsize 2147483648\nboardsize 9\nplay b k1\n",
-        b"=\n\n? unacceptable size\n\n? syntax error\n\n? syntax error\n\n=\n\n? illegal move\n\n",
-    );
-    says(
-        &rt,
-        rt.alloc(),
-        b"boardsize 9\nplay b i5\nplay b a25\nplay b a26\nplay b a0\nplay b A05\nplay b a5\n",
-        b"=\n\n? syntax error\n\n? illegal move\n\n? syntax error\n\n? syntax error\n\n=\n\n? illegal move\n\n",
-    );
-}
-
-#[test]
-fn empty_input_and_quit(rt: HostRuntime) {
-    says(&rt, rt.alloc(), b"", b"");
-    says(&rt, rt.alloc(), b"quit\nname\n", b"=\n\n");
-}
-
-#[test]
-fn ko(rt: HostRuntime) {
-    says(&rt, rt.alloc(), KO.script, KO.answers);
-}
-
-/// What a writer took of the answers to a script, and how the run ended.
-fn faulty(rt: &impl Abort, alloc: Global, script: &[u8], mut writer: Writer<Global>, taken: &[u8]) {
-    let end = ends(rt, alloc, Reader::new(script), &mut writer);
-    assert!(rt; end == Err(RunError::Write));
-    assert!(rt; writer.bytes() == taken);
-}
+/// Writes that fail and that take nothing, and flushes that fail, by their numbers, of which 0 is
+/// none; and what was written then.
+const FAULTS: &[(u64, u64, u64, &[u8])] = &[
+    (5, 0, 0, b"=\n\n="),
+    (0, 1, 0, b""),
+    (0, 0, 1, b"=\n\n"),
+];
 
 #[test]
 fn a_writer_fails(rt: HostRuntime) {
-    let script = b"boardsize 9\nplay b e5\nundo\nquit\n".as_slice();
-    let writer = || Writer::new(rt.alloc()).in_pieces_of(1);
-    faulty(
-        &rt,
-        rt.alloc(),
-        script,
-        writer().failing_at_put(5),
-        b"=\n\n=",
-    );
-    faulty(&rt, rt.alloc(), script, writer().stalling_at_put(1), b"");
-    faulty(
-        &rt,
-        rt.alloc(),
-        script,
-        writer().failing_at_flush(1),
-        b"=\n\n",
-    );
+    for (row, (put, stalling, flush, taken)) in FAULTS.iter().enumerate() {
+        let mut writer = Writer::new(rt.alloc())
+            .in_pieces_of(1)
+            .failing_at_put(*put)
+            .stalling_at_put(*stalling)
+            .failing_at_flush(*flush);
+        let reader = Reader::new(b"boardsize 9\nplay b e5\nundo\nquit\n");
+        let end = ends(&rt, rt.alloc(), reader, &mut writer);
+        assert!(rt; end == Err(RunError::Write), "row {row}");
+        assert!(rt; writer.bytes() == *taken, "row {row}");
+    }
 }
 
 #[test]
@@ -241,89 +236,51 @@ fn a_reader_fails(rt: HostRuntime) {
     assert!(rt; writer.bytes() == b"=\n\n".as_slice());
 }
 
-/// Asserts how a run of `undo`, one byte at a time, ends within so many reads.
-fn undone_within(
-    rt: &impl Abort,
-    alloc: Global,
-    limit: u64,
-    end: Result<(), RunError>,
-    taken: &[u8],
-    pulls: u64,
-) {
+/// How many reads a run may make, how it ends, what it wrote, and how often it read.
+type Limit = (u64, Result<(), RunError>, &'static [u8], u64);
+
+const LIMITS: &[Limit] = &[
+    (5, Err(RunError::Endless), b"? cannot undo\n\n", 5),
+    (6, Ok(()), b"? cannot undo\n\n", 6),
+    (0, Err(RunError::Endless), b"", 0),
+];
+
+/// Whether a run of `undo`, one byte at a time, ends so.
+fn ends_within(alloc: Global, size: Size, row: Limit) -> bool {
+    let (limit, end, taken, pulls) = row;
     let mut reader = Reader::new(b"undo\n").in_pieces_of(1);
     let mut writer = Writer::new(alloc);
-    let size = usual(rt);
     let ended = run_within(alloc, limit, size, &mut reader, &mut writer, &mut NoFiles);
-    assert!(rt; ended == end);
-    assert!(rt; writer.bytes() == taken);
-    assert!(rt; reader.pull_count() == pulls);
+    ended == end && writer.bytes() == taken && reader.pull_count() == pulls
 }
 
 #[test]
 fn reads_are_limited(rt: HostRuntime) {
-    undone_within(
-        &rt,
-        rt.alloc(),
-        5,
-        Err(RunError::Endless),
-        b"? cannot undo\n\n",
-        5,
-    );
-    undone_within(&rt, rt.alloc(), 6, Ok(()), b"? cannot undo\n\n", 6);
-    undone_within(&rt, rt.alloc(), 0, Err(RunError::Endless), b"", 0);
+    for (number, row) in LIMITS.iter().enumerate() {
+        assert!(rt; ends_within(rt.alloc(), usual(&rt), *row), "row {number}");
+    }
 }
 
 #[test]
 fn an_answer_that_fails_was_decided(rt: HostRuntime) {
     let mut session = Session::new(rt.alloc(), usual(&rt));
-    let mut broken = Writer::new(rt.alloc()).failing_at_put(1);
-    let end = answered(&mut session, &Line::of(b"play b e5"), &mut broken);
-    assert!(rt; end.is_err());
-    let mut writer = Writer::new(rt.alloc());
-    let end = answered(&mut session, &Line::of(b"undo"), &mut writer);
-    assert!(rt; end == Ok(Flow::More));
-    assert!(rt; writer.bytes() == b"=\n\n".as_slice());
+    assert!(rt; fails_at(rt.alloc(), &mut session, (b"play b e5", b"=\n\n"), 1));
+    assert!(rt; answers(rt.alloc(), &mut session, &[(b"undo", b"=\n\n")]));
 }
+
+const FAULT_TEXTS: &[(RunError, &str)] = &[
+    (RunError::Read, "read fault"),
+    (RunError::Write, "write fault"),
+    (RunError::Endless, "input without end"),
+];
 
 #[test]
 fn fault_texts(rt: HostRuntime) -> Result<(), Fail> {
-    let alloc = rt.alloc();
-    assert!(rt; format!(in alloc; "{}", RunError::Read)?.as_str() == "read fault");
-    assert!(rt; format!(in alloc; "{}", RunError::Write)?.as_str() == "write fault");
-    assert!(rt; format!(in alloc; "{}", RunError::Endless)?.as_str() == "input without end");
+    for (fault, text) in FAULT_TEXTS {
+        let told = format!(in rt.alloc(); "{fault}")?;
+        assert!(rt; told.as_str() == *text, "{told}");
+    }
     Ok(())
-}
-
-#[test]
-fn ko_after_passes(rt: HostRuntime) {
-    says(
-        &rt,
-        rt.alloc(),
-        KO_AFTER_PASSES.script,
-        KO_AFTER_PASSES.answers,
-    );
-}
-
-#[test]
-fn komi(rt: HostRuntime) {
-    says(
-        &rt,
-        rt.alloc(),
-        b"komi .5\nkomi 6.\nkomi -0.05\nkomi 999999999.99\nkomi +6.500\n",
-        b"=\n\n=\n\n=\n\n=\n\n=\n\n",
-    );
-    says(
-        &rt,
-        rt.alloc(),
-        b"komi .\nkomi +\nkomi 999999999.991\nkomi\nkomi 1000000000\nkomi 6.505\n",
-        b"? syntax error\n\n? syntax error\n\n? syntax error\n\n? syntax error\n\n? syntax error\n\n? syntax error\n\n",
-    );
-    says(
-        &rt,
-        rt.alloc(),
-        b"komi 3\nplay b a1\nkomi 4\nundo\nundo\n",
-        b"=\n\n=\n\n=\n\n=\n\n? cannot undo\n\n",
-    );
 }
 
 /// The komi after a line, in hundredths.
@@ -334,14 +291,17 @@ fn komi_after(alloc: Global, size: Size, line: &[u8]) -> i64 {
     session.game().komi()
 }
 
+const KOMI: &[(&[u8], i64)] = &[
+    (b"komi .5", 50),
+    (b"komi 6.", 600),
+    (b"komi -0.05", -5),
+    (b"komi 999999999.99", 99_999_999_999),
+];
+
 #[test]
 fn komi_in_hundredths(rt: HostRuntime) {
-    let size = usual(&rt);
-    assert_eq!(rt; komi_after(rt.alloc(), size, b"komi .5"), 50);
-    assert_eq!(rt; komi_after(rt.alloc(), size, b"komi 6."), 600);
-    assert_eq!(rt; komi_after(rt.alloc(), size, b"komi -0.05"), -5);
-    assert_eq!(rt;
-        komi_after(rt.alloc(), size, b"komi 999999999.99"),
-        99_999_999_999
-    );
+    for (row, (line, hundredths)) in KOMI.iter().enumerate() {
+        let komi = komi_after(rt.alloc(), usual(&rt), line);
+        assert!(rt; komi == *hundredths, "row {row}");
+    }
 }

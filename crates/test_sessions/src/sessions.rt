@@ -13,6 +13,45 @@ pub(crate) fn answered(
     session.answer(line, Fetched::None, writer)
 }
 
+/// Whether a session answers a line so.
+pub(crate) fn answers_line(
+    alloc: Global,
+    session: &mut Session<Global>,
+    line: &Line,
+    text: &[u8],
+) -> bool {
+    let mut writer = Writer::new(alloc);
+    answered(session, line, &mut writer) == Ok(Flow::More) && writer.bytes() == text
+}
+
+/// A line, and its answer.
+pub(crate) type Answered = (&'static [u8], &'static [u8]);
+
+/// Whether a session answers each of these lines so.
+pub(crate) fn answers(alloc: Global, session: &mut Session<Global>, lines: &[Answered]) -> bool {
+    for (line, text) in lines {
+        if !answers_line(alloc, session, &Line::of(line), text) {
+            return false;
+        }
+    }
+    true
+}
+
+/// Whether the answer to a line breaks off at the write with this number, and is a front of this
+/// text.
+pub(crate) fn fails_at(
+    alloc: Global,
+    session: &mut Session<Global>,
+    line: Answered,
+    put: u64,
+) -> bool {
+    let (line, text) = line;
+    let mut writer = Writer::new(alloc).in_pieces_of(1).failing_at_put(put);
+    answered(session, &Line::of(line), &mut writer) == Err(WriteFault)
+        && text.starts_with(writer.bytes())
+        && writer.bytes().len() as u64 == put.saturating_sub(1)
+}
+
 /// What goref answers to a line that it must accept: the result, behind a space if there is one.
 pub(crate) fn told(
     rt: &impl Abort,

@@ -32,80 +32,117 @@ fn runs(
     assert!(rt; end == Ok(()));
 }
 
-/// Asserts how many bytes were passed on at each flush, and that none is held back at the end.
-fn flushes(rt: &impl Abort, alloc: Global, reader: Reader<'_>, ends: &[usize]) {
+/// How a script is read.
+#[derive(Clone, Copy)]
+enum Way {
+    Whole,
+    Lines,
+    Bytes,
+}
+
+impl Way {
+    /// A reader of a script.
+    fn reader(self, script: &[u8]) -> Reader<'_> {
+        match self {
+            Way::Whole => Reader::new(script),
+            Way::Lines => Reader::new(script).in_lines(),
+            Way::Bytes => Reader::new(script).in_pieces_of(1),
+        }
+    }
+}
+
+/// Whether so many bytes of the answers were passed on at each flush, and none is held back at the
+/// end.
+fn flushes(rt: &impl Abort, alloc: Global, reader: Reader<'_>, ends: &[usize]) -> bool {
     let passed = Cell::new(0);
     let mut noting = NotingReader::new(alloc, reader, &passed);
     let mut writer = HoldingWriter::new(alloc, &passed);
     runs(rt, alloc, &mut noting, &mut writer);
-    assert!(rt; writer.ends() == ends);
-    assert!(rt; writer.bytes().len() == passed.get());
+    writer.ends() == ends && writer.bytes().len() == passed.get()
 }
 
-/// Asserts behind which bytes of the answers to a script there are flushes, however it is read.
-fn is_flushed(rt: &impl Abort, alloc: Global, script: &[u8], ends: &[usize]) {
-    flushes(rt, alloc, Reader::new(script), ends);
-    flushes(rt, alloc, Reader::new(script).in_lines(), ends);
-    flushes(rt, alloc, Reader::new(script).in_pieces_of(1), ends);
+/// Whether there are flushes behind these bytes of the answers to a script, however it is read.
+fn is_flushed(rt: &impl Abort, alloc: Global, script: &[u8], ends: &[usize]) -> bool {
+    for way in [Way::Whole, Way::Lines, Way::Bytes] {
+        if !flushes(rt, alloc, way.reader(script), ends) {
+            return false;
+        }
+    }
+    true
+}
+
+/// Scripts, and behind which bytes of their answers there are flushes: none behind silent lines.
+const FLUSHED: &[(&[u8], &[usize])] = &[
+    (SHORT, &[3, 6, 9, 12]),
+    (QUITTING, &[20, 29, 32]),
+    (b"quit", &[3]),
+    (b"name\n7", &[9, 29]),
+    (b"", &[]),
+    (b"\n", &[]),
+    (b" \t\n\n# name\n\x07", &[]),
+];
+
+#[test]
+fn each_answer_is_flushed(rt: HostRuntime) {
+    for (row, (script, ends)) in FLUSHED.iter().enumerate() {
+        assert!(rt; is_flushed(&rt, rt.alloc(), script, ends), "row {row}");
+    }
 }
 
 #[test]
-fn each_answer_is_flushed(rt: HostRuntime) -> Result<(), Fail> {
-    let alloc = rt.alloc();
-    let script = mixed(alloc)?;
+fn each_answer_to_mixed_lines_is_flushed(rt: HostRuntime) -> Result<(), Fail> {
+    let script = mixed(rt.alloc())?;
     let ends = &[3, 6, 22, 38, 55, 75, 84, 87];
-    is_flushed(&rt, alloc, script.as_slice(), ends);
-    is_flushed(&rt, alloc, SHORT, &[3, 6, 9, 12]);
-    is_flushed(&rt, alloc, QUITTING, &[20, 29, 32]);
-    is_flushed(&rt, alloc, b"quit", &[3]);
-    is_flushed(&rt, alloc, b"name\n7", &[9, 29]);
+    assert!(rt; is_flushed(&rt, rt.alloc(), script.as_slice(), ends));
     Ok(())
 }
 
-#[test]
-fn silent_lines_are_not_flushed(rt: HostRuntime) {
-    let alloc = rt.alloc();
-    is_flushed(&rt, alloc, b"", &[]);
-    is_flushed(&rt, alloc, b"\n", &[]);
-    is_flushed(&rt, alloc, b" \t\n\n# name\n\x07", &[]);
-}
-
-/// Asserts how many bytes had been passed on before each read: before the first so many reads the
+/// Whether so many bytes had been passed on before each read: before the first so many reads the
 /// number beside that, and so on.
-fn sees(rt: &impl Abort, alloc: Global, reader: Reader<'_>, counts: &[(u32, usize)]) {
+fn sees(rt: &impl Abort, alloc: Global, reader: Reader<'_>, counts: &[(u32, usize)]) -> bool {
     let passed = Cell::new(0);
     let mut noting = NotingReader::new(alloc, reader, &passed);
     let mut writer = HoldingWriter::new(alloc, &passed);
     runs(rt, alloc, &mut noting, &mut writer);
-    let mut seen = noting.seen().iter();
+    are(noting.seen(), counts)
+}
+
+/// Whether numbers are these, each so often.
+fn are(numbers: &[usize], counts: &[(u32, usize)]) -> bool {
+    let mut numbers = numbers.iter();
     for (reads, count) in counts {
         for _ in 0..*reads {
-            assert!(rt; seen.next() == Some(count));
+            if numbers.next() != Some(count) {
+                return false;
+            }
         }
     }
-    assert!(rt; seen.next().is_none());
+    numbers.next().is_none()
 }
+
+/// Scripts and how they are read, and how many bytes had been passed on before each read.
+const SEEN: &[(&[u8], Way, &[(u32, usize)])] = &[
+    (SHORT, Way::Bytes, &[(12, 0), (10, 3), (5, 6), (5, 9)]),
+    (SHORT, Way::Lines, &[(1, 0), (1, 3), (1, 6), (1, 9)]),
+    (SHORT, Way::Whole, &[(1, 0)]),
+    (QUITTING, Way::Lines, &[(1, 0), (1, 20), (1, 29)]),
+];
 
 /// A run that answers only at the end fails this.
 #[test]
 fn answers_only_at_end(rt: HostRuntime) {
-    let alloc = rt.alloc();
-    let bytes = Reader::new(SHORT).in_pieces_of(1);
-    sees(&rt, alloc, bytes, &[(12, 0), (10, 3), (5, 6), (5, 9)]);
-    let lines = Reader::new(SHORT).in_lines();
-    sees(&rt, alloc, lines, &[(1, 0), (1, 3), (1, 6), (1, 9)]);
-    sees(&rt, alloc, Reader::new(SHORT), &[(1, 0)]);
+    for (row, (script, way, counts)) in SEEN.iter().enumerate() {
+        assert!(rt;
+            sees(&rt, rt.alloc(), way.reader(script), counts),
+            "row {row}"
+        );
+    }
 }
 
-#[test]
-fn answers_leave_before_the_next_read(rt: HostRuntime) -> Result<(), Fail> {
-    let alloc = rt.alloc();
-    let script = mixed(alloc)?;
-    let lines = Reader::new(script.as_slice()).in_lines();
-    sees(
-        &rt,
-        alloc,
-        lines,
+/// How the mixed lines are read, and how many bytes had been passed on before each read.
+const SEEN_OF_MIXED: &[(Way, &[(u32, usize)])] = &[
+    (
+        Way::Lines,
         &[
             (1, 0),
             (1, 3),
@@ -116,11 +153,17 @@ fn answers_leave_before_the_next_read(rt: HostRuntime) -> Result<(), Fail> {
             (1, 75),
             (2, 84),
         ],
-    );
-    let whole = Reader::new(script.as_slice());
-    sees(&rt, alloc, whole, &[(1, 0), (2, 38), (1, 84)]);
-    let quitting = Reader::new(QUITTING).in_lines();
-    sees(&rt, alloc, quitting, &[(1, 0), (1, 20), (1, 29)]);
+    ),
+    (Way::Whole, &[(1, 0), (2, 38), (1, 84)]),
+];
+
+#[test]
+fn answers_leave_before_the_next_read(rt: HostRuntime) -> Result<(), Fail> {
+    let script = mixed(rt.alloc())?;
+    for (row, (way, counts)) in SEEN_OF_MIXED.iter().enumerate() {
+        let reader = way.reader(script.as_slice());
+        assert!(rt; sees(&rt, rt.alloc(), reader, counts), "row {row}");
+    }
     Ok(())
 }
 
@@ -131,32 +174,35 @@ fn ends(rt: &impl Abort, alloc: Global, reader: &mut Reader<'_>) -> Result<(), R
     run(alloc, size, reader, &mut writer, &mut NoFiles)
 }
 
-/// Asserts how often a script tells its end, however it is read.
-fn meets_ends(rt: &impl Abort, alloc: Global, script: &[u8], count: u64) {
+/// Whether a script tells its end so often, however it is read.
+fn meets_ends(rt: &impl Abort, alloc: Global, script: &[u8], count: u64) -> bool {
     for most in [1, 3, 4_096] {
         let mut reader = Reader::new(script).in_pieces_of(most);
-        assert!(rt; ends(rt, alloc, &mut reader) == Ok(()));
-        assert!(rt; reader.end_count() == count);
+        if ends(rt, alloc, &mut reader) != Ok(()) || reader.end_count() != count {
+            return false;
+        }
     }
+    true
 }
+
+/// Scripts, and how often they tell their ends.
+const ENDS: &[(&[u8], u64)] = &[
+    (b"", 1),
+    (b"undo", 1),
+    (b"undo\n", 1),
+    (b"\n", 1),
+    (b"# note", 1),
+    (b"name\n\n", 1),
+    (b"quit\n", 0),
+    (b"name\nquit\nname\n", 0),
+    (b"quit", 1),
+];
 
 #[test]
 fn nothing_is_read_behind_the_end(rt: HostRuntime) {
-    let alloc = rt.alloc();
-    for script in [
-        b"".as_slice(),
-        b"undo",
-        b"undo\n",
-        b"\n",
-        b"# note",
-        b"name\n\n",
-    ] {
-        meets_ends(&rt, alloc, script, 1);
+    for (row, (script, count)) in ENDS.iter().enumerate() {
+        assert!(rt; meets_ends(&rt, rt.alloc(), script, *count), "row {row}");
     }
-    for script in [b"quit\n".as_slice(), b"name\nquit\nname\n"] {
-        meets_ends(&rt, alloc, script, 0);
-    }
-    meets_ends(&rt, alloc, b"quit", 1);
 }
 
 #[test]
