@@ -35,129 +35,166 @@ fn unexpected(rest: &[u8]) -> Fault
 fn add<T: Drop, K: Keep>(
     keep: K,
     list: &mut Few<T, K::Alloc>,
-    item: Option<T>,
+    item: T,
 ) -> Result<(), AllocError>
-    ensures added { OnOk result
-        (K.keeps → IfSome item (λ one. list.new ≡ list.old ++ one ∷ [])) }
+    ensures added { OnOk result (K.keeps → list.new ≡ list.old ++ item ∷ []) }
     ensures memory { OnErr result K.keeps }
 {
-    match (keep.alloc(), item) {
-        (Some(alloc), Some(one)) => list.push(alloc, one),
-        _ => Ok(()),
+    if let Some(alloc) = keep.alloc() {
+        list.push(alloc, item)?;
     }
+    Ok(())
 }
 
-/// The values from behind a name on, at least one, and what follows them.
+/// Reads the values from behind a name on, at least one, into a list, and gives what follows them.
 fn values<'a, K: Keep>(
     keep: K,
+    list: &mut Few<&'a [u8], K::Alloc>,
     bytes: &'a [u8],
-) -> Result<(Few<&'a [u8], K::Alloc>, &'a [u8]), Fault>
+) -> Result<&'a [u8], Fault>
     requires { is_letter_first bytes.now ≡ false }
-    ensures read { IfOk result (λ r. (vs : List (List ℕ))
-        × (K.keeps → values_of r.0 ≡ vs) × ReadsValues bytes.now vs r.1.now) }
+    ensures read { IfOk result (λ rest. (vs : List (List ℕ))
+        × (K.keeps → values_of list.new ≡ values_of list.old ++ vs)
+        × ReadsValues bytes.now vs rest.now) }
     ensures place { (d : ℕ) → IsWithin MAX_DEPTH d → Meets result
-        (outcome MAX_DEPTH named d bytes.now) (λ r. outcome MAX_DEPTH in_node d r.1.now) }
+        (outcome MAX_DEPTH named d bytes.now) (λ rest. outcome MAX_DEPTH in_node d rest.now) }
     ensures memory { IsErrOf result Fault.Memory → K.keeps }
 {
     let mut rest = after_space(bytes);
     if !begins_with(rest, b'[') {
         return Err(unexpected(rest));
     }
-    let mut values = Few::new();
     while let Some(inside) = strip(rest, b'[') {
         let Some((one, more)) = value(inside) else {
             return Err(Fault::End);
         };
-        add(keep, &mut values, Some(one))?;
+        add(keep, list, one)?;
         rest = after_space(more);
     }
-    Ok((values, rest))
+    Ok(rest)
 }
 
-/// A property from its name on, and what follows it.
+/// Reads a property from its name on into a list, and gives what follows it.
 fn property<'a, K: Keep>(
     keep: K,
+    list: &mut Option<Few<nodes::Property<'a, K::Alloc>, K::Alloc>>,
     bytes: &'a [u8],
-) -> Result<(Option<nodes::Property<'a, K::Alloc>>, &'a [u8]), Fault>
+) -> Result<&'a [u8], Fault>
     requires { is_letter_first bytes.now ≡ true }
-    ensures read { IfOk result (λ r. (p : Property)
-        × (K.keeps → r.0 ≡ Some p) × ReadsProperty bytes.now p r.1.now) }
+    ensures read { IfOk result (λ rest. (p : Property)
+        × (K.keeps → list.new ≡ option_map (λ ps. ps ++ p ∷ []) list.old)
+        × ReadsProperty bytes.now p rest.now) }
     ensures place { (d : ℕ) → IsWithin MAX_DEPTH d → Meets result
-        (outcome MAX_DEPTH in_node d bytes.now) (λ r. outcome MAX_DEPTH in_node d r.1.now) }
+        (outcome MAX_DEPTH in_node d bytes.now) (λ rest. outcome MAX_DEPTH in_node d rest.now) }
     ensures memory { IsErrOf result Fault.Memory → K.keeps }
 {
     let (name, behind) = letters(bytes);
     if !has_upper(name) {
         return Err(unexpected(behind));
     }
-    let (values, rest) = values(keep, behind)?;
-    Ok((make_property(keep, name, values)?, rest))
+    let mut own = Few::new();
+    let rest = values(keep, &mut own, behind)?;
+    add_property(keep, list, name, own)?;
+    Ok(rest)
 }
 
-/// The property with this name and these values, where what is read is kept.
-fn make_property<'a, K: Keep>(
+/// Adds the property with this name and these values to a list, where what is read is kept.
+fn add_property<'a, K: Keep>(
     keep: K,
+    list: &mut Option<Few<nodes::Property<'a, K::Alloc>, K::Alloc>>,
     name: &'a [u8],
     values: Few<&'a [u8], K::Alloc>,
-) -> Result<Option<nodes::Property<'a, K::Alloc>>, AllocError>
-    ensures made { IfOk result (λ made. K.keeps
-        → made ≡ Some (property_of name.now values.entry)) }
+) -> Result<(), AllocError>
+    ensures added { OnOk result (K.keeps → list.new
+        ≡ option_map (λ ps. ps ++ property_of name.now values.entry ∷ []) list.old) }
     ensures memory { OnErr result K.keeps }
 {
-    match keep.alloc() {
-        Some(alloc) => Ok(Some(nodes::Property::new(alloc, name, values)?)),
-        None => Ok(None),
+    if let Some(alloc) = keep.alloc() {
+        if let Some(list) = list {
+            list.push(alloc, nodes::Property::new(alloc, name, values)?)?;
+        }
     }
+    Ok(())
 }
 
-/// A node from behind its `;` on, and what follows it.
+/// Reads a node from behind its `;` on into a list, and gives what follows it.
 fn node<'a, K: Keep>(
     keep: K,
+    list: &mut Few<Node<'a, K::Alloc>, K::Alloc>,
     bytes: &'a [u8],
-) -> Result<(Few<nodes::Property<'a, K::Alloc>, K::Alloc>, &'a [u8]), Fault>
-    ensures read { IfOk result (λ r. (ps : List Property)
-        × (K.keeps → r.0 ≡ ps) × ReadsNode bytes.now ps r.1.now) }
-    ensures stopped { IfOk result (λ r. is_letter_first r.1.now ≡ false) }
+) -> Result<&'a [u8], Fault>
+    ensures read { IfOk result (λ rest. (ps : List Property)
+        × (K.keeps → list.new ≡ list.old ++ ps ∷ []) × ReadsNode bytes.now ps rest.now) }
+    ensures stopped { IfOk result (λ rest. is_letter_first rest.now ≡ false) }
     ensures place { (d : ℕ) → IsWithin MAX_DEPTH d → Meets result
-        (outcome MAX_DEPTH in_node d bytes.now) (λ r. outcome MAX_DEPTH in_node d r.1.now) }
+        (outcome MAX_DEPTH in_node d bytes.now) (λ rest. outcome MAX_DEPTH in_node d rest.now) }
     ensures memory { IsErrOf result Fault.Memory → K.keeps }
 {
+    let mut properties = no_properties(keep);
     let mut rest = after_space(bytes);
-    let mut properties = Few::new();
     while begins_letter(rest) {
-        let (one, more) = property(keep, rest)?;
-        add(keep, &mut properties, one)?;
-        rest = more;
+        rest = property(keep, &mut properties, rest)?;
     }
-    Ok((properties, rest))
+    add_node(keep, list, properties)?;
+    Ok(rest)
 }
 
-/// The nodes of a tree from behind its `(` on, at least one, and what follows them.
+/// A list of properties, where what is read is kept.
+fn no_properties<'a, K: Keep>(
+    keep: K,
+) -> Option<Few<nodes::Property<'a, K::Alloc>, K::Alloc>>
+    ensures { K.keeps → result ≡ Some [] }
+{
+    match keep.alloc() {
+        Some(_) => Some(Few::new()),
+        None => None,
+    }
+}
+
+/// Adds the node with these properties to a list, where what is read is kept.
+fn add_node<'a, K: Keep>(
+    keep: K,
+    list: &mut Few<Node<'a, K::Alloc>, K::Alloc>,
+    properties: Option<Few<nodes::Property<'a, K::Alloc>, K::Alloc>>,
+) -> Result<(), AllocError>
+    ensures added { OnOk result (K.keeps
+        → IfSome properties.entry (λ ps. list.new ≡ list.old ++ ps ∷ [])) }
+    ensures memory { OnErr result K.keeps }
+{
+    if let Some(alloc) = keep.alloc() {
+        if let Some(properties) = properties {
+            list.push(alloc, Node { properties })?;
+        }
+    }
+    Ok(())
+}
+
+/// Reads the nodes of a tree from behind its `(` on, at least one, into a list, and gives what
+/// follows them.
 fn nodes<'a, K: Keep>(
     keep: K,
+    list: &mut Few<Node<'a, K::Alloc>, K::Alloc>,
     bytes: &'a [u8],
-) -> Result<(Few<Node<'a, K::Alloc>, K::Alloc>, &'a [u8]), Fault>
+) -> Result<&'a [u8], Fault>
     ensures read { IfOk result
-        (λ r. ReadsNodes bytes.now (nodes_at (parts_in bytes.now)) r.1.now) }
-    ensures kept { IfOk result (λ r. K.keeps → r.0 ≡ nodes_at (parts_in bytes.now)) }
+        (λ rest. ReadsNodes bytes.now (nodes_at (parts_in bytes.now)) rest.now) }
+    ensures kept { OnOk result (K.keeps
+        → list.new ≡ list.old ++ nodes_at (parts_in bytes.now)) }
     ensures place { (d : ℕ) → IsWithin MAX_DEPTH d → Meets result
-        (outcome MAX_DEPTH opened d bytes.now) (λ r. outcome MAX_DEPTH closed d r.1.now) }
+        (outcome MAX_DEPTH opened d bytes.now) (λ rest. outcome MAX_DEPTH closed d rest.now) }
     ensures memory { IsErrOf result Fault.Memory → K.keeps }
 {
     let mut rest = after_space(bytes);
     if !begins_with(rest, b';') {
         return Err(unexpected(rest));
     }
-    let mut nodes = Few::new();
     while let Some(inside) = strip(rest, b';') {
-        let (properties, more) = node(keep, inside)?;
-        add(keep, &mut nodes, Some(Node { properties }))?;
-        rest = more;
+        rest = node(keep, list, inside)?;
     }
     if begins_with(rest, b'[') {
         return Err(unexpected(rest));
     }
-    Ok((nodes, rest))
+    Ok(rest)
 }
 
 /// A list of trees, where what is read is kept.
@@ -221,7 +258,8 @@ fn tree<'a, K: Keep>(
         (λ rest. outcome_after MAX_DEPTH depth rest.now) }
     ensures memory { IsErrOf result Fault.Memory → K.keeps }
 {
-    let (nodes, mut rest) = nodes(keep, bytes)?;
+    let mut own = Few::new();
+    let mut rest = nodes(keep, &mut own, bytes)?;
     let mut children = no_trees(keep);
     while let Some(inside) = strip(rest, b'(') {
         if depth == MAX_DEPTH {
@@ -232,7 +270,7 @@ fn tree<'a, K: Keep>(
     let Some(behind) = strip(rest, b')') else {
         return Err(unexpected(rest));
     };
-    add_tree(trees, nodes, children)?;
+    add_tree(trees, own, children)?;
     Ok(after_space(behind))
 }
 

@@ -140,10 +140,6 @@ pub(crate) fn from_tree(bytes: &[u8]) -> &[u8]
     rest
 }
 
-/// How many bytes of a value are looked at one by one. Most values have fewer, and have ended
-/// before a search over many bytes at once has begun.
-const NEAR: usize = 16;
-
 /// Whether a byte is `]` or `\`.
 fn is_stop(byte: u8) -> bool
     ensures { result ≡ is_byte2 93 92 byte }
@@ -151,16 +147,22 @@ fn is_stop(byte: u8) -> bool
     byte == b']' || byte == b'\\'
 }
 
-/// The place of the first `]` or `\`.
-fn first_stop(bytes: &[u8]) -> Option<usize>
-    ensures { IsFirstByte (is_byte2 93 92) bytes.now result }
+/// How many bytes are looked at one by one. Most values have fewer, and have ended before a search
+/// over many bytes at once has begun.
+const NEAR: usize = 16;
+
+/// What stands before the first `]`, and what follows it, where it is near and no `\` comes first.
+pub(crate) fn near_bracket(bytes: &[u8]) -> Option<(&[u8], &[u8])>
+    ensures whole { IfSome result (λ r. bytes.now ≡ r.0.now ++ (93 ∷ r.1.now)) }
+    ensures front { IfSome result (λ r. list_all is_ordinary r.0.now ≡ true) }
 {
     for place in 0..bytes.len().min(NEAR) {
         if is_stop(bytes[place]) {
-            return Some(place);
+            let (front, rest) = bytes.split_at(place);
+            return Some((front, strip(rest, b']')?));
         }
     }
-    memchr2(b']', b'\\', bytes)
+    None
 }
 
 /// What stands before the first `]` or `\`, that byte, and what follows it.
@@ -170,7 +172,7 @@ pub(crate) fn ordinary(bytes: &[u8]) -> Option<(&[u8], u8, &[u8])>
     ensures stopped { IfSome result (λ r. is_ordinary r.1 ≡ false) }
     ensures none { IfNone result (list_all is_ordinary bytes.now ≡ true) }
 {
-    let place = first_stop(bytes)?;
+    let place = memchr2(b']', b'\\', bytes)?;
     let (front, rest) = bytes.split_at(place);
     match rest.split_first() {
         Some((byte, more)) => Some((front, *byte, more)),

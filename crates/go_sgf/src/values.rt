@@ -9,7 +9,7 @@ ghost use Rattle.go_sgf.specs.Record.{IsValue};
 ghost use Rattle.go_sgf.specs.Spelling.{value_part};
 ghost use Rattle.go_sgf.specs.Stands.{in_value};
 
-use crate::scan::{after_space, begins_letter, letters, ordinary, strip};
+use crate::scan::{after_space, begins_letter, letters, near_bracket, ordinary, strip};
 use std::marker::Model;
 
 /// The values of a property, in the source's order, without their brackets. A contract sees it as
@@ -56,6 +56,20 @@ impl<'a> Iterator for Values<'a> {
 
 /// A value from behind its `[`, and what follows its `]`; none where the value has no end.
 pub(crate) fn value(bytes: &[u8]) -> Option<(&[u8], &[u8])>
+    ensures inside { IfSome result (λ v. IsValue v.0.now) }
+    ensures whole { IfSome result (λ v. bytes.now ≡ v.0.now ++ (93 ∷ v.1.now)) }
+    ensures none { IfNone result ((d : ℕ) → IsWithin MAX_DEPTH d
+        → outcome MAX_DEPTH in_value d bytes.now ≡ Err End) }
+    ensures unended { IfNone result (parts_from (Some false) bytes.now ≡ []) }
+{
+    match near_bracket(bytes) {
+        Some(short) => Some(short),
+        None => any_value(bytes),
+    }
+}
+
+/// The same, of a value of any length.
+fn any_value(bytes: &[u8]) -> Option<(&[u8], &[u8])>
     ensures inside { IfSome result (λ v. IsValue v.0.now) }
     ensures whole { IfSome result (λ v. bytes.now ≡ v.0.now ++ (93 ∷ v.1.now)) }
     ensures none { IfNone result ((d : ℕ) → IsWithin MAX_DEPTH d

@@ -21,46 +21,46 @@ returns-then-depth-eq-MAX_DEPTH-clause-place g t c =
     c.loop-inside.invariant.3.place
     ∙ subst P (sym c.if-depth-eq-MAX_DEPTH.true) (too_deep MAX_DEPTH c.loop-inside.rest.now c.in-Some.inside.now c.in-Some.ensures.stripped)
 
-pub returns-in_err-rest-clause-place : goal.returns-in_err-rest-clause-place
-returns-in_err-rest-clause-place g t c =
+pub returns-in_err-rest-2-clause-place : goal.returns-in_err-rest-2-clause-place
+returns-in_err-rest-2-clause-place g t c =
     let less : c.args.depth < MAX_DEPTH = omega arith in
-    let p = err_from_is_err_and c.from_residual-in_err-rest.result c.from_residual-in_err-rest.ensures.1 in
+    let p = err_from_is_err_and c.from_residual-in_err-rest-2.result c.from_residual-in_err-rest-2.ensures.1 in
     rw (p.1, p.2)
     (passes _ _ _ _ _
     (c.loop-inside.invariant.3.place
     ∙ into_child MAX_DEPTH c.args.depth c.requires.depth less c.loop-inside.rest.now c.in-Some.inside.now c.in-Some.ensures.stripped)
-    c.in_err-rest.ensures.place)
+    c.in_err-rest-2.ensures.place)
 
 pub loop-inside-init : goal.loop-inside-init
 loop-inside-init g t c = (
   [],
   c.no_trees-children.ensures.kept,
   kept_where c.no_trees-children.result c.no_trees-children.ensures.some,
-  tree_first c.args.depth c.requires.depth c.args.bytes.now (nodes_at (parts_in c.args.bytes.now)) c.in_ok-nodes.rest.now c.in_ok-nodes.ensures.read
-      (c.in_ok-nodes.ensures.place c.args.depth c.requires.depth),
+  tree_first c.args.depth c.requires.depth c.args.bytes.now (nodes_at (parts_in c.args.bytes.now)) c.in_ok-rest.rest.now c.in_ok-rest.ensures.read
+      (c.in_ok-rest.ensures.place c.args.depth c.requires.depth),
 )
 
 pub loop-inside-smaller : goal.loop-inside-smaller
 loop-inside-smaller g t c =
-    shorter 40 c.loop-inside.rest.now c.in-Some.inside.now c.in_ok-rest.rest.now c.in-Some.ensures.stripped
-    (tree_le _ c.in-Some.inside.now c.in_ok-rest.ensures.read.0 c.in_ok-rest.rest.now c.in_ok-rest.ensures.read.2)
+    shorter 40 c.loop-inside.rest.now c.in-Some.inside.now c.in_ok-rest-2.rest.now c.in-Some.ensures.stripped
+    (tree_le _ c.in-Some.inside.now c.in_ok-rest-2.ensures.read.0 c.in_ok-rest-2.rest.now c.in_ok-rest-2.ensures.read.2)
 
 pub loop-inside-preserved : goal.loop-inside-preserved
 loop-inside-preserved g t c =
     let less : c.args.depth < MAX_DEPTH = omega arith in
     let ts = c.loop-inside.invariant.0 in
-    let read = c.in_ok-rest.ensures.read in (
+    let read = c.in_ok-rest-2.ensures.read in (
       ts ++ read.0 ∷ [],
       λ keeps. read.1 keeps ∙ ap (option_map (λ us. us ++ read.0 ∷ [])) (c.loop-inside.invariant.1 keeps),
-      λ kept. c.loop-inside.invariant.2 (sym c.in_ok-rest.ensures.kept ∙ kept),
+      λ kept. c.loop-inside.invariant.2 (sym c.in_ok-rest-2.ensures.kept ∙ kept),
       tree_more c.args.depth c.requires.depth less c.args.bytes.now (nodes_at (parts_in c.args.bytes.now)) ts (ts ++ read.0 ∷ []) c.loop-inside.rest.now
-          c.in-Some.inside.now read.0 c.in_ok-rest.rest.now c.loop-inside.invariant.3 refl c.in-Some.ensures.stripped read.2 c.in_ok-rest.ensures.place,
+          c.in-Some.inside.now read.0 c.in_ok-rest-2.rest.now c.loop-inside.invariant.3 refl c.in-Some.ensures.stripped read.2 c.in_ok-rest-2.ensures.place,
     )
 
 pub add_tree-requires : goal.add_tree-requires
 add_tree-requires g t c =
     where_kept c.loop-inside.children
-    (λ kept. λ empty. c.in_ok-nodes.ensures.read.some (sym (c.in_ok-nodes.ensures.kept (c.loop-inside.invariant.2 kept)) ∙ empty))
+    (λ kept. λ empty. c.in_ok-rest.ensures.read.some (sym (c.in_ok-rest.ensures.kept (c.loop-inside.invariant.2 kept) ∙ ap (λ us. us ++ nodes_at (parts_in c.args.bytes.now)) c.new-own.ensures) ∙ empty))
 
 pub returns-clause-read : goal.returns-clause-read
 returns-clause-read g t c =
@@ -68,10 +68,10 @@ returns-clause-read g t c =
     let ns = nodes_at (parts_in c.args.bytes.now) in (
       (ns, chain ts),
       λ keeps.
-          added_is (trees_in c.args.trees.now) (trees_in c.add_tree.new.trees) c.loop-inside.children (λ list. map tree_of list.items) ts c.in_ok-nodes.nodes ns
-          c.in_ok-add_tree.ensures.added (c.in_ok-nodes.ensures.kept keeps) (c.loop-inside.invariant.1 keeps),
+          added_is (trees_in c.args.trees.now) (trees_in c.add_tree.new.trees) c.loop-inside.children (λ list. map tree_of list.items) ts c.nodes.new.list ns
+          c.in_ok-add_tree.ensures.added (c.in_ok-rest.ensures.kept keeps ∙ ap (λ us. us ++ ns) c.new-own.ensures) (c.loop-inside.invariant.1 keeps),
       rw c.after_space.ensures
-          (tree_whole c.args.depth c.args.bytes.now ns ts c.in_ok-nodes.rest.now c.loop-inside.rest.now c.in-Some-strip.behind.now c.in_ok-nodes.ensures.read
+          (tree_whole c.args.depth c.args.bytes.now ns ts c.in_ok-rest.rest.now c.loop-inside.rest.now c.in-Some-strip.behind.now c.in_ok-rest.ensures.read
           c.loop-inside.invariant.3 c.in-Some-strip.ensures.stripped),
     )
 

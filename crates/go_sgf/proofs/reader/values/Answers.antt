@@ -1,4 +1,5 @@
-use Rattle.std.proofs.Common.{ℕ, List, ◌++◌, ◌∷◌, [], refl, sym, ap, ◌∙◌, Err}
+use Rattle.std.proofs.Common.{ℕ, List, ◌++◌, ◌∷◌, [], refl, sym, ap, ◌∙◌, Err, append_assoc}
+use Rattle.std.proofs.lemmas.List.{append-nil}
 use Rattle.std.specs.Borrow.{Bor}
 use Rattle.go_sgf.specs.declared.limits.TheConstants.{MAX_DEPTH}
 use Rattle.go_sgf.specs.Record.{values_of}
@@ -11,7 +12,7 @@ returns-then-not-begins_with-clause-place g c = λ d h. refuses _ _ _
     (sym c.if-not-begins_with.ensures) ∙ ap Err (sym c.unexpected.ensures))
 
 pub loop-inside-init : goal.loop-inside-init
-loop-inside-init g c = ([], λ _. ap values_of c.new-values.ensures, values_first c.args.bytes.now c.after_space-rest.result.now c.requires c.after_space-rest.ensures (sym c.if-not-begins_with.ensures))
+loop-inside-init g c = ([], λ _. sym (append-nil _), values_first c.args.bytes.now c.after_space-rest.result.now c.requires c.after_space-rest.ensures (sym c.if-not-begins_with.ensures))
 
 pub returns-in_default-value-clause-place : goal.returns-in_default-value-clause-place
 returns-in_default-value-clause-place g c = λ d h.
@@ -30,8 +31,8 @@ loop-inside-preserved g c =
     let one = c.in-Some-value.one.now in (
       vs ++ one ∷ [],
       λ keeps.
-          map-push (λ (v : Bor (List ℕ)). v.now) c.loop-inside.values c.add.new.list c.in-Some-value.one (c.in_ok-add.ensures.added keeps)
-          ∙ ap (λ us. us ++ one ∷ []) (c.loop-inside.invariant.1 keeps),
+          map-push (λ (v : Bor (List ℕ)). v.now) c.loop-inside.list c.add.new.list c.in-Some-value.one (c.in_ok-add.ensures.added keeps)
+          ∙ ap (λ us. us ++ one ∷ []) (c.loop-inside.invariant.1 keeps) ∙ append_assoc (values_of c.args.list.now) vs (one ∷ []),
       rw c.after_space-rest-in-Some.ensures
           (values_more c.args.bytes.now vs (vs ++ one ∷ []) c.loop-inside.rest.now one c.in-Some.inside.now c.in-Some-value.more.now c.loop-inside.invariant.2 refl
           c.in-Some.ensures.stripped c.in-Some-value.ensures.whole c.in-Some-value.ensures.inside),

@@ -1,0 +1,56 @@
+use Rattle.std.proofs.Common.{◌≡◌, ◌∷◌, [], Some, false, ap, sym, take, ◌∙◌, eqb-true}
+use Rattle.std.proofs.lemmas.List.{nil_from_length, take-append-drop}
+use Rattle.go_sgf.specs.inner.PartsIn.{parts_from}
+use Rattle.go_sgf.specs.declared.limits.TheConstants.{MAX_DEPTH}
+use Rattle.go_sgf.proofs.Inside.{ordinary_on, split_further, stop_is_escape, value_up_to, value_past_escape}
+use Rattle.go_sgf.proofs.PartsIn.{unended, unended_escape}
+use Rattle.go_sgf.proofs.Machine.{escape_ends, ordinary_ends}
+use Rattle.go_sgf.proofs.values.any_value.Goals as goal
+
+pub returns-then-byte-eq93-clause-inside : goal.returns-then-byte-eq93-clause-inside
+returns-then-byte-eq93-clause-inside c =
+    rw c.split_at-then-byte-eq93.ensures.front
+    (value_up_to c.loop-front.read c.args.bytes.now c.in-Some.front.now (c.in-Some.byte ∷ c.in-Some.more.now)
+    c.loop-front.invariant.within c.loop-front.invariant.inside c.in-Some.ensures.front
+    (sym c.split_at.ensures.back ∙ c.in-Some.ensures.whole))
+
+pub returns-then-byte-eq93-clause-whole : goal.returns-then-byte-eq93-clause-whole
+returns-then-byte-eq93-clause-whole c =
+    let split = split_further c.loop-front.read c.args.bytes.now c.in-Some.front.now (c.in-Some.byte ∷ c.in-Some.more.now)
+    c.loop-front.invariant.within (sym c.split_at.ensures.back ∙ c.in-Some.ensures.whole) in
+    rw (c.split_at-then-byte-eq93.ensures.front, ← c.if-byte-eq93.true) split.1
+
+pub returns-then-is_empty-clause-none : goal.returns-then-is_empty-clause-none
+returns-then-is_empty-clause-none c = λ d h.
+    let escape : c.in-Some.byte ≡ 92 = stop_is_escape c.in-Some.byte c.in-Some.ensures.stopped c.if-byte-eq93.false in
+    let end : c.in-Some.more.now ≡ [] = nil_from_length _ (eqb-true _ 0 (sym c.if-is_empty.ensures)) in
+    escape_ends MAX_DEPTH d h c.loop-front.read c.args.bytes.now c.in-Some.front.now c.loop-front.invariant.inside
+    c.in-Some.ensures.front (rw (← escape, ← end) (sym c.split_at.ensures.back ∙ c.in-Some.ensures.whole))
+
+pub loop-front-preserved : goal.loop-front-preserved
+loop-front-preserved c =
+    let escape : c.in-Some.byte ≡ 92 = stop_is_escape c.in-Some.byte c.in-Some.ensures.stopped c.if-byte-eq93.false in
+    let past = value_past_escape c.loop-front.read c.args.bytes.now c.in-Some.front.now c.in-Some.more.now
+    c.loop-front.invariant.within c.loop-front.invariant.inside c.in-Some.ensures.front
+    (rw (← escape) (sym c.split_at.ensures.back ∙ c.in-Some.ensures.whole)) (sym c.if-is_empty.ensures) in
+    record { within = past.0; inside = past.1 }
+
+pub returns-clause-none : goal.returns-clause-none
+returns-clause-none c = λ d h.
+    ordinary_ends MAX_DEPTH d h c.loop-front.read c.args.bytes.now c.loop-front.invariant.inside
+    (rw (← c.split_at.ensures.back) c.in_default.ensures.none)
+
+pub returns-then-is_empty-clause-unended : goal.returns-then-is_empty-clause-unended
+returns-then-is_empty-clause-unended c =
+    let escape : c.in-Some.byte ≡ 92 = stop_is_escape c.in-Some.byte c.in-Some.ensures.stopped c.if-byte-eq93.false in
+    let end : c.in-Some.more.now ≡ [] = nil_from_length _ (eqb-true _ 0 (sym c.if-is_empty.ensures)) in
+    let split = split_further c.loop-front.read c.args.bytes.now c.in-Some.front.now (92 ∷ []) c.loop-front.invariant.within
+    (rw (← escape, ← end) (sym c.split_at.ensures.back ∙ c.in-Some.ensures.whole)) in
+    let inside = value_up_to c.loop-front.read c.args.bytes.now c.in-Some.front.now (92 ∷ []) c.loop-front.invariant.within c.loop-front.invariant.inside
+    c.in-Some.ensures.front (rw (← escape, ← end) (sym c.split_at.ensures.back ∙ c.in-Some.ensures.whole)) in
+    ap (parts_from (Some false)) split.1 ∙ unended_escape _ inside
+
+pub returns-clause-unended : goal.returns-clause-unended
+returns-clause-unended c =
+    ap (parts_from (Some false)) (sym (take-append-drop c.loop-front.read c.args.bytes.now))
+    ∙ unended _ (ordinary_on (take c.loop-front.read c.args.bytes.now) _ c.loop-front.invariant.inside (rw (← c.split_at.ensures.back) c.in_default.ensures.none))
