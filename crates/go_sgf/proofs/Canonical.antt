@@ -4,7 +4,7 @@ use Rattle.std.proofs.lemmas.Bool.{cases_Bool, and_parts}
 use Rattle.std.specs.List.{list_all, list_any, flat_map, filter, AllByRecursion}
 use Rattle.go_sgf.specs.Record.{Property, Trees, none, tree, is_letter_byte, is_upper_byte, IsName, IsProperty, AreTrees, depth, IsFit, plain, plain_property}
 use Rattle.go_sgf.specs.Spelling.{Part, opening, closing, semicolon, name, value_part, text, text_of_parts, node_parts, property_parts, parts, without_space, tree_in, tree_text, canonical, SpellsParts}
-use Rattle.go_sgf.specs.inner.PartsIn.{is_letter_first}
+use Rattle.go_sgf.specs.inner.Reads.{is_letter_first}
 use Rattle.go_sgf.specs.Laws.{CanonicalSpellsPlain}
 use Rattle.go_sgf.proofs.Parts.{AllByRecursion-append, SpellsParts-append, SpellsParts-same, after_space-again, letter_same}
 

@@ -2,7 +2,6 @@ pub mod Scanning
 pub mod Machine
 pub mod Parts
 pub mod Inside
-pub mod PartsIn
 pub mod Passing
 pub mod Keeping
 pub mod Growing
@@ -10,9 +9,8 @@ pub mod Outcomes
 pub mod Standing
 pub mod Stops
 pub mod Written
+pub mod Passed
 pub mod Tidied
-pub mod Leaving
-pub mod Staying
 pub mod Canonical
 pub mod Unambiguous
 pub mod Fronts

@@ -9,7 +9,7 @@ use Rattle.go_sgf.specs.Spelling.{without_space, is_first, is_space}
 use Rattle.go_sgf.specs.Stands.{State, StateAt, step, outside, on_space, on_open, on_close, on_semicolon, on_bracket, on_upper, on_lower, opened, in_node, low, named, gap, in_value, escape, after, closed}
 use Rattle.go_sgf.specs.inner.Outcome.{outcome, outcome_on, IsWithin, here}
 use Rattle.go_sgf.specs.inner.Reads.{begins_space, is_ordinary}
-use Rattle.go_sgf.specs.inner.PartsIn.{is_letter_first}
+use Rattle.go_sgf.specs.inner.Reads.{is_letter_first}
 use Rattle.go_sgf.specs.declared.error.Fault.TheVariants.{End, Unexpected}
 use Rattle.go_sgf.proofs.Inside.{ordinary_inside}
 use Rattle.go_sgf.proofs.Scanning.{after_space_more, after_space_stop}

@@ -6,7 +6,7 @@ use Rattle.go_sgf.specs.Record.{Property, Trees, none, tree, is_upper_byte, is_l
 use Rattle.go_sgf.specs.Spelling.{closing, value_part, property_parts, node_parts, parts, without_space, SpellsParts}
 use Rattle.go_sgf.specs.Stands.{State, opened, in_node, named, after, closed}
 use Rattle.go_sgf.specs.inner.Outcome.{outcome, outcome_after, IsWithin}
-use Rattle.go_sgf.specs.inner.PartsIn.{is_letter_first}
+use Rattle.go_sgf.specs.inner.Reads.{is_letter_first}
 use Rattle.go_sgf.proofs.Growing.{closes, out_of_child}
 use Rattle.go_sgf.proofs.Machine as machine
 use Rattle.go_sgf.proofs.Parts.{SpellsParts-split, bracket_no_letter, name_letter}

@@ -6,7 +6,7 @@ use Rattle.std.specs.List.{list_all, AllByRecursion}
 use Rattle.go_sgf.specs.Spelling.{Part, text, without_space, is_space, SpellsParts}
 use Rattle.go_sgf.specs.Record.{is_letter_byte, IsName}
 use Rattle.go_sgf.specs.inner.Reads.{begins_space}
-use Rattle.go_sgf.specs.inner.PartsIn.{is_letter_first}
+use Rattle.go_sgf.specs.inner.Reads.{is_letter_first}
 use Rattle.go_sgf.proofs.Scanning.{after_space_more, after_space_stop}
 
 -- ---- lists

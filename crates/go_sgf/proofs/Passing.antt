@@ -9,7 +9,7 @@ use Rattle.go_sgf.specs.Spelling.{Part, value_part, property_parts, node_parts, 
 use Rattle.go_sgf.specs.Stands.{opened, in_node, named, gap, in_value, after, closed}
 use Rattle.go_sgf.specs.inner.Outcome.{outcome, Meets, IsWithin, here}
 use Rattle.go_sgf.specs.inner.Reads.{ReadsValues, ReadsProperty, ReadsNode, ReadsNodes}
-use Rattle.go_sgf.specs.inner.PartsIn.{is_letter_first}
+use Rattle.go_sgf.specs.inner.Reads.{is_letter_first}
 use Rattle.go_sgf.specs.declared.error.Fault.{Fault}
 use Rattle.go_sgf.specs.declared.error.Fault.TheVariants.{Memory, End, Unexpected, TooDeep}
 use Rattle.go_sgf.specs.declared.limits.TheConstants.{MAX_DEPTH}
@@ -42,11 +42,6 @@ flat_map-push f xs x = flat_map-append f xs (x ∷ []) ∙ ap (λ ys. flat_map f
 
 pub map-push : {X Y : Type 0} (f : X → Y) (xs ys : List X) (x : X) → ys ≡ xs ++ x ∷ [] → map f ys ≡ map f xs ++ f x ∷ []
 map-push f xs ys x e = ap (map f) e ∙ map-append f xs (x ∷ [])
-
--- one more that is kept
-pub kept_more : {X : Type 0} (r : Option X) (us vs ws : List X) (x : X) → IfSome r (λ one. us ≡ vs ++ one ∷ []) → r ≡ Some x → vs ≡ ws → us ≡ ws ++ x ∷ []
-kept_more None us vs ws x h e f = cc
-kept_more (Some y) us vs ws x h e f = cc
 
 pub shorter : (c : ℕ) (b inside rest : List ℕ) → b ≡ c ∷ inside → length rest ≤ length inside → length rest < length b
 shorter c b inside rest e h = omega (arith, ap length e)

@@ -6,7 +6,7 @@ use Rattle.std.specs.List.{list_all, flat_map, AllByRecursion}
 use Rattle.go_sgf.specs.Record.{Property, Trees, none, tree, is_letter_byte, is_inside, IsValue, IsProperty, AreTrees}
 use Rattle.go_sgf.specs.Spelling.{Part, closing, value_part, property_parts, node_parts, parts, without_space, is_tree_first, is_first, tree_in, SpellsParts}
 use Rattle.go_sgf.specs.inner.Reads.{begins_space}
-use Rattle.go_sgf.specs.inner.PartsIn.{is_letter_first}
+use Rattle.go_sgf.specs.inner.Reads.{is_letter_first}
 use Rattle.go_sgf.specs.Laws.{OneRecord}
 use Rattle.go_sgf.proofs.Parts.{SpellsParts-split, bracket_no_letter, name_letter, after_space-same, no_space_after}
 use Rattle.go_sgf.proofs.Stops.{tree_begins}

@@ -1,11 +1,8 @@
 -- Words of private functions' contracts. No public contract cites them: a reader who wants to know what is promised can
 -- leave them out.
-pub mod Branch
 pub mod Coded
 pub mod Few
 pub mod Held
 pub mod Outcome
-pub mod PartsIn
 pub mod Reads
-pub mod RestIn
-pub mod Texts
+pub mod Tidied

@@ -1,8 +1,7 @@
 ghost use Rattle.std.specs.Prelude.{◌≡◌, ◌≢◌, ◌≤◌, ◌<◌, ◌↔◌, ◌∷◌, ◌++◌, ℕ, List, [], Err, IfErr, IfOk, IfSome, IsErrOf, OnErr, OnOk, Some, false, is_some, length, option_map, true};
 ghost use Rattle.go_sgf.specs.inner.Held.{property_of, trees_in};
 ghost use Rattle.go_sgf.specs.inner.Outcome.{IsWithin, Meets, here, left_of, outcome, outcome_after, error_at};
-ghost use Rattle.go_sgf.specs.inner.Reads.{ReadsNode, ReadsNodes, ReadsProperty, ReadsTree, ReadsValues};
-ghost use Rattle.go_sgf.specs.inner.PartsIn.{is_letter_first, nodes_at, parts_in};
+ghost use Rattle.go_sgf.specs.inner.Reads.{ReadsNode, ReadsNodes, ReadsProperty, ReadsTree, ReadsValues, is_letter_first};
 ghost use Rattle.go_sgf.specs.Record.{Property, TreeValue, Trees, values_of};
 ghost use Rattle.go_sgf.specs.Refusals.{IsRefusal};
 ghost use Rattle.go_sgf.specs.Spelling.{Spells};
@@ -176,10 +175,8 @@ fn nodes<'a, K: Keep>(
     list: &mut Few<Node<'a, K::Alloc>, K::Alloc>,
     bytes: &'a [u8],
 ) -> Result<&'a [u8], Fault>
-    ensures read { IfOk result
-        (λ rest. ReadsNodes bytes.now (nodes_at (parts_in bytes.now)) rest.now) }
-    ensures kept { OnOk result (K.keeps
-        → list.new ≡ list.old ++ nodes_at (parts_in bytes.now)) }
+    ensures read { IfOk result (λ rest. (ns : List (List Property))
+        × (K.keeps → list.new ≡ list.old ++ ns) × ReadsNodes bytes.now ns rest.now) }
     ensures place { (d : ℕ) → IsWithin MAX_DEPTH d → Meets result
         (outcome MAX_DEPTH opened d bytes.now) (λ rest. outcome MAX_DEPTH closed d rest.now) }
     ensures memory { IsErrOf result Fault.Memory → K.keeps }

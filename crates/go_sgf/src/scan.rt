@@ -1,8 +1,8 @@
-ghost use Rattle.std.specs.Prelude.{◌≡◌, ◌∷◌, ◌++◌, ◌||◌, ◌==◌, IfNone, IfSome, false, true};
+ghost use Rattle.std.specs.Prelude.{◌≡◌, ◌≢◌, ◌≤◌, ◌∷◌, ◌++◌, ◌||◌, ◌==◌, ℕ, IfNone, IfSome, None, false, length, true};
 ghost use Rattle.std.specs.List.{list_all, list_any};
 ghost use Rattle.memchr.specs.Find.{IsFirstByte, is_byte2};
-ghost use Rattle.go_sgf.specs.inner.Reads.{is_ordinary};
-ghost use Rattle.go_sgf.specs.inner.PartsIn.{is_letter_first};
+ghost use Rattle.go_sgf.specs.inner.Reads.{is_letter_first, is_ordinary};
+ghost use Rattle.go_sgf.specs.inner.Tidied.{behind_from, is_left_out_byte, is_left_out_first, tidied_from};
 ghost use Rattle.go_sgf.specs.Record.{is_letter_byte, is_upper_byte};
 ghost use Rattle.go_sgf.specs.Spelling.{without_space, is_tree_first, is_first, tree_in, is_space};
 
@@ -35,11 +35,30 @@ pub(crate) fn has_upper(bytes: &[u8]) -> bool
     bytes.iter().any(|byte| is_upper(*byte))
 }
 
-/// Whether all bytes are upper-case letters.
-pub(crate) fn is_plain(name: &[u8]) -> bool
-    ensures { result ≡ list_all is_upper_byte name.now }
+/// Whether a byte outside of values isn't written: white space and lower-case letters.
+pub(crate) fn is_left_out(byte: u8) -> bool
+    ensures { result ≡ is_left_out_byte byte }
 {
-    name.iter().all(|letter| is_upper(*letter))
+    is_white(byte) || (b'a' <= byte && byte <= b'z')
+}
+
+/// The bytes behind those at the front that aren't written.
+pub(crate) fn behind_left_out(bytes: &[u8]) -> &[u8]
+    ensures written { (d : ℕ) → d ≢ 0
+        → tidied_from None d bytes.now ≡ tidied_from None d result.now }
+    ensures behind { (d : ℕ) → d ≢ 0
+        → behind_from None d bytes.now ≡ behind_from None d result.now }
+    ensures stopped { is_left_out_first result.now ≡ false }
+    ensures shorter { length result.now ≤ length bytes.now }
+{
+    let mut rest = bytes;
+    while let Some((first, more)) = rest.split_first() {
+        if !is_left_out(*first) {
+            return rest;
+        }
+        rest = more;
+    }
+    rest
 }
 
 /// The bytes behind the white space at the front.

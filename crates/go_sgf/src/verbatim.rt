@@ -1,64 +1,65 @@
-ghost use Rattle.std.specs.Prelude.{◌≡◌, ◌<◌, ◌++◌, IfNone, IfSome, false, length};
-ghost use Rattle.go_sgf.specs.inner.PartsIn.{parts_in};
-ghost use Rattle.go_sgf.specs.Spelling.{is_first};
-ghost use Rattle.go_sgf.specs.inner.RestIn.{rest_in};
-ghost use Rattle.go_sgf.specs.inner.Texts.{StayValues, Stays, parts_text};
+ghost use Rattle.std.specs.Prelude.{◌≡◌, ◌≢◌, ◌≤◌, ◌<◌, ◌+◌, ◌^◌, ◌++◌, ℕ, [], IfNone, IfSome, Some, None, false, length};
+ghost use Rattle.go_sgf.specs.inner.Tidied.{StaysTo, behind_from, is_left_out_first, tidied_from};
 
-use crate::scan::{after_space, begins_letter, begins_with, is_plain, letters, strip};
+use crate::scan::is_left_out;
 use crate::values::value;
 
-/// What stands at a text's front just as it is written, as most records do: `;` and properties with
-/// plain names, and no white space between them. None where the front has no such part.
-pub(crate) fn verbatim(text: &[u8]) -> Option<(&[u8], &[u8])>
+/// What stands at the front of a tree's text just as it is written, what follows that, and how many
+/// trees are open there; so many are open here. None where the first byte is left out, no tree is
+/// open or the text has ended.
+pub(crate) fn verbatim(text: &[u8], depth: usize) -> Option<(&[u8], &[u8], usize)>
+    requires { depth + length text.now ≤ 2 ^ 63 }
     ensures whole { IfSome result (λ r. text.now ≡ r.0.now ++ r.1.now) }
     ensures written { IfSome result
-        (λ r. parts_text (parts_in text.now) ≡ r.0.now ++ parts_text (parts_in r.1.now)) }
-    ensures left { IfSome result (λ r. rest_in text.now ≡ rest_in r.1.now) }
+        (λ r. tidied_from None depth text.now ≡ r.0.now ++ tidied_from None r.2 r.1.now) }
+    ensures behind { IfSome result
+        (λ r. behind_from None depth text.now ≡ behind_from None r.2 r.1.now) }
+    ensures bound { IfSome result (λ r. r.2 + length r.1.now ≤ depth + length text.now) }
     ensures shorter { IfSome result (λ r. length r.1.now < length text.now) }
-    ensures none { IfNone result (is_first 59 text.now ≡ false) }
-{
-    let mut rest = part(text)?;
-    while let Some(more) = part(rest) {
-        rest = more;
-    }
-    Some(text.split_at(text.len() - rest.len()))
-}
-
-/// What follows a `;` or a property at a text's front that stands there just as it is written.
-fn part(text: &[u8]) -> Option<&[u8]>
-    ensures stays { IfSome result (λ rest. Stays text.now rest.now) }
-    ensures shorter { IfSome result (λ rest. length rest.now < length text.now) }
-    ensures none { IfNone result (is_first 59 text.now ≡ false) }
-{
-    match strip(text, b';') {
-        Some(rest) => Some(rest),
-        None => property(text),
-    }
-}
-
-/// What follows a property at a text's front that stands there just as it is written.
-fn property(text: &[u8]) -> Option<&[u8]>
-    ensures stays { IfSome result (λ rest. Stays text.now rest.now) }
-    ensures shorter { IfSome result (λ rest. length rest.now < length text.now) }
-{
-    if !begins_letter(text) {
-        return None;
-    }
-    let (name, behind) = letters(text);
-    if is_plain(name) { values(behind) } else { None }
-}
-
-/// What follows the values at a text's front; none where white space stands between them.
-fn values(text: &[u8]) -> Option<&[u8]>
-    ensures { IfSome result (λ rest. StayValues text.now rest.now) }
+    ensures none { IfNone result
+        (is_left_out_first text.now ≡ false → depth ≢ 0 → text.now ≡ []) }
 {
     let mut rest = text;
-    while let Some(inside) = strip(rest, b'[') {
-        rest = value(inside)?.1;
+    let mut there = depth;
+    while let Some((more, now)) = behind_next(rest, there) {
+        rest = more;
+        there = now;
     }
-    if begins_with(after_space(rest), b'[') {
-        None
-    } else {
-        Some(rest)
+    let (front, _) = text.split_at(text.len() - rest.len());
+    if front.is_empty() {
+        return None;
+    }
+    Some((front, rest, there))
+}
+
+/// What follows a byte that is written, or a whole value, and how many trees are open there.
+fn behind_next(text: &[u8], depth: usize) -> Option<(&[u8], usize)>
+    requires { depth + length text.now ≤ 2 ^ 63 }
+    ensures stays { IfSome result (λ r. StaysTo None depth text.now r.1 r.0.now) }
+    ensures bound { IfSome result (λ r. r.1 + length r.0.now ≤ depth + length text.now) }
+    ensures shorter { IfSome result (λ r. length r.0.now < length text.now) }
+    ensures none { IfNone result
+        (is_left_out_first text.now ≡ false → depth ≢ 0 → text.now ≡ []) }
+{
+    let (byte, more) = text.split_first()?;
+    if depth == 0 || is_left_out(*byte) {
+        return None;
+    }
+    match *byte {
+        b'[' => Some((behind_value(more), depth)),
+        b'(' => Some((more, depth + 1)),
+        b')' => Some((more, depth - 1)),
+        _ => Some((more, depth)),
+    }
+}
+
+/// What follows a value from behind its `[` on; nothing where it has no end.
+fn behind_value(text: &[u8]) -> &[u8]
+    ensures stays { (d : ℕ) → d ≢ 0 → StaysTo (Some false) d text.now d result.now }
+    ensures shorter { length result.now ≤ length text.now }
+{
+    match value(text) {
+        Some((_, behind)) => behind,
+        None => &[],
     }
 }

@@ -1,7 +1,7 @@
 -- What the parts of the reader have read, up to the rest. It serves the contracts of private functions alone.
 use Rattle.std.specs.Prelude.{◌≢◌, ◌≤◌, ◌+◌, ◌==◌, ◌||◌, not, Bool, false, ℕ, List, [], ◌∷◌, ◌++◌, map}
 use Rattle.std.specs.List.{flat_map, AllByRecursion}
-use Rattle.go_sgf.specs.Record.{Property, IsValue, IsProperty, AreTrees, depth, TreeValue}
+use Rattle.go_sgf.specs.Record.{Property, IsValue, IsProperty, AreTrees, depth, TreeValue, is_letter_byte}
 use Rattle.go_sgf.specs.Spelling.{is_space, closing, value_part, SpellsParts, property_parts, node_parts, parts}
 use Rattle.go_sgf.specs.declared.limits.TheConstants.{MAX_DEPTH}
 
@@ -38,3 +38,7 @@ is_ordinary c = not (c == 93 || c == 92)
 abbrev pub begins_space : List ℕ → Bool
 begins_space [] = false
 begins_space (c ∷ cs) = is_space c
+
+abbrev pub is_letter_first : List ℕ → Bool
+is_letter_first [] = false
+is_letter_first (c ∷ cs) = is_letter_byte c

@@ -4,11 +4,11 @@ use Rattle.std.specs.List.{flat_map}
 use Rattle.std.specs.Prelude.{option_map}
 use Rattle.go_sgf.specs.declared.error.Fault.TheVariants.{TooDeep}
 use Rattle.go_sgf.specs.declared.limits.TheConstants.{MAX_DEPTH}
+use Rattle.go_sgf.specs.inner.Few.{items_in}
 use Rattle.go_sgf.specs.inner.Held.{trees_in}
 use Rattle.go_sgf.specs.inner.Outcome.{outcome}
 use Rattle.go_sgf.specs.Spelling.{node_parts, parts}
 use Rattle.go_sgf.specs.Stands.{closed}
-use Rattle.go_sgf.specs.inner.PartsIn.{nodes_at, parts_in}
 use Rattle.go_sgf.specs.View.{chain, tree_of}
 use Rattle.go_sgf.proofs.Keeping.{added_is, kept_where, where_kept}
 use Rattle.go_sgf.proofs.Growing.{close_stops, closes, into_child, too_deep, tree_first, tree_le, tree_more, tree_whole}
@@ -18,7 +18,7 @@ use Rattle.go_sgf.proofs.reader.+tree.Goals as goal
 pub returns-then-depth-eq-MAX_DEPTH-clause-place : goal.returns-then-depth-eq-MAX_DEPTH-clause-place
 returns-then-depth-eq-MAX_DEPTH-clause-place g t c =
     let P : ℕ → Type 0 = λ k. outcome MAX_DEPTH closed k c.loop-inside.rest.now ≡ Err (TooDeep (length c.loop-inside.rest.now)) in
-    c.loop-inside.invariant.3.place
+    c.loop-inside.invariant.5.place
     ∙ subst P (sym c.if-depth-eq-MAX_DEPTH.true) (too_deep MAX_DEPTH c.loop-inside.rest.now c.in-Some.inside.now c.in-Some.ensures.stripped)
 
 pub returns-in_err-rest-2-clause-place : goal.returns-in_err-rest-2-clause-place
@@ -27,18 +27,22 @@ returns-in_err-rest-2-clause-place g t c =
     let p = err_from_is_err_and c.from_residual-in_err-rest-2.result c.from_residual-in_err-rest-2.ensures.1 in
     rw (p.1, p.2)
     (passes _ _ _ _ _
-    (c.loop-inside.invariant.3.place
+    (c.loop-inside.invariant.5.place
     ∙ into_child MAX_DEPTH c.args.depth c.requires.depth less c.loop-inside.rest.now c.in-Some.inside.now c.in-Some.ensures.stripped)
     c.in_err-rest-2.ensures.place)
 
 pub loop-inside-init : goal.loop-inside-init
-loop-inside-init g t c = (
-  [],
-  c.no_trees-children.ensures.kept,
-  kept_where c.no_trees-children.result c.no_trees-children.ensures.some,
-  tree_first c.args.depth c.requires.depth c.args.bytes.now (nodes_at (parts_in c.args.bytes.now)) c.in_ok-rest.rest.now c.in_ok-rest.ensures.read
-      (c.in_ok-rest.ensures.place c.args.depth c.requires.depth),
-)
+loop-inside-init g t c =
+    let read = c.in_ok-rest.ensures.read in (
+      read.0,
+      [],
+      λ keeps. c.own.view_is ∙ read.1 keeps ∙ ap (λ us. us ++ read.0) c.new-own.ensures,
+      c.no_trees-children.ensures.kept,
+      kept_where c.no_trees-children.result c.no_trees-children.ensures.some,
+      tree_first c.args.depth c.requires.depth c.args.bytes.now read.0 c.in_ok-rest.rest.now read.2 (c.in_ok-rest.ensures.place c.args.depth c.requires.depth),
+      c.in_ok-rest.rest.now,
+      read.2,
+    )
 
 pub loop-inside-smaller : goal.loop-inside-smaller
 loop-inside-smaller g t c =
@@ -48,43 +52,45 @@ loop-inside-smaller g t c =
 pub loop-inside-preserved : goal.loop-inside-preserved
 loop-inside-preserved g t c =
     let less : c.args.depth < MAX_DEPTH = omega arith in
-    let ts = c.loop-inside.invariant.0 in
+    let i = c.loop-inside.invariant in
     let read = c.in_ok-rest-2.ensures.read in (
-      ts ++ read.0 ∷ [],
-      λ keeps. read.1 keeps ∙ ap (option_map (λ us. us ++ read.0 ∷ [])) (c.loop-inside.invariant.1 keeps),
-      λ kept. c.loop-inside.invariant.2 (sym c.in_ok-rest-2.ensures.kept ∙ kept),
-      tree_more c.args.depth c.requires.depth less c.args.bytes.now (nodes_at (parts_in c.args.bytes.now)) ts (ts ++ read.0 ∷ []) c.loop-inside.rest.now
-          c.in-Some.inside.now read.0 c.in_ok-rest-2.rest.now c.loop-inside.invariant.3 refl c.in-Some.ensures.stripped read.2 c.in_ok-rest-2.ensures.place,
+      i.0,
+      i.1 ++ read.0 ∷ [],
+      i.2,
+      λ keeps. read.1 keeps ∙ ap (option_map (λ us. us ++ read.0 ∷ [])) (i.3 keeps),
+      λ kept. i.4 (sym c.in_ok-rest-2.ensures.kept ∙ kept),
+      tree_more c.args.depth c.requires.depth less c.args.bytes.now i.0 i.1 (i.1 ++ read.0 ∷ []) c.loop-inside.rest.now
+          c.in-Some.inside.now read.0 c.in_ok-rest-2.rest.now i.5 refl c.in-Some.ensures.stripped read.2 c.in_ok-rest-2.ensures.place,
+      i.6,
+      i.7,
     )
 
 pub add_tree-requires : goal.add_tree-requires
 add_tree-requires g t c =
-    where_kept c.loop-inside.children
-    (λ kept. λ empty. c.in_ok-rest.ensures.read.some (sym (c.in_ok-rest.ensures.kept (c.loop-inside.invariant.2 kept) ∙ ap (λ us. us ++ nodes_at (parts_in c.args.bytes.now)) c.new-own.ensures) ∙ empty))
+    let i = c.loop-inside.invariant in
+    where_kept c.loop-inside.children (λ kept. λ empty. i.7.some (sym (i.2 (i.4 kept)) ∙ c.own.view_is ∙ empty))
 
 pub returns-clause-read : goal.returns-clause-read
 returns-clause-read g t c =
-    let ts = c.loop-inside.invariant.0 in
-    let ns = nodes_at (parts_in c.args.bytes.now) in (
-      (ns, chain ts),
+    let i = c.loop-inside.invariant in (
+      (i.0, chain i.1),
       λ keeps.
-          added_is (trees_in c.args.trees.now) (trees_in c.add_tree.new.trees) c.loop-inside.children (λ list. map tree_of list.items) ts c.nodes.new.list ns
-          c.in_ok-add_tree.ensures.added (c.in_ok-rest.ensures.kept keeps ∙ ap (λ us. us ++ ns) c.new-own.ensures) (c.loop-inside.invariant.1 keeps),
+          added_is (trees_in c.args.trees.now) (trees_in c.add_tree.new.trees) c.loop-inside.children (λ list. map tree_of list.items) i.1 c.nodes.new.list i.0
+          c.in_ok-add_tree.ensures.added (sym c.own.view_is ∙ i.2 keeps) (i.3 keeps),
       rw c.after_space.ensures
-          (tree_whole c.args.depth c.args.bytes.now ns ts c.in_ok-rest.rest.now c.loop-inside.rest.now c.in-Some-strip.behind.now c.in_ok-rest.ensures.read
-          c.loop-inside.invariant.3 c.in-Some-strip.ensures.stripped),
+          (tree_whole c.args.depth c.args.bytes.now i.0 i.1 i.6 c.loop-inside.rest.now c.in-Some-strip.behind.now i.7 i.5 c.in-Some-strip.ensures.stripped),
     )
 
 pub returns-clause-place : goal.returns-clause-place
 returns-clause-place g t c =
     rw c.after_space.ensures
-    (c.loop-inside.invariant.3.place
+    (c.loop-inside.invariant.5.place
     ∙ closes MAX_DEPTH c.args.depth c.requires.depth c.loop-inside.rest.now c.in-Some-strip.behind.now c.in-Some-strip.ensures.stripped)
 
 pub returns-in_default-strip-clause-place : goal.returns-in_default-strip-clause-place
 returns-in_default-strip-clause-place g t c = refuses _ _ _
-    (c.loop-inside.invariant.3.place
+    (c.loop-inside.invariant.5.place
     ∙ close_stops MAX_DEPTH c.args.depth
-    (flat_map node_parts (nodes_at (parts_in c.args.bytes.now)) ++ parts (chain c.loop-inside.invariant.0))
-    c.args.bytes.now c.loop-inside.rest.now c.loop-inside.invariant.3.spelling c.in_default.ensures.other c.in_default-strip.ensures.other
+    (flat_map node_parts c.loop-inside.invariant.0 ++ parts (chain c.loop-inside.invariant.1))
+    c.args.bytes.now c.loop-inside.rest.now c.loop-inside.invariant.5.spelling c.in_default.ensures.other c.in_default-strip.ensures.other
     ∙ ap Err (sym c.unexpected.ensures))

@@ -1,15 +1,10 @@
-use Rattle.std.proofs.Common.{◌≡◌, ℕ, false, List, [], ◌∷◌, ◌++◌, refl, sym, ap, subst, ◌∙◌, Err, append_assoc}
+use Rattle.std.proofs.Common.{[], ◌∷◌, ◌++◌, refl, sym, ap, ◌∙◌, Err, append_assoc}
 use Rattle.std.proofs.lemmas.List.{append-nil}
 use Rattle.std.proofs.lemmas.Result.{err_from_is_err_and}
 use Rattle.go_sgf.specs.declared.limits.TheConstants.{MAX_DEPTH}
 use Rattle.std.specs.List.{flat_map}
 use Rattle.go_sgf.specs.Spelling.{property_parts}
-use Rattle.go_sgf.specs.inner.Reads.{ReadsNodes}
-use Rattle.go_sgf.specs.inner.PartsIn.{nodes_at, parts_in}
-use Rattle.go_sgf.specs.Record.{Property}
-use Rattle.go_sgf.specs.Spelling.{is_first}
 use Rattle.go_sgf.proofs.Parts.{rest_le}
-use Rattle.go_sgf.proofs.PartsIn.{nodes_read}
 use Rattle.go_sgf.proofs.Passing.{NodesSoFar, bracket_stops, into_node, nodes_first, nodes_more, nodes_passed, nodes_stop, nodes_whole, passes, refuses, shorter}
 use Rattle.go_sgf.proofs.reader.nodes.Goals as goal
 
@@ -38,24 +33,10 @@ loop-inside-preserved g c =
           c.loop-inside.invariant.2 refl c.in-Some.ensures.stripped read.2 c.in_ok-rest.ensures.stopped c.in_ok-rest.ensures.place,
     )
 
-same_nodes : (b : List ℕ) (ns : List (List Property)) (rest : List ℕ) → NodesSoFar b ns rest → is_first 59 rest ≡ false → is_first 91 rest ≡ false →
-    ns ≡ nodes_at (parts_in b)
-same_nodes b ns rest far e f = sym (nodes_read b ns rest (nodes_whole b ns rest far e) far.letters e f)
-
 pub returns-clause-read : goal.returns-clause-read
 returns-clause-read g c =
-    let b = c.args.bytes.now in
-    let ns = c.loop-inside.invariant.0 in
-    let rest = c.loop-inside.rest.now in
-    let far = c.loop-inside.invariant.2 in
-    subst (λ (ms : List (List Property)). ReadsNodes b ms rest) (same_nodes b ns rest far c.in_default.ensures.other (sym c.if-begins_with.ensures))
-    (nodes_whole b ns rest far c.in_default.ensures.other)
-
-pub returns-clause-kept : goal.returns-clause-kept
-returns-clause-kept g c = λ keeps.
-    c.loop-inside.invariant.1 keeps
-    ∙ ap (λ ns. c.args.list.now ++ ns) (same_nodes c.args.bytes.now c.loop-inside.invariant.0 c.loop-inside.rest.now c.loop-inside.invariant.2 c.in_default.ensures.other
-    (sym c.if-begins_with.ensures))
+    let i = c.loop-inside.invariant in
+    (i.0, i.1, nodes_whole c.args.bytes.now i.0 c.loop-inside.rest.now i.2 c.in_default.ensures.other)
 
 pub returns-clause-place : goal.returns-clause-place
 returns-clause-place g c =

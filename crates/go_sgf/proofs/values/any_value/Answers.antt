@@ -1,9 +1,9 @@
-use Rattle.std.proofs.Common.{◌≡◌, ◌∷◌, [], Some, false, ap, sym, take, ◌∙◌, eqb-true}
+use Rattle.std.proofs.Common.{◌≡◌, ◌∷◌, [], sym, subst, take, ◌∙◌, eqb-true}
 use Rattle.std.proofs.lemmas.List.{nil_from_length, take-append-drop}
-use Rattle.go_sgf.specs.inner.PartsIn.{parts_from}
 use Rattle.go_sgf.specs.declared.limits.TheConstants.{MAX_DEPTH}
 use Rattle.go_sgf.proofs.Inside.{ordinary_on, split_further, stop_is_escape, value_up_to, value_past_escape}
-use Rattle.go_sgf.proofs.PartsIn.{unended, unended_escape}
+use Rattle.go_sgf.specs.inner.Tidied.{NeverEnds}
+use Rattle.go_sgf.proofs.Passed.{never_ends, never_ends_escape}
 use Rattle.go_sgf.proofs.Machine.{escape_ends, ordinary_ends}
 use Rattle.go_sgf.proofs.values.any_value.Goals as goal
 
@@ -48,9 +48,9 @@ returns-then-is_empty-clause-unended c =
     (rw (← escape, ← end) (sym c.split_at.ensures.back ∙ c.in-Some.ensures.whole)) in
     let inside = value_up_to c.loop-front.read c.args.bytes.now c.in-Some.front.now (92 ∷ []) c.loop-front.invariant.within c.loop-front.invariant.inside
     c.in-Some.ensures.front (rw (← escape, ← end) (sym c.split_at.ensures.back ∙ c.in-Some.ensures.whole)) in
-    ap (parts_from (Some false)) split.1 ∙ unended_escape _ inside
+    subst NeverEnds (sym split.1) (never_ends_escape _ inside)
 
 pub returns-clause-unended : goal.returns-clause-unended
 returns-clause-unended c =
-    ap (parts_from (Some false)) (sym (take-append-drop c.loop-front.read c.args.bytes.now))
-    ∙ unended _ (ordinary_on (take c.loop-front.read c.args.bytes.now) _ c.loop-front.invariant.inside (rw (← c.split_at.ensures.back) c.in_default.ensures.none))
+    subst NeverEnds (take-append-drop c.loop-front.read c.args.bytes.now)
+    (never_ends _ (ordinary_on (take c.loop-front.read c.args.bytes.now) _ c.loop-front.invariant.inside (rw (← c.split_at.ensures.back) c.in_default.ensures.none)))

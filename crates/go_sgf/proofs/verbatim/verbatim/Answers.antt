@@ -1,9 +1,21 @@
-use Rattle.std.proofs.Common.{arith}
-use Rattle.go_sgf.proofs.Staying.{stays_on}
+use Rattle.std.proofs.Common.{[], None, refl, arith}
+use Rattle.go_sgf.proofs.Passed.{nothing_given, stays, stays_on}
 use Rattle.go_sgf.proofs.verbatim.verbatim.Goals as goal
 
-pub loop-more-preserved : goal.loop-more-preserved
-loop-more-preserved c = record {
-  stays = stays_on c.args.text.now c.loop-more.rest.now c.in-Some.more.now c.loop-more.invariant.stays c.in-Some.ensures.stays;
-  shorter = omega (arith, c.in-Some.ensures.shorter);
+pub loop-more-init : goal.loop-more-init
+loop-more-init c = record {
+  stays = stays None c.args.depth c.args.depth c.args.text.now c.args.text.now [] refl (nothing_given None c.args.depth c.args.text.now);
+  bound = omega arith;
+  no_longer = omega arith;
+  same = λ e. (refl, refl);
 }
+
+pub loop-more-preserved : goal.loop-more-preserved
+loop-more-preserved c =
+    let i = c.loop-more.invariant in
+    record {
+      stays = stays_on i.stays c.in-Some.ensures.stays;
+      bound = omega (arith, i.bound, c.in-Some.ensures.bound);
+      no_longer = omega (arith, i.no_longer, c.in-Some.ensures.shorter);
+      same = λ e. absurd (omega (arith, e, i.no_longer, c.in-Some.ensures.shorter));
+    }

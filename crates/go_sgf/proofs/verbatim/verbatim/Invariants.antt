@@ -1,11 +1,13 @@
-use Rattle.std.proofs.Common.{◌<◌, length}
-use Rattle.go_sgf.specs.inner.Texts.{Stays}
+use Rattle.std.proofs.Common.{◌≡◌, ◌≤◌, ◌+◌, None, length}
+use Rattle.go_sgf.specs.inner.Tidied.{StaysTo}
 use Rattle.go_sgf.proofs.verbatim.verbatim.Given as goal
 
 abbrev pub invariant-loop-more : goal.invariant-loop-more
 invariant-loop-more l = record {
-  stays : Stays l.text l.rest;
-  shorter : length l.rest < length l.text;
+  stays : StaysTo None l.depth l.text l.there l.rest;
+  bound : l.there + length l.rest ≤ l.depth + length l.text;
+  no_longer : length l.rest ≤ length l.text;
+  same : length l.rest ≡ length l.text → (l.rest ≡ l.text) × (l.there ≡ l.depth);
 }
 
 abbrev pub decreases-loop-more : goal.decreases-loop-more

@@ -1,5 +1,6 @@
-use Rattle.std.proofs.Common.{◌∷◌, ◌++◌, []}
+use Rattle.std.proofs.Common.{◌∷◌, ◌++◌, [], None, refl}
 use Rattle.go_board.specs.lemmas.Writing.{writes_nothing, writes_writes}
+use Rattle.go_sgf.specs.inner.Tidied.{tidied_from}
 use Rattle.go_sgf.proofs.Tidied.{all_written, none_written, one_written}
 use Rattle.go_sgf.proofs.writer.put_trees.Goals as goal
 
@@ -9,10 +10,13 @@ loop-inside-init g c = ([], writes_nothing g.W.Sink c.args.pen.now, none_written
 pub loop-inside-preserved : goal.loop-inside-preserved
 loop-inside-preserved g c =
     let w = c.loop-inside.invariant in
-    let b = c.put_tree-rest.ensures.written in (
-      w.0 ++ ((40 ∷ b.0) ++ (10 ∷ [])),
-      writes_writes w.1 (writes_writes (writes_writes c.put.ensures b.1) c.put-in-Some.ensures),
-      λ x s. one_written x w.0 c.loop-inside.rest.now c.in-Some.inside.now b.0 c.put_tree-rest.result.now (w.2 x s) c.in-Some.ensures.begins c.in-Some.ensures.stripped b.2,
+    let b = c.put_tree-rest.ensures in
+    let text = tidied_from None 1 c.in-Some.inside.now in (
+      w.0 ++ ((40 ∷ text) ++ (10 ∷ [])),
+      writes_writes w.1 (writes_writes (writes_writes c.put.ensures b.written) c.put-in-Some.ensures),
+      λ x s.
+          one_written x w.0 c.loop-inside.rest.now c.in-Some.inside.now text c.put_tree-rest.result.now (w.2 x s) c.in-Some.ensures.begins c.in-Some.ensures.stripped refl
+          b.rest,
     )
 
 pub returns : goal.returns

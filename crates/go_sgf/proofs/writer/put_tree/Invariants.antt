@@ -1,0 +1,17 @@
+use Rattle.std.proofs.Common.{◌≡◌, ◌≤◌, ◌+◌, ◌^◌, ◌++◌, ℕ, List, None, length}
+use Rattle.go_board.specs.Pens.{Writes}
+use Rattle.go_sgf.specs.inner.Tidied.{behind_from, tidied_from}
+use Rattle.go_sgf.proofs.writer.put_tree.Given as goal
+
+abbrev pub invariant-loop-depth : goal.invariant-loop-depth
+invariant-loop-depth g l = record {
+  written : (more : List ℕ)
+      × Writes g.W.Sink l.fn.pen l.pen more
+      × (tidied_from None 1 l.text ≡ more ++ tidied_from None l.depth l.rest);
+  behind : behind_from None 1 l.text ≡ behind_from None l.depth l.rest;
+  shorter : length l.rest ≤ length l.text;
+  bound : l.depth + length l.rest ≤ 2 ^ 63;
+}
+
+abbrev pub decreases-loop-depth : goal.decreases-loop-depth
+decreases-loop-depth g l = length l.rest
