@@ -1,5 +1,5 @@
 -- What is written of a tree's text, byte by byte and part by part, and what follows the tree.
-use Rattle.std.proofs.Common.{◌≡◌, ◌≢◌, ◌==◌, ◌-◌, ◌+◌, not, ℕ, zero, suc, List, [], ◌∷◌, ◌++◌, Bool, true, false, Option, Some, None, refl, sym, ap, subst, ◌∙◌, map, append_assoc, inl, inr, arith, eqb-true}
+use Rattle.std.proofs.Common.{◌≡◌, ◌≢◌, ◌==◌, ◌-◌, ◌+◌, not, ℕ, zero, suc, List, [], ◌∷◌, ◌++◌, Bool, true, false, Option, Some, None, refl, sym, ap, subst, ◌∙◌, map, append_assoc, inl, inr, arith}
 use Rattle.std.proofs.lemmas.Bool.{and_parts, cases_Bool}
 use Rattle.std.proofs.lemmas.Bool.Decides.{nat_tests}
 use Rattle.std.proofs.lemmas.List.{append-nil}
@@ -7,7 +7,7 @@ use Rattle.std.specs.List.{filter, flat_map, list_all, AllByRecursion}
 use Rattle.go_sgf.specs.Record.{Property, Trees, none, tree, AreTrees, IsProperty, IsValue, TreeValue, is_inside, is_letter_byte, is_lower, is_upper_byte, plain, plain_property}
 use Rattle.go_sgf.specs.Spelling.{Part, closing, value_part, text, text_of_parts, property_parts, node_parts, parts, tree_text, without_space, is_space, SpellsParts}
 use Rattle.go_sgf.specs.inner.Reads.{ReadsTree}
-use Rattle.go_sgf.specs.inner.Tidied.{NeverEnds, StaysTo, behind_from, is_left_out_byte, is_left_out_first, open_after, place_after, tidied_from, written}
+use Rattle.go_sgf.specs.inner.Tidied.{NeverEnds, StaysTo, behind_from, is_left_out_byte, open_after, place_after, tidied_from, written}
 use Rattle.go_sgf.proofs.Parts.{SpellsParts-split}
 use Rattle.go_sgf.proofs.Scanning.{after_space_more, after_space_stop}
 use Rattle.go_sgf.proofs.Written.{joined-append, tree_then}

@@ -1,8 +1,7 @@
 -- How the parts of the reader pass on what comes of reading.
-use Rattle.std.proofs.Common.{◌≡◌, ◌≢◌, ◌≤◌, ◌<◌, ◌+◌, ℕ, List, [], ◌∷◌, ◌++◌, true, false, Option, Some, None, Result, Err, refl, sym, ap, subst, ◌∙◌, length, map, append_assoc, eqb-true, arith}
+use Rattle.std.proofs.Common.{◌≡◌, ◌≢◌, ◌≤◌, ◌<◌, ◌+◌, ℕ, List, [], ◌∷◌, ◌++◌, true, false, Result, Err, refl, sym, ap, subst, ◌∙◌, length, map, append_assoc, eqb-true, arith}
 use Rattle.std.proofs.lemmas.Grind.{flat_map-append}
 use Rattle.std.proofs.lemmas.List.{append-nil, map-append, length-append}
-use Rattle.std.specs.Prelude.{IfSome}
 use Rattle.std.specs.List.{list_all, list_any, flat_map, AllByRecursion}
 use Rattle.go_sgf.specs.Record.{Property, is_letter_byte, is_upper_byte, IsValue, IsName, IsProperty}
 use Rattle.go_sgf.specs.Spelling.{Part, value_part, property_parts, node_parts, without_space, is_first, SpellsParts}

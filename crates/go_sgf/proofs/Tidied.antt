@@ -1,8 +1,8 @@
 -- How what is written of a source goes on, from tree to tree.
-use Rattle.std.proofs.Common.{◌≡◌, ◌≢◌, ◌≤◌, ◌+◌, ℕ, List, [], ◌∷◌, ◌++◌, true, false, None, refl, sym, ap, subst, ◌∙◌, append_assoc, arith}
+use Rattle.std.proofs.Common.{◌≡◌, ◌≢◌, ◌≤◌, ℕ, List, [], ◌∷◌, ◌++◌, true, false, None, refl, sym, ap, subst, ◌∙◌, append_assoc, arith}
 use Rattle.std.proofs.lemmas.List.{append-nil}
 use Rattle.std.specs.List.{flat_map}
-use Rattle.go_sgf.specs.Record.{Property, Trees, none, tree, AreTrees, depth, TreeValue}
+use Rattle.go_sgf.specs.Record.{Property, Trees, none, tree, AreTrees, depth}
 use Rattle.go_sgf.specs.Spelling.{Part, closing, node_parts, parts, tree_text, canonical, without_space, is_tree_first, tree_in, Spells, SpellsParts}
 use Rattle.go_sgf.specs.inner.Reads.{ReadsTree, begins_space}
 use Rattle.go_sgf.specs.inner.Tidied.{behind_from, tidied_from}

@@ -31,11 +31,7 @@ fn unexpected(rest: &[u8]) -> Fault
 }
 
 /// Adds one more to a list, where what is read is kept.
-fn add<T: Drop, K: Keep>(
-    keep: K,
-    list: &mut Few<T, K::Alloc>,
-    item: T,
-) -> Result<(), AllocError>
+fn add<T: Drop, K: Keep>(keep: K, list: &mut Few<T, K::Alloc>, item: T) -> Result<(), AllocError>
     ensures added { OnOk result (K.keeps → list.new ≡ list.old ++ item ∷ []) }
     ensures memory { OnErr result K.keeps }
 {
@@ -139,9 +135,7 @@ fn node<'a, K: Keep>(
 }
 
 /// A list of properties, where what is read is kept.
-fn no_properties<'a, K: Keep>(
-    keep: K,
-) -> Option<Few<nodes::Property<'a, K::Alloc>, K::Alloc>>
+fn no_properties<'a, K: Keep>(keep: K) -> Option<Few<nodes::Property<'a, K::Alloc>, K::Alloc>>
     ensures { K.keeps → result ≡ Some [] }
 {
     match keep.alloc() {

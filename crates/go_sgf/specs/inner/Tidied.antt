@@ -1,6 +1,6 @@
 -- What is written of a tree's text, byte by byte: all but the white space and the lower-case letters outside of values. It serves the
 -- contracts of private functions alone.
-use Rattle.std.specs.Prelude.{◌≡◌, ℕ, zero, suc, ◌-◌, ◌==◌, ◌||◌, not, if◌then◌else◌, Bool, true, false, List, [], ◌∷◌, ◌++◌, Option, Some, None}
+use Rattle.std.specs.Prelude.{◌≡◌, ℕ, zero, suc, ◌-◌, ◌==◌, ◌||◌, if◌then◌else◌, Bool, true, false, List, [], ◌∷◌, ◌++◌, Option, Some, None}
 use Rattle.go_sgf.specs.Record.{is_lower}
 use Rattle.go_sgf.specs.Spelling.{is_space}
 

@@ -4,7 +4,6 @@ use Rattle.std.specs.List.{flat_map}
 use Rattle.std.specs.Prelude.{option_map}
 use Rattle.go_sgf.specs.declared.error.Fault.TheVariants.{TooDeep}
 use Rattle.go_sgf.specs.declared.limits.TheConstants.{MAX_DEPTH}
-use Rattle.go_sgf.specs.inner.Few.{items_in}
 use Rattle.go_sgf.specs.inner.Held.{trees_in}
 use Rattle.go_sgf.specs.inner.Outcome.{outcome}
 use Rattle.go_sgf.specs.Spelling.{node_parts, parts}

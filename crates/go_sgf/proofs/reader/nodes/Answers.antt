@@ -5,7 +5,7 @@ use Rattle.go_sgf.specs.declared.limits.TheConstants.{MAX_DEPTH}
 use Rattle.std.specs.List.{flat_map}
 use Rattle.go_sgf.specs.Spelling.{property_parts}
 use Rattle.go_sgf.proofs.Parts.{rest_le}
-use Rattle.go_sgf.proofs.Passing.{NodesSoFar, bracket_stops, into_node, nodes_first, nodes_more, nodes_passed, nodes_stop, nodes_whole, passes, refuses, shorter}
+use Rattle.go_sgf.proofs.Passing.{bracket_stops, into_node, nodes_first, nodes_more, nodes_passed, nodes_stop, nodes_whole, passes, refuses, shorter}
 use Rattle.go_sgf.proofs.reader.nodes.Goals as goal
 
 pub returns-then-not-begins_with-clause-place : goal.returns-then-not-begins_with-clause-place
