@@ -4,36 +4,56 @@ ghost use Rattle.go_record.specs.declared.error.RecordError.TheVariants.{Memory}
 use go_board::{Point, Vertex, vertex_text};
 use go_game::PlayError;
 use std::alloc::AllocError;
+use std::error::Error;
 use std::fmt;
-use thiserror::Error;
 
 /// Why a record has no game. Nodes are counted from 0 along the main line, moves from 1.
-#[derive(Clone, Copy, Debug, PartialEq, Eq, Error)]
+#[derive(Clone, Copy, Debug, PartialEq, Eq)]
 pub enum RecordError {
     /// The record is of another game.
-    #[error("not a Go record")]
     NotGo,
     /// The size is no number of lines of a square board.
-    #[error("bad board size")]
     BadSize,
     /// The komi is no number with at most two decimals, or too large.
-    #[error("bad komi")]
     BadKomi,
     /// A value in this node is malformed.
-    #[error("bad value in node {0}")]
     BadValue(usize),
     /// Stones are set up in this node, after a move.
-    #[error("set-up after a move in node {0}")]
     SetupAfterMove(usize),
     /// The first point in point order whose chain has no liberty at the start.
-    #[error("set-up without liberty at {at}", at = vertex_text(Vertex::At(*.0)))]
     DeadSetup(Point),
     /// The move with this number isn't legal. The reason is never want of memory.
-    #[error("move {0} {why}", why = Reason(*.1))]
     Illegal(usize, PlayError),
     /// There was no memory for the game.
-    #[error("out of memory")]
     Memory,
+}
+
+impl Error for RecordError {}
+
+impl fmt::Display for RecordError {
+    ghost use Rattle.std.specs.Prelude.{Some};
+    ghost use Rattle.go_record.specs.Reasons.{record_error_text};
+
+    ghost output = { λ why. Some (record_error_text why) };
+
+    fn fmt<W: fmt::Write>(&self, f: &mut fmt::Formatter<W>) -> Result<(), fmt::Error> {
+        match self {
+            RecordError::NotGo => f.write_str("not a Go record"),
+            RecordError::BadSize => f.write_str("bad board size"),
+            RecordError::BadKomi => f.write_str("bad komi"),
+            RecordError::BadValue(node) => write!(f, "bad value in node {node}"),
+            RecordError::SetupAfterMove(node) => write!(f, "set-up after a move in node {node}"),
+            RecordError::DeadSetup(point) => {
+                let at = vertex_text(Vertex::At(*point));
+                write!(f, "set-up without liberty at {at}")
+            }
+            RecordError::Illegal(number, why) => {
+                let why = Reason(*why);
+                write!(f, "move {number} {why}")
+            }
+            RecordError::Memory => f.write_str("out of memory"),
+        }
+    }
 }
 
 impl From<AllocError> for RecordError {

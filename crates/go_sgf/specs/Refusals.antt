@@ -1,5 +1,6 @@
 -- Why a source spells no record, and at which byte.
-use Rattle.std.specs.Prelude.{◌≡◌, ℕ, ◌+◌, ◌≤◌, ◌<◌, suc, true, List, [], take, length, None}
+use Rattle.std.specs.Prelude.{◌≡◌, ℕ, ◌+◌, ◌≤◌, ◌<◌, suc, true, List, [], ◌++◌, take, length, codes, None}
+use Rattle.std.specs.Fmt.{decimal}
 use Rattle.go_sgf.specs.Record.{Trees, AreTrees, depth}
 use Rattle.go_sgf.specs.Spelling.{Spells, SpellsParts, is_tree_first, tree_in, parts}
 use Rattle.go_sgf.specs.Stands.{IsAtDepth, IsUnfinished, stands}
@@ -43,3 +44,11 @@ IsRefusal source (Unexpected place) = StopsAt source place StandsNoLonger
 IsRefusal source (TooDeep place) = StopsAt source place StandsTooDeep
 IsRefusal source Memory = Unit {0}
 IsRefusal source TooLong = MAX_RECORD < length source
+
+abbrev pub sgf_error_text : SgfError → List ℕ
+sgf_error_text NoTree = codes "no game tree"
+sgf_error_text (EndInside place) = codes "record ends inside a tree at byte " ++ decimal place
+sgf_error_text (Unexpected place) = codes "unexpected byte at " ++ decimal place
+sgf_error_text (TooDeep place) = codes "too deep at byte " ++ decimal place
+sgf_error_text Memory = codes "out of memory"
+sgf_error_text TooLong = codes "record too long"

@@ -1,29 +1,44 @@
 ghost use Rattle.std.specs.Prelude.{◌≡◌};
 
 use std::alloc::{AllocError, AllocFailed};
-use thiserror::Error;
+use std::error::Error;
+use std::fmt;
 
 /// Why a source can't be read. A place is a byte's number in the source, from 0.
-#[derive(Clone, Copy, Debug, PartialEq, Eq, Error)]
+#[derive(Clone, Copy, Debug, PartialEq, Eq)]
 pub enum SgfError {
     /// No `(` is followed by `;`, white space aside.
-    #[error("no game tree")]
     NoTree,
     /// The source ends before a tree does. The place is its length.
-    #[error("record ends inside a tree at byte {0}")]
     EndInside(usize),
     /// The first byte that nothing allows where it stands.
-    #[error("unexpected byte at {0}")]
     Unexpected(usize),
     /// The `(` of the first tree that is nested deeper than [`MAX_DEPTH`](crate::MAX_DEPTH).
-    #[error("too deep at byte {0}")]
     TooDeep(usize),
     /// There was no memory for the trees.
-    #[error("out of memory")]
     Memory,
     /// The source has more than [`MAX_RECORD`](crate::MAX_RECORD) bytes.
-    #[error("record too long")]
     TooLong,
+}
+
+impl Error for SgfError {}
+
+impl fmt::Display for SgfError {
+    ghost use Rattle.std.specs.Prelude.{Some};
+    ghost use Rattle.go_sgf.specs.Refusals.{sgf_error_text};
+
+    ghost output = { λ why. Some (sgf_error_text why) };
+
+    fn fmt<W: fmt::Write>(&self, f: &mut fmt::Formatter<W>) -> Result<(), fmt::Error> {
+        match self {
+            SgfError::NoTree => f.write_str("no game tree"),
+            SgfError::EndInside(place) => write!(f, "record ends inside a tree at byte {place}"),
+            SgfError::Unexpected(place) => write!(f, "unexpected byte at {place}"),
+            SgfError::TooDeep(place) => write!(f, "too deep at byte {place}"),
+            SgfError::Memory => f.write_str("out of memory"),
+            SgfError::TooLong => f.write_str("record too long"),
+        }
+    }
 }
 
 impl From<AllocError> for SgfError {

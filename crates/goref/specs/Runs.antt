@@ -1,8 +1,8 @@
 -- What a run did when it came to its end.
-use Rattle.std.specs.Prelude.{◌≡◌, ◌≤◌, ℕ, ◌+◌, List, Option, Result, Err, length}
+use Rattle.std.specs.Prelude.{◌≡◌, ◌≤◌, ℕ, ◌+◌, List, Option, Result, Err, codes, length}
 use Rattle.go_board.specs.Device.{after_bytes}
 use Rattle.goref.specs.declared.error.RunError.{RunError}
-use Rattle.goref.specs.declared.error.RunError.TheVariants.{Read, Write}
+use Rattle.goref.specs.declared.error.RunError.TheVariants.{Endless, Read, Write}
 use Rattle.go_game.specs.Standings.{Standing}
 use Rattle.goref.specs.Lines.{lines, complete_lines}
 use Rattle.goref.specs.Shelves.{Pair}
@@ -35,3 +35,8 @@ read_failures_after _ old = old
 abbrev pub write_failures_after : {T : Type 0} → Result T RunError → ℕ → ℕ
 write_failures_after (Err Write) old = old + 1
 write_failures_after _ old = old
+
+abbrev pub run_error_text : RunError → List ℕ
+run_error_text Read = codes "read fault"
+run_error_text Write = codes "write fault"
+run_error_text Endless = codes "input without end"

@@ -1,11 +1,12 @@
 -- What a tool reads of its input, and how it ends.
-use Rattle.std.specs.Prelude.{◌≡◌, ◌≢◌, ◌≤◌, ◌+◌, ℕ, List, [], Option, IfSome, None, Result, Err, length}
+use Rattle.std.specs.Prelude.{◌≡◌, ◌≢◌, ◌≤◌, ◌+◌, ℕ, List, [], Option, IfSome, None, Result, Err, codes, length}
 use Rattle.go_board.specs.Device.{after_bytes}
 use Rattle.go_record.specs.Games.{IsGameOf}
 use Rattle.go_record.specs.declared.error.RecordError.{RecordError}
 use Rattle.go_record.specs.declared.error.RecordError.TheVariants as record_error
 use Rattle.go_sgf.specs.Record.{Trees}
-use Rattle.go_sgf.specs.Refusals.{IsRefusal}
+use Rattle.go_record.specs.Reasons.{record_error_text}
+use Rattle.go_sgf.specs.Refusals.{IsRefusal, sgf_error_text}
 use Rattle.go_sgf.specs.Spelling.{Spells}
 use Rattle.go_sgf.specs.declared.error.SgfError.{SgfError}
 use Rattle.go_sgf.specs.declared.error.SgfError.TheVariants.{Memory}
@@ -65,3 +66,10 @@ read_failures_after _ old = old
 abbrev pub write_failures_after : {T : Type 0} → Result T ToolError → ℕ → ℕ
 write_failures_after (Err Write) old = old + 1
 write_failures_after _ old = old
+
+abbrev pub tool_error_text : ToolError → List ℕ
+tool_error_text (Sgf why) = sgf_error_text why
+tool_error_text (Record why) = record_error_text why
+tool_error_text Read = codes "read fault"
+tool_error_text Write = codes "write fault"
+tool_error_text tool_error.Memory = codes "out of memory"

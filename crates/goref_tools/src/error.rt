@@ -5,25 +5,21 @@ ghost use Rattle.goref_tools.specs.declared.error.ToolError.TheVariants.{Memory}
 use go_record::RecordError;
 use go_sgf::SgfError;
 use std::alloc::AllocError;
-use thiserror::Error;
+use std::error::Error;
+use std::fmt;
 
 /// Why a tool didn't do its task.
-#[derive(Clone, Copy, Debug, PartialEq, Eq, Error)]
+#[derive(Clone, Copy, Debug, PartialEq, Eq)]
 pub enum ToolError {
     /// The input is no record. Want of memory in reading it is [`ToolError::Memory`].
-    #[error("{0}")]
     Sgf(SgfError),
     /// The record has no game. Want of memory in replaying it is [`ToolError::Memory`].
-    #[error("{0}")]
     Record(RecordError),
     /// A read failed.
-    #[error("read fault")]
     Read,
     /// A write or a flush failed, or a write took no byte.
-    #[error("write fault")]
     Write,
     /// There was no memory for the record or its game.
-    #[error("out of memory")]
     Memory,
 }
 
@@ -37,6 +33,25 @@ impl ToolError {
             ToolError::Sgf(SgfError::Memory) | ToolError::Record(RecordError::Memory) => 3,
             ToolError::Sgf(_) | ToolError::Record(_) => 1,
             ToolError::Read | ToolError::Write | ToolError::Memory => 3,
+        }
+    }
+}
+
+impl Error for ToolError {}
+
+impl fmt::Display for ToolError {
+    ghost use Rattle.std.specs.Prelude.{Some};
+    ghost use Rattle.goref_tools.specs.Tools.{tool_error_text};
+
+    ghost output = { λ why. Some (tool_error_text why) };
+
+    fn fmt<W: fmt::Write>(&self, f: &mut fmt::Formatter<W>) -> Result<(), fmt::Error> {
+        match self {
+            ToolError::Sgf(why) => write!(f, "{why}"),
+            ToolError::Record(why) => write!(f, "{why}"),
+            ToolError::Read => f.write_str("read fault"),
+            ToolError::Write => f.write_str("write fault"),
+            ToolError::Memory => f.write_str("out of memory"),
         }
     }
 }
