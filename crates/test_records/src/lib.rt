@@ -4,6 +4,8 @@
 #[cfg(test)]
 mod ample;
 #[cfg(test)]
+mod drawn;
+#[cfg(test)]
 mod ends;
 #[cfg(test)]
 mod judging;

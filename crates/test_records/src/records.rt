@@ -46,7 +46,7 @@ fn tidies(alloc: Global, source: &[u8], most: usize, text: &[u8]) -> bool {
 
 /// Whether a source is written as this text, from its trees and from its bytes alone, however the
 /// writer cuts it.
-fn is_tidied(alloc: Global, source: &[u8], text: &[u8]) -> bool {
+pub(crate) fn is_tidied(alloc: Global, source: &[u8], text: &[u8]) -> bool {
     let Ok(collection) = read(alloc, source) else {
         return false;
     };
