@@ -1,4 +1,4 @@
-use Rattle.std.proofs.Common.{◌≡◌, ◌∙◌, IsSome, true, ap}
+use Rattle.std.proofs.Common.{rules, ◌≡◌, ◌∙◌, IsSome, true, ap}
 use Rattle.clap.specs.Words.{app_of, is_simple, kind_of, subcommand_of, takes}
 use Rattle.clap.proofs.TakesLemmas.{passed_up}
 use Rattle.goref_cli.specs.CommandLine.{program, texts_of}
@@ -21,3 +21,6 @@ returns-clause-plain c h =
     let some : IsSome c.asked.result = c.asked.ensures.some found.0 (same ∙ found.1) found.2 in
     let bad = rw c.in-None.is at some in
     cc
+
+pub returns-in-Some-clause-plain : goal.returns-in-Some-clause-plain
+returns-in-Some-clause-plain c = search rules

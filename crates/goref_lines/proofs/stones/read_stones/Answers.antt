@@ -1,4 +1,4 @@
-use Rattle.std.proofs.Common.{◌∙◌, sym, ap, ◌∷◌}
+use Rattle.std.proofs.Common.{rules, ◌∙◌, sym, ap, ◌∷◌}
 use Rattle.goref_lines.specs.Stones.{spelled, stones_listed}
 use Rattle.goref_lines.proofs.Gathering.{begins}
 use Rattle.goref_lines.proofs.stones.read_stones.Goals as goal
@@ -13,3 +13,6 @@ loop-word-init c =
           ∙ begins n c.new-stones.result c.new-stones.ensures.lines c.new-stones.ensures.points (spelled (c.in-Some.word.now ∷ rest))
           ∙ ap (stones_listed n) (sym c.in-Some.ensures.some);
     }
+
+pub returns-in-None-clause-err : goal.returns-in-None-clause-err
+returns-in-None-clause-err c = search rules

@@ -1,4 +1,4 @@
-use Rattle.std.proofs.Common.{◌∙◌}
+use Rattle.std.proofs.Common.{rules, ◌∙◌}
 use Rattle.std.proofs.lemmas.Result.{err_from_is_err_and}
 use Rattle.goref_tools.specs.Judging.{BeginsToJudge, Judges, verdict_text}
 use Rattle.goref_tools.proofs.Judged.{refuses_game}
@@ -50,3 +50,6 @@ returns-clause-write g c = λ h.
       rw c.as_slice.ensures.value at c.in_ok-collection.ensures.read,
       (c.in_ok-verdict.verdict, c.in_ok-verdict.ensures.ok, c.in-Err.ensures.sent),
     )
+
+pub returns-in-Ok-clause-passed : goal.returns-in-Ok-clause-passed
+returns-in-Ok-clause-passed g c = search rules

@@ -1,4 +1,4 @@
-use Rattle.std.proofs.Common.{◌∙◌}
+use Rattle.std.proofs.Common.{rules, ◌∙◌}
 use Rattle.std.proofs.lemmas.Result.{err_from_is_err_and}
 use Rattle.go_sgf.specs.Spelling.{canonical}
 use Rattle.goref_tools.specs.Tidying.{BeginsToTidy, Tidies}
@@ -36,3 +36,6 @@ returns-clause-write g c = λ h.
     c.in_ok-source.source.items (g.R.Source.left c.read_input.new.reader) c.in_ok-source.ensures.input
     (λ long. let e = c.in_ok-check.ensures.too_long.1 (rw c.as_slice.ensures.value long) in cc)
     (spelled.0, spelled.1, c.in-Err.ensures.sent spelled.0 (rw c.as_slice-2.ensures.value spelled.1))
+
+pub returns-in-Ok-clause-passed : goal.returns-in-Ok-clause-passed
+returns-in-Ok-clause-passed g c = search rules

@@ -1,4 +1,4 @@
-use Rattle.std.proofs.Common.{◌≡◌, ◌∙◌, ◌&&◌, ℕ, Option, Some, None, Ok, Err, sym, ap, Bool, true, false, nat_lt, if◌then◌else◌}
+use Rattle.std.proofs.Common.{rules, ◌≡◌, ◌∙◌, ◌&&◌, ℕ, Option, Some, None, Ok, Err, sym, ap, Bool, true, false, nat_lt, if◌then◌else◌}
 use Rattle.go_board.specs.declared.vertex.VertexError.TheVariants.{OffBoard}
 use Rattle.go_board.specs.declared.vertex.Vertex.{Vertex}
 use Rattle.go_board.specs.declared.vertex.Vertex.TheVariants.{Pass, At}
@@ -22,3 +22,6 @@ returns-in-Ok g c =
     let colour = sym c.colour_argument.ensures ∙ c.in-Some.is in
     let vertex : option_and_then vertex_of (slice_get c.args.request.now.arguments 1) ≡ Some c.in-Ok.vertex = spelled c.size.result _ _ (sym c.vertex_argument.ensures ∙ c.in-Ok.is) in
     rw (colour, vertex) c.decide_move.ensures
+
+pub returns-in-Err-OffBoard : goal.returns-in-Err-OffBoard
+returns-in-Err-OffBoard g c = search rules
