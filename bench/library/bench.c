@@ -1,0 +1,105 @@
+/* Times the library for other languages: bench ROUNDS FILE..
+ * The files are read first. Then each function goes over all of them, by one thread and by four at
+ * once, and the least time of so many rounds is printed, in microseconds a file. */
+#include <goref.h>
+#include <pthread.h>
+#include <stdio.h>
+#include <stdlib.h>
+#include <time.h>
+
+struct record {
+    uint8_t *bytes;
+    size_t size;
+};
+
+typedef uint8_t function(const uint8_t *, size_t, uint8_t *, size_t, size_t *);
+
+struct work {
+    function *call;
+    const struct record *records;
+    int count;
+    size_t largest;
+};
+
+static void *all(void *argument)
+{
+    const struct work *work = argument;
+    size_t place = work->largest + 256;
+    uint8_t *room = malloc(place);
+    if (room == NULL)
+        exit(3);
+    for (int i = 0; i < work->count; i++) {
+        size_t length;
+        work->call(work->records[i].bytes, work->records[i].size, room, place, &length);
+    }
+    free(room);
+    return NULL;
+}
+
+static double now(void)
+{
+    struct timespec time;
+    clock_gettime(CLOCK_MONOTONIC, &time);
+    return 1e6 * time.tv_sec + 1e-3 * time.tv_nsec;
+}
+
+/* The least time in which so many threads each go over all records. */
+static double least(struct work *work, int threads, int rounds)
+{
+    double best = 0;
+    for (int round = 0; round < rounds; round++) {
+        pthread_t ids[4];
+        double start = now();
+        for (int i = 0; i < threads; i++)
+            if (pthread_create(&ids[i], NULL, all, work) != 0)
+                exit(3);
+        for (int i = 0; i < threads; i++)
+            pthread_join(ids[i], NULL);
+        double taken = now() - start;
+        if (round == 0 || taken < best)
+            best = taken;
+    }
+    return best;
+}
+
+static int read_file(const char *name, struct record *record)
+{
+    FILE *file = fopen(name, "rb");
+    if (file == NULL)
+        return 0;
+    fseek(file, 0, SEEK_END);
+    record->size = (size_t)ftell(file);
+    rewind(file);
+    record->bytes = malloc(record->size + 1);
+    int whole = record->bytes != NULL && fread(record->bytes, 1, record->size, file) == record->size;
+    fclose(file);
+    return whole;
+}
+
+int main(int count, char **words)
+{
+    int rounds = count > 1 ? atoi(words[1]) : 5;
+    int files = count - 2;
+    struct record *records = malloc(sizeof *records * (files > 0 ? files : 1));
+    struct work work = { NULL, records, files, 0 };
+
+    for (int i = 0; i < files; i++) {
+        if (!read_file(words[i + 2], &records[i])) {
+            fprintf(stderr, "%s: cannot be read\n", words[i + 2]);
+            return 1;
+        }
+        if (records[i].size > work.largest)
+            work.largest = records[i].size;
+    }
+    if (files < 1)
+        return 1;
+    const char *names[] = { "goref_tidy", "goref_judge" };
+    function *calls[] = { goref_tidy, goref_judge };
+    for (int i = 0; i < 2; i++) {
+        work.call = calls[i];
+        double one = least(&work, 1, rounds);
+        double four = least(&work, 4, rounds);
+        printf("%-12s %8.2f us a record, by four threads %.2f times as many\n", names[i], one / files, 4 * one / four);
+    }
+    return 0;
+}

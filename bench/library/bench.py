@@ -1,0 +1,55 @@
+"""Times the Python module over the records of a folder, beside the program: bench.py TOP LIBRARY FOLDER ROUNDS"""
+
+import os
+import subprocess
+import sys
+import time
+
+top, library, folder, rounds = sys.argv[1:5]
+os.environ["GOREF_LIBRARY"] = library
+sys.dont_write_bytecode = True
+sys.path.insert(0, os.path.join(top, "bindings", "python"))
+import goref  # noqa: E402
+
+names = [os.path.join(folder, name) for name in sorted(os.listdir(folder))]
+records = []
+for name in names:
+    with open(name, "rb") as file:
+        records.append(file.read())
+
+
+def least(work):
+    """The least time of so many rounds, in microseconds a record."""
+    best = None
+    for _ in range(int(rounds)):
+        start = time.process_time()
+        work()
+        taken = time.process_time() - start
+        best = taken if best is None else min(best, taken)
+    return 1e6 * best / len(records)
+
+
+def each(function):
+    for record in records:
+        try:
+            function(record)
+        except goref.Refused:
+            pass
+
+
+print(f"goref.tidy   {least(lambda: each(goref.tidy)):8.2f} us a record")
+print(f"goref.judge  {least(lambda: each(goref.judge)):8.2f} us a record")
+
+# The program on the same records in one process, with the files read.
+loads = "".join(f"loadsgf {name}\n" for name in names).encode()
+start = os.times()
+subprocess.run([os.path.join(top, "goref"), "gtp"], input=loads, stdout=subprocess.DEVNULL, check=True)
+end = os.times()
+taken = end.children_user + end.children_system - start.children_user - start.children_system
+print(f"goref gtp, loadsgf of each {1e6 * taken / len(records):8.2f} us a record")
+
+few = records[:200]
+start = time.perf_counter()
+for record in few:
+    subprocess.run([os.path.join(top, "goref"), "judge"], input=record, capture_output=True)
+print(f"goref judge, a process each {1e6 * (time.perf_counter() - start) / len(few):8.2f} us a record by the clock")
