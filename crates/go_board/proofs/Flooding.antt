@@ -1,9 +1,9 @@
 -- The flood as a whole: what holds at each turn of it, and when nothing waits.
-use Rattle.std.proofs.Common.{arith, ◌≡◌, ◌<◌, ◌≤◌, ◌*◌, ◌↔◌, Bool, inl, inr, ◌⊎◌, ℕ, List, [], ◌∷◌, ◌++◌, Contains, length, length-append, refl, sym, subst}
+use Rattle.std.proofs.Common.{arith, ◌≡◌, ◌<◌, ◌*◌, ◌↔◌, Bool, inl, inr, ◌⊎◌, ℕ, List, [], ◌∷◌, ◌++◌, Contains, length, refl, sym, subst}
 use Rattle.std.proofs.lemmas.List.Elements.{Contains-append_left, Contains-push, Contains-push_cases}
 use Rattle.go_board.specs.Colours.{Colouring}
 use Rattle.go_board.specs.Paths.{Leads}
-use Rattle.go_board.specs.inner.Flood.{Grows, HasRoom, IsJoinedTo, IsMarked, IsStep, work}
+use Rattle.go_board.specs.inner.Flood.{Grows, HasRoom, IsJoinedTo, IsMarked, IsStep}
 
 -- what holds at each turn: the marked points are joined to the first ones, and those that wait are
 -- the only ones whose steps may lead to points that aren't marked
@@ -55,9 +55,6 @@ flood_more n g seeds marks waiting front p marks' waiting' is flood grows done =
       ];
       room = grows.room;
     }
-
-pub work_less : (marks : List Bool) (waiting front : List ℕ) (p : ℕ) (marks' : List Bool) (waiting' : List ℕ) → waiting ≡ front ++ p ∷ [] → work marks' waiting' ≤ work marks front → work marks' waiting' < work marks waiting
-work_less marks waiting front p marks' waiting' is less = rw is (let l = length-append front (p ∷ []) in omega arith)
 
 -- what each step keeps, each path keeps
 pub closed_under_paths : (n : ℕ) (g : Colouring) (marks : List Bool) → ((j q : ℕ) → IsMarked marks j → IsStep n g j q → IsMarked marks q)

@@ -93,9 +93,6 @@ spread_more free first second = record {
   fits = λ fit. second.fits (first.fits fit);
 }
 
-pub spread_none : (marks free : List ℕ) → Spread marks free marks
-spread_none marks free = record { kept = λ row col set. set; only = λ test on passes. passes; most = omega arith; fits = λ fit. fit }
-
 -- what the test for a difference says
 pub differ : (a b : ℕ) → not (a == b) ≡ true → a ≢ b
 differ a b test same = true≢false (sym (sym (ap not (eq-eqb a b same)) ∙ test))

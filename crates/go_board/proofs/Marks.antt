@@ -49,16 +49,6 @@ mark_grows marks waiting k low room clear =
       room = record { all = length-set marks k true ∙ room.all; room = omega (arith, fewer, longer, room.room) };
     }
 
-pub grows_none : (New : ℕ → Type 0) (marks : List Bool) (waiting : List ℕ) → HasRoom marks waiting → Grows New marks waiting marks waiting
-grows_none New marks waiting room = record {
-  kept = λ j m. m;
-  only = λ j m. inl m;
-  waits = λ j w. w;
-  waiting_only = λ j w. inl w;
-  less = omega arith;
-  room = room;
-}
-
 -- what grew, and grew more, grew
 pub grows_more : {New Next : ℕ → Type 0} {m₀ : List Bool} {w₀ : List ℕ} {m₁ : List Bool} {w₁ : List ℕ} {m₂ : List Bool} {w₂ : List ℕ}
     → ((j : ℕ) → Next j → New j) → Grows New m₀ w₀ m₁ w₁ → Grows Next m₁ w₁ m₂ w₂ → Grows New m₀ w₀ m₂ w₂

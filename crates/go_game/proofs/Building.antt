@@ -99,17 +99,6 @@ front_stone n g now i c low whole is front = (next, part)
       | inr after ↦ inr (next.empty k after)
     ]
 
--- one empty point more
-pub front_empty : (n : ℕ) (g now : Colouring) (i : ℕ) → colour_at g i ≡ None → IsFront n g i now → IsFront n g (i + 1) now
-front_empty n g now i none front = record {
-  whole = front.whole;
-  there = λ k below low. elim (cases_eq k i) [
-    | inl at ↦ ap (colour_at now) at ∙ front.empty i (omega arith) ∙ sym none ∙ ap (colour_at g) (sym at)
-    | inr off ↦ front.there k (omega arith) low
-  ];
-  empty = λ k past. front.empty k (omega arith);
-}
-
 -- all of it
 pub front_all : (n : ℕ) (g now : Colouring) (i : ℕ) → n * n ≤ i → length g ≡ n * n → IsFront n g i now → now ≡ g
 front_all n g now i all whole front =

@@ -106,17 +106,6 @@ pub twice : (before then after : BoardValue) (log log' log'' : List (List Change
 twice before then after log log' log'' most ticks ticks' logged back =
     omega (arith, ap length logged.traced, ap length back.traced, length-append before.trace logged.changes, length-append then.trace (undone then.cells logged.changes), undone-length then.cells logged.changes, logged.few)
 
--- a move played and taken back
-pub as_before : (old mid new : GameValue) (most : ℕ) → IsLogged old mid most → IsTakenBack mid new → new.standing ≡ old.standing → IsAsBefore old new
-as_before old mid new most logged back standing =
-    let same = same_from_push _ _ _ _ (sym logged.gained ∙ back.lost) in
-    record {
-      standing = standing;
-      cells = back.cells ∙ ap (λ (l : List Change). rewound mid.cells l) (sym same.1) ∙ logged.back;
-      changes = sym same.0;
-      onward = omega (arith, logged.ticked, back.count, ap length same.1);
-    }
-
 -- the game is as before what left it as before
 pub again_as_before : (old mid new : GameValue) → IsAsBefore old mid → IsAsBefore mid new → IsAsBefore old new
 again_as_before old mid new first second = record {

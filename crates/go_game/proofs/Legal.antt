@@ -120,17 +120,6 @@ repeat_fails s c (At p) k h =
     and_false true = refl
     and_false false = refl
 
--- what is neither off the board nor occupied is open
-pub open_otherwise : (s : Standing) (v : Vertex) → ¬ IsOffBoard s v → ¬ IsOccupied s v → is_open s v ≡ true
-open_otherwise s Pass h k = refl
-open_otherwise s (At p) h k = open_at (on_or_off p.col p.row s.lines) (none_or_some (colour_at (board_of s) (number_of s.lines p)))
-  where
-    open_at : ((p.col < s.lines) × (p.row < s.lines) × ((nat_lt p.col s.lines && nat_lt p.row s.lines) ≡ true)) ⊎ (((p.col < s.lines) × (p.row < s.lines) → ⊥) × ((nat_lt p.col s.lines && nat_lt p.row s.lines) ≡ false)) →
-        (colour_at (board_of s) (number_of s.lines p) ≡ None) ⊎ ((colour_at (board_of s) (number_of s.lines p) ≢ None) × (has_colour (board_of s) (number_of s.lines p) None ≡ false)) → is_open s (At p) ≡ true
-    open_at (inl on) (inl empty) = open_here s p (on.0, on.1) empty
-    open_at (inl on) (inr held) = absurd (k ((on.0, on.1), held.0))
-    open_at (inr off) held = absurd (h off.0)
-
 -- what passes is legal
 pub passes_legal : (s : Standing) (c : Colour) (v : Vertex) → is_legal s c v ≡ true → IsLegal s c v
 passes_legal s c Pass e = tt

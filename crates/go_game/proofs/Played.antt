@@ -1,5 +1,5 @@
 -- Steps one after the other: what one more adds, and what the last took away leaves.
-use Rattle.std.proofs.Common.{arith, ◌≡◌, ◌<◌, ◌≤◌, ◌+◌, ◌-◌, ◌*◌, ◌^◌, ◌∙◌, ℕ, ℤ, List, [], ◌∷◌, ◌++◌, Some, length, ap₂, map, take, refl, sym, ap, subst}
+use Rattle.std.proofs.Common.{arith, ◌≡◌, ◌<◌, ◌≤◌, ◌+◌, ◌-◌, ◌*◌, ◌^◌, ◌∙◌, ℕ, ℤ, List, [], ◌∷◌, ◌++◌, Some, length, map, take, refl, sym, ap, subst}
 use Rattle.go_board.specs.Laws.{TakenAndLeft}
 use Rattle.go_board.specs.lemmas.Squares.{square-le}
 use Rattle.std.specs.List.{slice_get}
@@ -99,9 +99,6 @@ share_held rule start komi first steps front s black white is held =
 pub length-moved : (n : ℕ) (g : Colouring) (c : Colour) (p : ℕ) → length (moved n g c p) ≡ n * n
 unfolding moved cleared
 length-moved n g c p = length-map-range_with_len (after_clearing n (cleared n (slice_set g p (Some c)) (other c)) c) 0 (n * n)
-
-pub same_grid : (a b : GridValue) → a.lines ≡ b.lines → a.colours ≡ b.colours → a ≡ b
-same_grid a b lines colours = ap₂ (λ (n : ℕ) (g : Colouring). let grid : GridValue = record { lines = n; colours = g } in grid) lines colours
 
 turn_le : TakenAndLeft → (n : ℕ) (g : Colouring) (c : Colour) (v : Vertex) (of : Colour) → taken_by n g c v of + stones n (after_vertex n g c v) of ≤ stones n g of + 1
 turn_le law n g c Pass of = omega arith

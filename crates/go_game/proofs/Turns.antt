@@ -19,21 +19,21 @@ use Rattle.go_board.specs.Points.{number_of}
 use Rattle.go_board.specs.Reaching.{moved}
 use Rattle.go_chains.specs.declared.change.Change.{Change}
 use Rattle.go_chains.specs.declared.cells.TheConstants.{COUNT}
-use Rattle.go_chains.specs.Rewound.{IsRewound, NamesCells, PlayLogged, rewound}
+use Rattle.go_chains.specs.Rewound.{NamesCells, PlayLogged, rewound}
 use Rattle.go_chains.specs.Sound.{IsKept}
 use Rattle.go_chains.specs.Boards.{BoardValue, colouring_of, grid_of}
 use Rattle.go_game.specs.declared.step.Step.{Step}
 use Rattle.go_game.specs.declared.superko.Superko.{Superko}
 use Rattle.go_game.specs.inner.Held.{IsHeld, IsKeeping, IsPlayed, made_of, standing_of}
 use Rattle.go_history.specs.declared.key.Key.{Key}
-use Rattle.go_history.specs.Histories.{HistoryValue, IsChangedAt, IsForgotten, IsUnchanged}
+use Rattle.go_history.specs.Histories.{HistoryValue, IsChangedAt, IsForgotten}
 use Rattle.go_game.specs.inner.Histories.{IsNoted, StandsFor}
 use Rattle.go_game.specs.Prisoners.{share_of}
 use Rattle.go_game.specs.Standings.{IsLegal, Seen, Situation, after_move, after_vertex, board, mover_by, seen_by, situations, stood, stood_of}
 use Rattle.go_game.specs.inner.Trails.{IsTurn, WentThrough}
 use Rattle.go_game.proofs.Keeping.{grid_is}
 use Rattle.go_game.proofs.Played.{held_push, length-moved, made_push}
-use Rattle.go_game.proofs.Remembered.{history_kept, history_less, history_next, history_only}
+use Rattle.go_game.proofs.Remembered.{history_less, history_next, history_only}
 use Rattle.go_game.proofs.Trails.{went_kept, went_more}
 
 situations_push : (n : ℕ) (g : Colouring) (c : Colour) (moves : List Move) (m : Move) → situations n g c (moves ++ m ∷ []) ≡ situations n g c moves ++ (after_move n (board n g moves) m, other m.colour) ∷ []
@@ -187,24 +187,6 @@ keep_put law rule start komi first steps more c p t b b' log log' history histor
       told = told_more law rule start komi first steps more (placed c p t) black white k.held is history history' key (put.packs ∙ ap packed_of then_is) put.mover k.told put.noted;
     }
 
--- a play taken back at once
-pub keep_back : (rule : Superko) (start : GridValue) (komi : ℤ) (first : Colour) (steps steps' : List Step) (b b' : BoardValue) (log log' : List (List Change)) (history history' : HistoryValue) (black white : ℕ)
-    → IsKeeping rule start komi first steps b log history black white → steps' ≡ steps → b'.lines ≡ b.lines → b'.cells ≡ b.cells → log' ≡ log → IsUnchanged history history'
-    → IsKeeping rule start komi first steps' b' log' history' black white
-keep_back rule start komi first steps steps' b b' log log' history history' black white k same lines cells log_is unchanged =
-    let K : List Step → List (List Change) → List ℕ → Type 0 = λ xs l numbers. WentThrough start.lines k.tracked.first (map made_of xs) l numbers in
-    subst (λ (xs : List Step). IsKeeping rule start komi first xs b' log' history' black white) (sym same) (record {
-      held = k.held;
-      tracked = record {
-        lines = lines ∙ k.tracked.lines;
-        first = k.tracked.first;
-        kept = k.tracked.kept;
-        begun = k.tracked.begun;
-        went = subst (λ (l : List (List Change)). K steps l b'.cells) (sym log_is) (subst (λ (numbers : List ℕ). K steps log numbers) (sym cells) k.tracked.went);
-      };
-      told = history_kept (start.lines * start.lines) history history' (stood rule start.lines start.colours first (map made_of steps)) unchanged k.told;
-    })
-
 -- what was just logged can be put back
 pub rewinds : (rule : Superko) (start : GridValue) (komi : ℤ) (first : Colour) (steps : List Step) (b b' : BoardValue) (log log' : List (List Change)) (history : HistoryValue) (black white most : ℕ)
     → IsKeeping rule start komi first steps b log history black white → b'.lines ≡ b.lines → PlayLogged b b' log log' most
@@ -214,10 +196,3 @@ rewinds rule start komi first steps b b' log log' history black white most k lin
     let here = went_kept start.lines k.tracked.first (map made_of steps) log b.cells k.tracked.kept k.tracked.went in
     let R : List Change → Type 0 = λ xs. NamesCells COUNT xs × IsKept b'.lines (rewound b'.cells xs) in
     subst R last.1 (logged.names, subst (λ (n : ℕ). IsKept n (rewound b'.cells logged.changes)) (sym (lines ∙ k.tracked.lines)) (subst (IsKept start.lines) (sym logged.back) here.0))
-
--- the play taken back, as rewinding leaves it
-pub keep_rewound : (rule : Superko) (start : GridValue) (komi : ℤ) (first : Colour) (steps steps' : List Step) (b b' b'' : BoardValue) (log log' log'' : List (List Change)) (history history' : HistoryValue) (black white most before after : ℕ)
-    → IsKeeping rule start komi first steps b log history black white → b'.lines ≡ b.lines → (logged : PlayLogged b b' log log' most)
-    → IsRewound b' b'' log'' log logged.changes before after → steps' ≡ steps → IsUnchanged history history' → IsKeeping rule start komi first steps' b'' log'' history' black white
-keep_rewound rule start komi first steps steps' b b' b'' log log' log'' history history' black white most before after k lines logged back same unchanged =
-    keep_back rule start komi first steps steps' b b'' log log'' history history' black white k same (back.lines ∙ lines) (back.cells ∙ logged.back) back.dropped unchanged

@@ -1,5 +1,5 @@
 -- What a game keeps after its last move is taken back.
-use Rattle.std.proofs.Common.{arith, ◌≡◌, ◌≢◌, ◌<◌, ◌+◌, ◌*◌, ◌∙◌, ℕ, ℤ, List, [], ◌∷◌, ◌++◌, length, length-append, map, refl, sym, ap, subst}
+use Rattle.std.proofs.Common.{arith, ◌≡◌, ◌<◌, ◌+◌, ◌*◌, ◌∙◌, ℕ, ℤ, List, [], ◌∷◌, ◌++◌, length, length-append, map, sym, ap, subst}
 use Rattle.go_board.specs.Laws.{PacksTellApart}
 use Rattle.std.specs.Prelude.{Contains, None}
 use Rattle.std.proofs.lemmas.List.{append-nil, same_from_push}
@@ -149,8 +149,3 @@ module _ (rule : Superko) (start : GridValue) (komi : ℤ) (first : Colour) (ste
           };
           told = told_front black' white' held;
         }
-
--- a vertex that is no pass is a point
-pub a_point : (v : Vertex) → v ≢ Pass → (p : Point) × (v ≡ At p)
-a_point Pass other = absurd (other refl)
-a_point (At p) other = (p, refl)

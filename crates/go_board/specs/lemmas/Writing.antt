@@ -2,7 +2,7 @@
 use Rattle.std.specs.Prelude.{◌≡◌, ℕ, List, [], ◌++◌, Option, Some, None, Bool, true, false, if◌then◌else◌, refl, Result, Ok, Err}
 use Rattle.std.proofs.Common.{sym, ap, subst, append_assoc, ◌∙◌}
 use Rattle.std.proofs.lemmas.List.{append-nil}
-use Rattle.go_board.specs.Device.{then_bytes, TakesFront, Sent, failures_after}
+use Rattle.go_board.specs.Device.{then_bytes, Sent, failures_after}
 use Rattle.go_board.specs.Pens.{Wrote, Place, place, Adds, Writes, place_of}
 use Rattle.go_board.specs.declared.device.Sink.{Ghosts}
 use Rattle.go_board.specs.declared.device.WriteFault.{WriteFault}
@@ -15,25 +15,6 @@ then_bytes-then_bytes (Some xs) a b = ap Some (append_assoc xs a b)
 pub then_bytes-nil : (o : Option (List ℕ)) → then_bytes o [] ≡ o
 then_bytes-nil None = refl
 then_bytes-nil (Some xs) = ap Some (append-nil xs)
-
--- a front of a text is a front of a longer text
-pub front_longer : {old new : Option (List ℕ)} {text : List ℕ} → TakesFront old new text → (more : List ℕ) → TakesFront old new (text ++ more)
-front_longer t more = record {
-  front = t.front;
-  rest = t.rest ++ more;
-  whole = ap (λ xs. xs ++ more) t.whole ∙ append_assoc t.front t.rest more;
-  taken = t.taken;
-}
-
--- a text taken whole, and then a front of the next
-pub front_after : {old mid new : Option (List ℕ)} (text : List ℕ) {more : List ℕ} →
-    mid ≡ then_bytes old text → TakesFront mid new more → TakesFront old new (text ++ more)
-front_after {old} text e t = record {
-  front = text ++ t.front;
-  rest = t.rest;
-  whole = ap (λ xs. text ++ xs) t.whole ∙ sym (append_assoc text t.front t.rest);
-  taken = t.taken ∙ ap (λ o. then_bytes o t.front) e ∙ then_bytes-then_bytes old text t.front;
-}
 
 -- two pieces
 pub adds_adds : {old mid new : Place} {first more : List ℕ} → Adds old mid first → Adds mid new more → Adds old new (first ++ more)

@@ -22,9 +22,6 @@ taken_off byte at = byte / 2 ^ (2 * at) % 4 * 2 ^ (2 * at) % 2 ^ 8
 abbrev pub put : ℕ → ℕ → ℕ → ℕ
 put byte at code = byte - taken_off byte at + code * 2 ^ (2 * at) % 2 ^ 8
 
-pub taken-le : (byte at : ℕ) → byte < 256 → at < 4 → taken_off byte at ≤ byte
-taken-le byte at fits = at_each (λ at. taken_off byte at ≤ byte) (omega arith) (omega arith) (omega arith) (omega arith) at
-
 pub put-fits : (byte at code : ℕ) → byte < 256 → code ≤ 2 → at < 4 → put byte at code < 256
 put-fits byte at code fits few = at_each (λ at. put byte at code < 256) (omega arith) (omega arith) (omega arith) (omega arith) at
 

@@ -3,7 +3,7 @@ use Rattle.std.specs.Prelude.{Option, None, Some, replicate}
 use Rattle.go_board.specs.Laws.{JoinedByPath, LibertyByPath}
 use Rattle.go_board.specs.lemmas.Squares.{square-le}
 use Rattle.std.specs.Int.{bit_at}
-use Rattle.std.proofs.Common.{zero, suc, ℕ, ◌+◌, ◌*◌, ◌/◌, ◌%◌, ◌^◌, ◌<◌, ◌≤◌, ◌≡◌, ◌++◌, ◌∷◌, [], refl, sym, ap, ◌∙◌, arith, inl, inr, Bool, true, false, List, length, nat_eq, bit_and, get_or}
+use Rattle.std.proofs.Common.{ℕ, ◌+◌, ◌*◌, ◌/◌, ◌%◌, ◌^◌, ◌<◌, ◌≤◌, ◌≡◌, ◌++◌, ◌∷◌, [], refl, sym, ap, ◌∙◌, arith, inl, inr, Bool, true, false, List, length, nat_eq, bit_and, get_or}
 use Rattle.std.proofs.lemmas.Bool.{cases_lt, eq-eqb, eqb-true, false_from_ne_true}
 use Rattle.std.proofs.lemmas.List.{ext_get_or, get_or-replicate, get_or_past, length-replicate}
 use Rattle.std.proofs.lemmas.List.FromFn.{length-range_with_len}
@@ -156,17 +156,6 @@ pub last_split : {X : Type 0} → (xs : List X) → 0 < length xs → (front : L
 last_split [] some = absurd (omega arith)
 last_split (x ∷ []) some = ([], x, refl)
 last_split (x ∷ y ∷ ys) some = let rest = last_split (y ∷ ys) (omega arith) in (x ∷ rest.0, rest.1, ap (λ l. x ∷ l) rest.2)
-
--- a colour cell is the code of its colour
-code_back : (k : ℕ) → k < 3 → code_of (colour_coded k) ≡ k
-code_back zero low = refl
-code_back (suc zero) low = refl
-code_back (suc (suc zero)) low = refl
-code_back (suc (suc (suc k))) low = absurd (omega arith)
-
--- so a colour cell is the code of its point
-pub code_read : (n : ℕ) (cells : List ℕ) → IsKept n cells → (k : ℕ) → k < n * n → code_at cells k ≡ code_of (colour_at (colouring_of n cells) k)
-code_read n cells kept k inside = sym (code_back (code_at cells k) (kept.sound.coded k inside)) ∙ ap code_of (sym (colouring-at n cells k inside))
 
 -- and no point past the board has one
 pub code_none : (n : ℕ) (cells : List ℕ) (k : ℕ) → n * n ≤ k → code_of (colour_at (colouring_of n cells) k) ≡ 0

@@ -5,10 +5,6 @@ use Rattle.go_chains.specs.inner.Steps.{IsJoin, IsConnected, IsConnectedTo}
 use Rattle.std.proofs.lemmas.Bool.{cases_lt, cases_eq}
 use Rattle.go_chains.proofs.tables.Whole.{label-join}
 
--- nothing to join
-pub IsConnected_none : (n : ℕ) (t : Tables) (point near : ℕ) → (t.colour near ≡ t.colour point → t.label near ≡ t.label point) → IsConnected n t t point near
-IsConnected_none n t point near same = record { colours = λ p p_in. refl; together = λ x y sx sy e. e; done = same; grows = omega arith }
-
 -- the chain beside the point goes into the point's
 pub IsConnected-first : (n : ℕ) (t t' : Tables) (point near : ℕ) → IsJoin n t t' point near → IsConnected n t t' point near
 IsConnected-first n t t' point near j = record {
@@ -27,14 +23,8 @@ IsConnected-second n t t' point near j = record {
   grows = let e = ap t'.size (j.relabelled point j.second refl) in let s = j.size_is in omega arith;
 }
 
-pub grown-first : (n : ℕ) (t t' : Tables) (point near : ℕ) → IsJoin n t t' point near → t.size (t.label near) ≤ t'.size (t'.label point) - t.size (t.label point)
-grown-first n t t' point near j = let e = ap t'.size (j.labels point j.first j.apart) in let s = j.size_is in omega arith
-
 pub grown-second : (n : ℕ) (t t' : Tables) (point near : ℕ) → IsJoin n t t' near point → t.size (t.label near) ≡ t'.size (t'.label point) - t.size (t.label point)
 grown-second n t t' point near j = let e = ap t'.size (j.relabelled point j.second refl) in let s = j.size_is in omega arith
-
-pub IsConnectedTo_none : (n : ℕ) (t : Tables) (point : ℕ) (beside : List ℕ) → IsConnectedTo n t t point beside 0
-IsConnectedTo_none n t point beside = record { colours = λ p p_in. refl; together = λ x y sx sy e. e; done = λ i below. absurd (omega arith); grows = omega arith }
 
 pub IsConnectedTo_more : (n : ℕ) (t mid t' : Tables) (point : ℕ) (beside : List ℕ) (i near : ℕ) → IsStone n t point → ((j : ℕ) → j ≤ i → slice_index beside j < n) → near ≡ slice_index beside i
     → IsConnectedTo n t mid point beside i → IsConnected n mid t' point near → IsConnectedTo n t t' point beside (i + 1)

@@ -1,5 +1,5 @@
 -- Which stones a capture took, counted by lists of them.
-use Rattle.std.proofs.Common.{ℕ, ◌+◌, ◌-◌, ◌<◌, ◌≡◌, ◌≢◌, ◌⊎◌, inl, inr, refl, sym, ap, ◌∙◌, arith, List, [], ◌++◌, length, get_or, length-append}
+use Rattle.std.proofs.Common.{ℕ, ◌+◌, ◌-◌, ◌<◌, ◌≡◌, ◌≢◌, ◌⊎◌, inl, inr, sym, ap, ◌∙◌, arith, List, ◌++◌, length, get_or, length-append}
 use Rattle.std.specs.Prelude.{AllPairs, Contains}
 use Rattle.std.proofs.lemmas.Bool.{cases_lt, cases_eq}
 use Rattle.std.proofs.Math.Seq.{get_or-append_right}
@@ -27,9 +27,6 @@ apart-append xs ys first second differ i j d less below same =
             | inr high_i ↦ second (i - length xs) (j - length xs) d (omega arith) (omega arith) (sym (get_or-append_right xs ys i d high_i) ∙ same ∙ there)
           ]
     ]
-
-pub counts_none : (n : ℕ) (t : Tables) (own : ℕ) → CountsTaken n t t own 0
-counts_none n t own = ([], refl, (λ i j d less below. absurd (omega arith)), λ q. (λ has. absurd (let h : has.0 < 0 = has.1 in omega arith), λ of. absurd (of.2 of.1)))
 
 -- the chain removed is the list of its ring
 pub counts_ring : (n : ℕ) (adj : ℕ → ℕ → Type 0) (t t' : Tables) (r own : ℕ) → IsTidy n adj t → IsRemoved n adj t t' r → t.colour r ≡ own → 0 < own → CountsTaken n t t' own (t.size (t.label r))

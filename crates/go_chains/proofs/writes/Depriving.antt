@@ -1,14 +1,13 @@
 -- A point that is taken out of liberties, and words of liberties written for a label.
 use Rattle.std.specs.Int.{bit_at, bit_not}
 use Rattle.std.specs.Prelude.{bit_and}
-use Rattle.std.proofs.Common.{ℕ, ◌+◌, ◌*◌, ◌/◌, ◌%◌, ◌^◌, ◌<◌, ◌≤◌, ◌≡◌, ◌≢◌, inl, inr, refl, sym, ap, ◌∙◌, subst, arith, List, replicate, slice_index, w64}
+use Rattle.std.proofs.Common.{ℕ, ◌+◌, ◌*◌, ◌/◌, ◌%◌, ◌^◌, ◌<◌, ◌≡◌, ◌≢◌, inl, inr, sym, ap, ◌∙◌, subst, arith, List, slice_index, w64}
 use Rattle.std.proofs.lemmas.Bool.{cases_lt, cases_eq}
-use Rattle.std.proofs.lemmas.List.{get_or-replicate}
-use Rattle.std.proofs.lemmas.Nat.Bits.{bit_at-lt, bit_at-zero, bit_at_clear_other, bit_at_clear_same}
+use Rattle.std.proofs.lemmas.Nat.Bits.{bit_at-lt, bit_at_clear_other, bit_at_clear_same}
 use Rattle.go_board.specs.declared.size.TheConstants.{MAX_POINTS}
 use Rattle.go_chains.specs.declared.cells.TheConstants.{LIBERTIES, WORDS}
 use Rattle.go_chains.specs.Cells.{IsWritten, code_at, label_of, lib_of, word_of}
-use Rattle.go_chains.specs.inner.Writes.{IsDeprived, IsFilled, IsStoneBeside, MarksEmpty, MarksOne, mask_bit}
+use Rattle.go_chains.specs.inner.Writes.{IsDeprived, IsFilled, IsStoneBeside}
 
 -- a bit that isn't set is 0
 pub unset : (n i : ℕ) → bit_at n i ≢ 1 → bit_at n i ≡ 0
@@ -55,9 +54,6 @@ module _ (old new : List ℕ) (label point word : ℕ) (label_in : label < MAX_P
     ];
   }
 
-pub IsDeprived_none : (old : List ℕ) (point : ℕ) (of : ℕ → Type 0) → ((l : ℕ) → of l → ⊥) → IsDeprived old old point of
-IsDeprived_none old point of never = record { low = λ k below. refl; kept = λ l q l_in q_in off. refl; lost = λ l l_in is. absurd (never l is); less = λ l q l_in q_in one. one }
-
 -- taken out of the liberties of the stone on one listed point more
 pub IsDeprived_more : (old mid new : List ℕ) (point : ℕ) (beside : List ℕ) (i : ℕ) → point < MAX_POINTS → slice_index beside i < MAX_POINTS → IsDeprived old mid point (IsStoneBeside old beside i)
     → IsDeprived mid new point (λ l. (0 < code_at mid (slice_index beside i)) × (label_of mid (slice_index beside i) ≡ l)) → IsDeprived old new point (IsStoneBeside old beside (i + 1))
@@ -81,9 +77,6 @@ IsDeprived_more old mid new point beside i point_in near_in so_far one = record 
   less = λ l q l_in q_in is. so_far.less l q l_in q_in (one.less l q l_in q_in is);
 }
 
-pub IsFilled_none : (old : List ℕ) (label : ℕ) (words : List ℕ) → IsFilled old old label words 0
-IsFilled_none old label words = record { below = λ k under. refl; above = λ k over. refl; words_are = λ w under within. absurd (omega arith) }
-
 pub IsFilled_more : (old mid new : List ℕ) (label : ℕ) (words : List ℕ) (i value : ℕ) → i < WORDS → IsFilled old mid label words i
     → IsWritten mid new (LIBERTIES + WORDS * label + i) value → value ≡ slice_index words i → IsFilled old new label words (i + 1)
 IsFilled_more old mid new label words i value i_in so_far w value_is = record {
@@ -92,24 +85,5 @@ IsFilled_more old mid new label words i value i_in so_far w value_is = record {
   words_are = λ j under within. elim (cases_lt j i) [
     | inl before ↦ w.others (LIBERTIES + WORDS * label + j) (omega arith) ∙ so_far.words_are j before within
     | inr last ↦ let e : j ≡ i = omega arith in ap (word_of new label) e ∙ w.at ∙ value_is ∙ ap (slice_index words) (sym e)
-  ];
-}
-
-pub MarksEmpty_none : (cells beside : List ℕ) → MarksEmpty cells (replicate WORDS 0) beside 0
-MarksEmpty_none cells beside = record {
-  are = λ i below. absurd (omega arith);
-  only = λ q q_in one. absurd (let z : mask_bit (replicate WORDS 0) q ≡ 0 = ap (λ x. bit_at x (q % 64)) (get_or-replicate WORDS (q / 64) 0 0 (omega arith)) ∙ bit_at-zero (q % 64) in omega arith);
-}
-
--- one listed point more is marked, if it is empty
-pub MarksEmpty_more : (cells old new beside : List ℕ) (i : ℕ) → ((j : ℕ) → j ≤ i → slice_index beside j < MAX_POINTS) → MarksEmpty cells old beside i → MarksOne cells old new (slice_index beside i) → MarksEmpty cells new beside (i + 1)
-MarksEmpty_more cells old new beside i inside so_far m = record {
-  are = λ j below none. elim (cases_lt j i) [
-    | inl before ↦ m.kept (slice_index beside j) (inside j (omega arith)) (so_far.are j before none)
-    | inr last ↦ let e : j ≡ i = omega arith in ap (λ k. mask_bit new (slice_index beside k)) e ∙ m.given (ap (λ k. code_at cells (slice_index beside k)) (sym e) ∙ none)
-  ];
-  only = λ q q_in one. elim (m.was q q_in one) [
-    | inl before ↦ let o = so_far.only q q_in before in ((o.0.0, (let h : o.0.0 < i = o.0.1 in omega arith), o.0.2), o.1)
-    | inr here ↦ ((i, omega arith, sym here.0), ap (code_at cells) here.0 ∙ here.1)
   ];
 }

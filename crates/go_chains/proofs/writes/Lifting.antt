@@ -57,9 +57,6 @@ module _ (old new : List ℕ) (label point word : ℕ) (label_in : label < MAX_P
     ];
   }
 
-pub IsGiven_none : (old : List ℕ) (point : ℕ) (to : ℕ → Type 0) → ((l : ℕ) → to l → ⊥) → IsGiven old old point to
-IsGiven_none old point to never = record { low = λ k below. refl; kept = λ l q l_in q_in one. one; given = λ l l_in is. absurd (never l is); was = λ l q l_in q_in one. inl one }
-
 -- a liberty of the stone on one listed point more
 pub IsGiven_more : (old mid new : List ℕ) (point : ℕ) (beside : List ℕ) (colour i : ℕ) → point < MAX_POINTS → slice_index beside i < MAX_POINTS → IsGiven old mid point (IsGivenBeside old beside colour i)
     → IsGiven mid new point (λ l. (code_at mid (slice_index beside i) ≡ colour) × (label_of mid (slice_index beside i) ≡ l)) → IsGiven old new point (IsGivenBeside old beside colour (i + 1))
@@ -121,17 +118,6 @@ IsLifted_given n old mid new point other beside small point_in near w given = re
 
     label_same : (s : ℕ) → IsAdjacent n point s → label_of mid s ≡ label_of old s
     label_same s beside_point = w.others (LABELS + s) (let h : s < n * n = beside_point.1 in omega arith)
-
-pub IsRingLifted_none : (n : ℕ) (next : ℕ → ℕ) (old : List ℕ) (stone other : ℕ) → IsRingLifted n next old old stone 0 other
-IsRingLifted_none n next old stone other = record {
-  on = λ j below. absurd (omega arith);
-  off = λ p p_in differs. refl;
-  either = λ p p_in. inr refl;
-  above = λ k from below. refl;
-  kept = λ l q l_in q_in one. one;
-  given = λ j s below. absurd (omega arith);
-  was = λ l q l_in q_in one. inl one;
-}
 
 -- one stone more along the ring is taken off
 pub IsRingLifted_more : (n : ℕ) (next : ℕ → ℕ) (old mid new : List ℕ) (stone i other at : ℕ) → n * n ≤ MAX_POINTS → 0 < other → at ≡ steps next i stone

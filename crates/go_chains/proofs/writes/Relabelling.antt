@@ -1,5 +1,5 @@
 -- What relabelling a ring and merging words of liberties have written, a step at a time.
-use Rattle.std.proofs.Common.{ℕ, ◌+◌, ◌*◌, ◌<◌, ◌≡◌, ◌≢◌, inl, inr, refl, sym, ap, ◌∙◌, arith, List, slice_index}
+use Rattle.std.proofs.Common.{ℕ, ◌+◌, ◌*◌, ◌<◌, ◌≡◌, ◌≢◌, inl, inr, sym, ap, ◌∙◌, arith, List, slice_index}
 use Rattle.std.specs.Int.RustNames.{bit_or}
 use Rattle.std.proofs.lemmas.Bool.{cases_lt, cases_eq}
 use Rattle.go_board.specs.declared.size.TheConstants.{MAX_POINTS}
@@ -8,9 +8,6 @@ use Rattle.go_chains.specs.Rings.{steps}
 use Rattle.go_chains.specs.Cells.{IsWritten, label_of, next_of, word_of}
 use Rattle.go_chains.specs.inner.Writes.{IsMerged, IsRelabelled}
 use Rattle.go_chains.proofs.tables.Rings.{steps-add}
-
-pub IsRelabelled_none : (next : ℕ → ℕ) (old : List ℕ) (from to : ℕ) → IsRelabelled next old old from 0 to
-IsRelabelled_none next old from to = record { low = λ k below. refl; high = λ k above. refl; on = λ i below. absurd (omega arith); off = λ p p_in differs. refl }
 
 pub IsRelabelled_more : (next : ℕ → ℕ) (old mid new : List ℕ) (from i to at : ℕ) → at < MAX_POINTS → at ≡ steps next i from
     → IsRelabelled next old mid from i to → IsWritten mid new (LABELS + at) to → IsRelabelled next old new from (i + 1) to
@@ -34,9 +31,6 @@ pub relabelled_link : (old new : List ℕ) (from i to at read : ℕ) → at ≡ 
     → read ≡ slice_index new (LINKS + at) → read ≡ steps (next_of old) (i + 1) from
 relabelled_link old new from i to at read at_is now read_is =
     read_is ∙ now.high (LINKS + at) (omega arith) ∙ ap (next_of old) at_is ∙ sym (steps-add (next_of old) i 1 from)
-
-pub IsMerged_none : (old : List ℕ) (keep gone : ℕ) → IsMerged old old keep gone 0
-IsMerged_none old keep gone = record { below = λ k below. refl; above = λ k above. refl; words = λ w below within. absurd (omega arith); rest = λ w from within. refl }
 
 pub IsMerged_more : (old mid new : List ℕ) (keep gone i here there : ℕ) → keep < MAX_POINTS → gone < MAX_POINTS → keep ≢ gone → i < WORDS
     → here ≡ word_of mid keep i → there ≡ word_of mid gone i → IsMerged old mid keep gone i
