@@ -11,7 +11,7 @@ pub const PACK_BYTES: usize = (MAX_POINTS + 3) / 4;
 
 /// The colours of a grid in two bits a point. Packs of grids of one size are equal exactly where
 /// the grids are.
-#[derive(Clone, Copy, Debug, PartialEq, Eq)]
+#[derive(Clone, Copy, Debug, PartialEq, Eq, PartialOrd, Ord)]
 pub struct Packed {
     /// Four points a byte, the first in its lowest bits.
     bytes: [u8; PACK_BYTES],

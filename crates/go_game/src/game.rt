@@ -193,7 +193,8 @@ impl<A: Allocator + Copy> Game<A> {
         self.resize(self.size());
     }
 
-    /// An empty board of this size, Black to move. The komi and the superko rule stay.
+    /// An empty board of this size, Black to move. The komi and the superko rule stay. What it costs
+    /// doesn't depend on the moves that were played, and it gives back the memory for them.
     pub fn resize(&mut self, size: Size)
         ensures start { self.new.standing ≡ empty_start size self.old.standing.komi
             self.old.standing.rule }
@@ -207,7 +208,7 @@ impl<A: Allocator + Copy> Game<A> {
         self.first = Colour::Black;
         self.board.clear(size);
         self.log = Log::new(alloc);
-        self.steps.clear();
+        self.steps = Vec::new(alloc);
         let key = self.superko.key(self.start.pack(), self.first);
         self.history.restart(key);
         self.prisoners = Prisoners { black: 0, white: 0 };

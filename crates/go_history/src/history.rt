@@ -1,11 +1,22 @@
-ghost use Rattle.std.specs.Prelude.{◌≡◌, ℕ, IfOk, None, Ok, OnErr, Some};
-ghost use Rattle.go_history.specs.Histories.{IsBegun, IsChangedAt, IsForgotten, IsUnchanged, number_at};
+ghost use Rattle.std.specs.Prelude.{◌≡◌, ℕ, cond, IfOk, None, Ok, OnErr, Some};
+ghost use Rattle.std.specs.Map.{lookup};
+ghost use Rattle.go_history.specs.Keys.{key_eq};
+ghost use Rattle.go_history.specs.declared.key.Key.{Key};
+ghost use Rattle.go_history.specs.Histories.{IsBegun, IsChangedAt, IsForgotten, IsUnchanged, later_at, number_at};
 
 use crate::Key;
+use crate::ranked::Ranked;
 use std::alloc::{AllocError, Allocator};
-use std::collections::HashMap;
+use std::collections::{BTreeMap, HashMap};
 use std::hash::{BuildHasherDefault, FoldHasher};
 use std::marker::Model;
+
+/// How many keys are kept by their hashes: more than a game has moves. The seed is fixed, so
+/// somebody may pick moves whose keys lie side by side, and a look-up there goes past them all.
+const FIRST_KEYS: usize = 4_096;
+
+/// For how many keys a history that begins anew keeps its room, where it has no more.
+const KEPT_KEYS: usize = 1_024;
 
 /// After how many moves what each key is of stood first. The start's is kept beside the others, so
 /// that a game without moves takes no memory. It takes memory as keys are noted, from the allocator
@@ -14,16 +25,25 @@ use std::marker::Model;
 pub struct History<A: Allocator + Copy> {
     /// What stood after no move.
     start: Key,
-    /// After how many moves each other key stood first.
-    later: HashMap<Key, usize, BuildHasherDefault<FoldHasher>, A>,
+    /// After how many moves each other key stood first, of the first so many.
+    first: HashMap<Key, usize, BuildHasherDefault<FoldHasher>, A>,
+    /// The same of the keys that were noted behind them, in order, so that no choice of moves makes
+    /// a look-up long.
+    further: BTreeMap<Ranked, usize, A>,
+    alloc: A,
 }
 
 impl<A: Allocator + Copy> Model for History<A> {
     ghost use Rattle.go_history.specs.Histories.{HistoryValue};
+    ghost use Rattle.std.specs.Prelude.{◌++◌};
+    ghost use Rattle.go_history.specs.inner.Ranks.{unranked};
 
     ghost Value = { HistoryValue };
 
-    ghost view = { λ h. record { start = h.start; later = h.later.entries } };
+    ghost view = { λ h. record {
+      start = h.start;
+      later = h.first.entries ++ unranked h.further.entries;
+    } };
 }
 
 impl<A: Allocator + Copy> History<A> {
@@ -33,7 +53,9 @@ impl<A: Allocator + Copy> History<A> {
     {
         History {
             start,
-            later: HashMap::new(alloc),
+            first: HashMap::new(alloc),
+            further: BTreeMap::new(alloc),
+            alloc,
         }
     }
 
@@ -44,7 +66,20 @@ impl<A: Allocator + Copy> History<A> {
         if self.start == *key {
             return Some(0);
         }
-        self.later.get(key).copied()
+        self.look_up_later(key)
+    }
+
+    /// After how many moves what has this key stood first, but for the start.
+    fn look_up_later(&self, key: &Key) -> Option<usize>
+        ensures { result ≡ later_at self.now key.now }
+    {
+        if let Some(number) = self.first.get(key).copied() {
+            return Some(number);
+        }
+        if self.further.is_empty() {
+            return None;
+        }
+        self.further.get(&Ranked::new(key)).copied()
     }
 
     /// After how many moves what has this key stood first; or none where it didn't stand, and then
@@ -58,21 +93,24 @@ impl<A: Allocator + Copy> History<A> {
         if self.start == *key {
             return Ok(Some(0));
         }
-        let known = self.later.insert(*key, number)?;
-        match known {
-            None => Ok(None),
-            Some(earlier) => {
-                self.later.insert(*key, earlier)?;
-                Ok(Some(earlier))
-            }
+        if self.further.is_empty() && self.first.len() < FIRST_KEYS {
+            return note_first(&mut self.first, key, number);
         }
+        if let Some(known) = self.look_up_later(key) {
+            return Ok(Some(known));
+        }
+        self.further.insert(Ranked::new(key), number)?;
+        Ok(None)
     }
 
     /// Takes out what was noted of a key. It takes no memory.
     pub fn forget(&mut self, key: &Key)
         ensures { IsChangedAt self.old self.new key.now None }
     {
-        self.later.remove(key);
+        self.first.remove(key);
+        if !self.further.is_empty() {
+            self.further.remove(&Ranked::new(key));
+        }
     }
 
     /// Takes out a key that was noted with this number; one that was noted with another stays. It
@@ -80,16 +118,47 @@ impl<A: Allocator + Copy> History<A> {
     pub fn forget_at(&mut self, key: &Key, number: usize)
         ensures { IsForgotten self.old self.new key.now number }
     {
-        if self.later.get(key).copied() == Some(number) {
+        if self.look_up_later(key) == Some(number) {
             self.forget(key);
         }
     }
 
-    /// Begins anew. It takes no memory.
+    /// Begins anew. It takes no memory, and gives back that of a long game, so that what it costs
+    /// doesn't depend on how many keys were noted.
     pub fn restart(&mut self, start: Key)
         ensures { IsBegun self.new start }
     {
         self.start = start;
-        self.later.clear();
+        self.further = BTreeMap::new(self.alloc);
+        if self.first.capacity() > KEPT_KEYS {
+            self.first = HashMap::new(self.alloc);
+        } else {
+            self.first.clear();
+        }
+    }
+}
+
+/// What a key has among the first, or none where it has nothing, and then it is noted there with
+/// this number.
+fn note_first<A: Allocator + Copy>(
+    first: &mut HashMap<Key, usize, BuildHasherDefault<FoldHasher>, A>,
+    key: &Key,
+    number: usize,
+) -> Result<Option<usize>, AllocError>
+    ensures known { IfOk result (λ known. known ≡ lookup (key_eq key.now) first.old.entries) }
+    ensures noted { result ≡ Ok None → (q : Key) → lookup (key_eq q) first.new.entries
+        ≡ cond (key_eq key.now q) (Some number) (lookup (key_eq q) first.old.entries) }
+    ensures stood { (k : ℕ) → result ≡ Ok (Some k) → (q : Key) → lookup (key_eq q)
+        first.new.entries ≡ lookup (key_eq q) first.old.entries }
+    ensures err { OnErr result ((q : Key) → lookup (key_eq q) first.new.entries
+        ≡ lookup (key_eq q) first.old.entries) }
+{
+    let known = first.insert(*key, number)?;
+    match known {
+        None => Ok(None),
+        Some(earlier) => {
+            first.insert(*key, earlier)?;
+            Ok(Some(earlier))
+        }
     }
 }

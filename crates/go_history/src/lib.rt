@@ -17,6 +17,7 @@
 
 mod history;
 mod key;
+mod ranked;
 
 pub use history::History;
 pub use key::Key;

@@ -137,3 +137,68 @@ fn movers_are_told_apart(rt: HostRuntime) -> Result<(), Fail> {
     notes(&rt, &mut history, WHITE_FORGOTTEN)?;
     Ok(())
 }
+
+/// More keys than are kept by their hashes.
+const MANY: u16 = 5_000;
+
+/// Puts a black stone on the point with this number.
+fn put_black(rt: &impl Abort, grid: &mut Grid, number: u16) {
+    let point = Point::nth(grid.size(), number).expect(rt, "a point");
+    grid.set(point, Some(Colour::Black));
+}
+
+/// The key of one of many boards with two stones.
+fn key_of_two(rt: &impl Abort, number: u16) -> Key {
+    let mut grid = Grid::new(Size::new(19).expect(rt, "a size"));
+    put_black(rt, &mut grid, number / 300);
+    put_black(rt, &mut grid, 20 + number % 300);
+    Key {
+        pack: grid.pack(),
+        mover: None,
+    }
+}
+
+/// Notes each of the many with the number behind its own, and asserts whether it is found, by what its
+/// own leaves when it is divided by 3.
+fn note_many(
+    rt: &impl Abort,
+    history: &mut History<Global>,
+    is_found: [bool; 3],
+) -> Result<(), AllocError> {
+    for number in 0..MANY {
+        let found = history.note(&key_of_two(rt, number), usize::from(number) + 1)?;
+        let stood = if is_found[usize::from(number % 3)] {
+            Some(usize::from(number) + 1)
+        } else {
+            None
+        };
+        assert!(rt; found == stood, "board {number}");
+    }
+    Ok(())
+}
+
+/// Takes every third of the many out, and of the others none, since each has another number.
+fn forget_thirds(rt: &impl Abort, history: &mut History<Global>) {
+    for number in 0..MANY {
+        let key = key_of_two(rt, number);
+        if number % 3 == 0 {
+            history.forget(&key);
+        } else {
+            history.forget_at(&key, usize::from(number));
+        }
+    }
+}
+
+#[test]
+fn many_keys_are_found_and_taken_back(rt: HostRuntime) -> Result<(), Fail> {
+    let mut history = History::new(rt.alloc(), key_with(&rt, NO_STONE));
+    // None is found, and then each.
+    note_many(&rt, &mut history, [false; 3])?;
+    note_many(&rt, &mut history, [true; 3])?;
+    forget_thirds(&rt, &mut history);
+    note_many(&rt, &mut history, [false, true, true])?;
+    note_many(&rt, &mut history, [true; 3])?;
+    history.restart(key_with(&rt, NO_STONE));
+    note_many(&rt, &mut history, [false; 3])?;
+    Ok(())
+}

@@ -1,0 +1,2 @@
+-- Words of what a history keeps. No public contract cites them.
+pub mod Ranks
