@@ -1,5 +1,5 @@
 -- What a line keeps as several bytes come to its end.
-use Rattle.std.proofs.Common.{◌≡◌, ◌∙◌, ◌+◌, ◌<◌, ℕ, zero, suc, Some, None, Bool, true, false, not, cond, drop, if◌then◌else◌, ◌&&◌, ◌||◌, List, [], ◌∷◌, ◌++◌, refl, sym, ap, subst, take, length, nat_lt, map, arith, append_assoc, length-append}
+use Rattle.std.proofs.Common.{◌≡◌, ◌∙◌, ◌+◌, ◌<◌, ℕ, zero, suc, Some, None, Bool, true, false, not, cond, drop, if◌then◌else◌, ◌&&◌, ◌||◌, List, [], ◌∷◌, ◌++◌, refl, sym, ap, subst, take, length, nat_eq, nat_lt, map, arith, append_assoc, length-append}
 use Rattle.std.proofs.lemmas.Bool.{and_parts}
 use Rattle.std.specs.List.{list_all, list_any, prefix_len}
 use Rattle.std.proofs.lemmas.List.{append-nil, map-append, take-append-le}
@@ -11,9 +11,9 @@ use Rattle.memchr.specs.Find.{IsFirstByte, is_byte}
 use Rattle.goref_lines.specs.declared.line.TheConstants.{LINE_LIMIT}
 use Rattle.goref_lines.specs.Kept.{is_control_byte, is_hash, spaced, printable, before_comment, cleaned, ends_with_space, Kept, kept}
 use Rattle.goref_lines.specs.Words.{is_plain_space, has_bytes, single_spaced}
-use Rattle.goref_lines.specs.inner.Front.{AreOfWord, KeepsFront, is_word_byte, last_of, space_after, with_space}
+use Rattle.goref_lines.specs.inner.Front.{AreBetweenWords, AreOfWord, KeepsFront, is_gap_byte, is_word_byte, last_of, space_after, with_space}
 use Rattle.goref_lines.proofs.Joins.{has_trailing_space, joined_push_space, joined_push_byte, has_trailing_space_push_byte}
-use Rattle.goref_lines.proofs.Pushes.{before_comment_none, kept_comment, kept_hash, plain, plain_is, plain_before, has_comment_is, spaced_other}
+use Rattle.goref_lines.proofs.Pushes.{before_comment_none, kept_comment, kept_control, kept_hash, kept_space, plain, plain_is, plain_before, has_comment_is, spaced_other}
 
 before_comment_append : (bs more : List ℕ) → list_any is_hash bs ≡ false → before_comment (bs ++ more) ≡ bs ++ before_comment more
 before_comment_append [] more e = refl
@@ -53,14 +53,15 @@ others_of b word h = (and_parts (is_word_byte b) (list_all is_word_byte word) h)
 one_more : (n : ℕ) → suc n ≡ 1 + n
 one_more n = omega arith
 
-pub word_first : (bytes : List ℕ) → AreOfWord (take (prefix_len is_word_byte bytes) bytes)
-word_first [] = refl
-word_first (b ∷ bytes) = at (is_word_byte b) refl (word_first bytes)
+-- the bytes that stand first and pass a test all pass it
+pub taken_pass : (test : ℕ → Bool) (bytes : List ℕ) → list_all test (take (prefix_len test bytes) bytes) ≡ true
+taken_pass test [] = refl
+taken_pass test (b ∷ bytes) = at (test b) refl (taken_pass test bytes)
   where
-    at : (c : Bool) → is_word_byte b ≡ c → AreOfWord (take (prefix_len is_word_byte bytes) bytes) →
-        AreOfWord (take (if c then 1 + prefix_len is_word_byte bytes else 0) (b ∷ bytes))
+    at : (c : Bool) → test b ≡ c → list_all test (take (prefix_len test bytes) bytes) ≡ true →
+        list_all test (take (if c then 1 + prefix_len test bytes else 0) (b ∷ bytes)) ≡ true
     at true e later =
-        subst (λ n. AreOfWord (take n (b ∷ bytes))) (one_more (prefix_len is_word_byte bytes)) (ap (λ c. c && list_all is_word_byte (take (prefix_len is_word_byte bytes) bytes)) e ∙ later)
+        subst (λ n. list_all test (take n (b ∷ bytes)) ≡ true) (one_more (prefix_len test bytes)) (ap (λ c. c && list_all test (take (prefix_len test bytes) bytes)) e ∙ later)
     at false e later = refl
 
 printable_word : (word : List ℕ) → AreOfWord word → printable word ≡ word
@@ -221,10 +222,6 @@ pub last_is : (front : List ℕ) (b : ℕ) → is_control_byte b ≡ false → l
 last_is front b e =
     ap last_of (printable_append front (b ∷ []) ∙ ap (λ c. printable front ++ cond (not c) (b ∷ []) []) e) ∙ last_of-push (printable front) b
 
-pub last_is_before : (front : List ℕ) (b : ℕ) → is_control_byte b ≡ true → last_of (printable (front ++ b ∷ [])) ≡ last_of (printable front)
-last_is_before front b e =
-    ap last_of (printable_append front (b ∷ []) ∙ ap (λ c. printable front ++ cond (not c) (b ∷ []) []) e ∙ append-nil (printable front))
-
 pub no_hash_printed : (bytes : List ℕ) → list_any is_hash bytes ≡ false → list_any is_hash (printable bytes) ≡ false
 no_hash_printed [] e = refl
 no_hash_printed (b ∷ bytes) e = at (is_hash b) (not (is_control_byte b)) e refl (no_hash_printed bytes)
@@ -266,3 +263,46 @@ none_found bytes h = no_hash bytes (λ k l. h k (omega arith) l)
 
 pub one_found : (bytes : List ℕ) (place : ℕ) → IsFirstByte (is_byte 35) bytes (Some place) → HashAt bytes place
 one_found bytes place h = hash_at bytes place (λ k l. h.0.before k (omega arith) l) h.0.high h.1
+
+-- controls are no white space, and white space begins no comment
+control_no_space : (b : ℕ) → is_control_byte b ≡ true → is_plain_space (spaced b) ≡ false
+control_no_space b e = grind (arith, nat_tests, e)
+
+space_no_control : (b : ℕ) → is_plain_space (spaced b) ≡ true → is_control_byte b ≡ false
+space_no_control b e = grind (arith, nat_tests, e)
+
+space_no_hash : (b : ℕ) → is_plain_space (spaced b) ≡ true → ¬ (b ≡ 35)
+space_no_hash b e hash = let bad = sym e ∙ ap (λ x. is_plain_space (spaced x)) hash in cc
+
+-- bytes between words
+pub kept_gap : (gap line : List ℕ) (k : Kept) → k ≡ kept line → k.has_comment ≡ false → AreBetweenWords gap →
+    record k { has_space = cond (list_any (λ b. is_plain_space (spaced b)) gap) (not (nat_eq (length k.text) 0)) k.has_space } ≡ kept (line ++ gap)
+kept_gap [] line k seen none between = seen ∙ ap kept (sym (append-nil line))
+kept_gap (b ∷ gap) line k seen none between = at (is_control_byte b) (is_plain_space (spaced b)) refl refl (and_parts (is_gap_byte b) (list_all is_gap_byte gap) between).0
+    (λ seen'. kept_gap gap (line ++ b ∷ []) k seen' none rest) (λ seen'. kept_gap gap (line ++ b ∷ []) spaced_out seen' none rest)
+  where
+    rest : AreBetweenWords gap
+    rest = (and_parts (is_gap_byte b) (list_all is_gap_byte gap) between).1
+
+    has_words : Bool
+    has_words = not (nat_eq (length k.text) 0)
+
+    spaced_out : Kept
+    spaced_out = record k { has_space = has_words }
+
+    either : (c : Bool) → cond c has_words has_words ≡ has_words
+    either true = refl
+    either false = refl
+
+    any : Bool
+    any = list_any (λ b. is_plain_space (spaced b)) gap
+
+    at : (c s : Bool) → is_control_byte b ≡ c → is_plain_space (spaced b) ≡ s → (c || s) ≡ true
+        → (k ≡ kept (line ++ b ∷ []) → record k { has_space = cond any has_words k.has_space } ≡ kept ((line ++ b ∷ []) ++ gap))
+        → (spaced_out ≡ kept (line ++ b ∷ []) → record spaced_out { has_space = cond any has_words has_words } ≡ kept ((line ++ b ∷ []) ++ gap))
+        → record k { has_space = cond (s || any) has_words k.has_space } ≡ kept (line ++ b ∷ gap)
+    at true true e s or over gone = absurd (let bad = sym s ∙ control_no_space b e in cc)
+    at true false e s or over gone = over (kept_control line b k seen e) ∙ ap kept (append_assoc line (b ∷ []) gap)
+    at false true e s or over gone =
+        ap (λ x. record k { has_space = x }) (sym (either any)) ∙ gone (kept_space line b k seen none e (space_no_hash b s) s) ∙ ap kept (append_assoc line (b ∷ []) gap)
+    at false false e s or over gone = cc or

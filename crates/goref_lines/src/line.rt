@@ -2,7 +2,7 @@ ghost use Rattle.std.specs.Prelude.{◌≡◌, ◌+◌, ◌<◌, ◌≤◌, ℕ,
 ghost use Rattle.std.specs.List.{list_any, prefix_len};
 ghost use Rattle.goref_lines.specs.Kept.{Kept, kept, is_control_byte, is_hash, printable, spaced};
 ghost use Rattle.goref_lines.specs.Words.{has_bytes, is_plain_space};
-ghost use Rattle.goref_lines.specs.inner.Front.{AreOfWord, KeepsFront, is_word_byte, last_of, with_space};
+ghost use Rattle.goref_lines.specs.inner.Front.{AreBetweenWords, AreOfWord, KeepsFront, is_gap_byte, is_word_byte, last_of, with_space};
 
 use arrayvec::ArrayVec;
 use memchr::memchr;
@@ -95,6 +95,9 @@ impl Line {
     pub fn extend(&mut self, bytes: &[u8])
         ensures { (line : List ℕ) → self.old ≡ kept line → self.new ≡ kept (line ++ bytes.now) }
     {
+        if self.has_comment {
+            return;
+        }
         if self.is_long {
             self.skip(bytes);
             return;
@@ -137,7 +140,7 @@ impl Line {
         }
     }
 
-    /// Takes the first of bytes, those of a word or another one alone, and tells how many.
+    /// Takes the first of bytes, those of a word, those between words or a `#`, and tells how many.
     fn push_front(&mut self, bytes: &[u8]) -> usize
         requires { 0 < length bytes.now }
         ensures some { 0 < result }
@@ -146,12 +149,17 @@ impl Line {
             → self.new ≡ kept (line ++ take result bytes.now) }
     {
         let count = word_front(bytes);
-        if count == 0 {
-            self.push(bytes[0]);
-            return 1;
+        if count > 0 {
+            self.push_word(bytes.split_at(count).0);
+            return count;
         }
-        self.push_word(bytes.split_at(count).0);
-        count
+        let count = gap_front(bytes);
+        if count > 0 {
+            self.push_gap(bytes.split_at(count).0);
+            return count;
+        }
+        self.push(bytes[0]);
+        1
     }
 
     /// Takes bytes of a word.
@@ -165,6 +173,19 @@ impl Line {
         }
         append_to_words(&mut self.text, &mut self.is_long, self.has_space, word);
         self.has_space = false;
+    }
+
+    /// Takes controls and white space.
+    fn push_gap(&mut self, gap: &[u8])
+        requires { AreBetweenWords gap.now }
+        ensures { (line : List ℕ) → self.old ≡ kept line → self.new ≡ kept (line ++ gap.now) }
+    {
+        if self.has_comment {
+            return;
+        }
+        if has_blank(gap) {
+            self.has_space = !self.text.is_empty();
+        }
     }
 
     /// The words so far, joined by single spaces, and of these the first [`LINE_LIMIT`] bytes.
@@ -202,11 +223,25 @@ fn is_blank(byte: u8) -> bool
     byte == b' ' || byte == b'\t'
 }
 
+/// Whether a space or a tab is among bytes.
+fn has_blank(bytes: &[u8]) -> bool
+    ensures { result ≡ list_any (λ b. is_plain_space (spaced b)) bytes.now }
+{
+    bytes.iter().any(|byte| is_blank(*byte))
+}
+
 /// Whether a byte stands in words.
 fn is_of_word(byte: u8) -> bool
     ensures { result ≡ is_word_byte byte }
 {
     byte > b' ' && byte != b'#' && byte != 127
+}
+
+/// Whether a byte stands between words: white space or a control.
+fn is_of_gap(byte: u8) -> bool
+    ensures { result ≡ is_gap_byte byte }
+{
+    byte <= b' ' || byte == 127
 }
 
 /// How many bytes of a word stand first.
@@ -215,6 +250,14 @@ fn word_front(bytes: &[u8]) -> usize
     ensures bound { result ≤ length bytes.now }
 {
     bytes.iter().take_while(|byte| is_of_word(**byte)).count()
+}
+
+/// How many controls and white space stand first.
+fn gap_front(bytes: &[u8]) -> usize
+    ensures value { result ≡ prefix_len is_gap_byte bytes.now }
+    ensures bound { result ≤ length bytes.now }
+{
+    bytes.iter().take_while(|byte| is_of_gap(**byte)).count()
 }
 
 /// The last byte that is no control.

@@ -1,5 +1,5 @@
 -- The words in which the private functions of a line say how it grows.
-use Rattle.std.specs.Prelude.{◌≡◌, ℕ, nat_lt, ◌&&◌, not, Bool, true, if◌then◌else◌, List, [], ◌∷◌, Option, Some, None, take, length}
+use Rattle.std.specs.Prelude.{◌≡◌, ℕ, nat_lt, ◌&&◌, ◌||◌, not, Bool, true, if◌then◌else◌, List, [], ◌∷◌, Option, Some, None, take, length}
 use Rattle.std.specs.List.{list_all}
 use Rattle.goref_lines.specs.Kept.{is_control_byte, is_hash, spaced}
 use Rattle.goref_lines.specs.Words.{is_plain_space}
@@ -20,6 +20,13 @@ is_word_byte b = not (is_control_byte b) && (not (is_hash b) && not (is_plain_sp
 
 abbrev pub AreOfWord : List ℕ → Type 0
 AreOfWord bytes = list_all is_word_byte bytes ≡ true
+
+-- a byte between words: a control or white space
+abbrev pub is_gap_byte : ℕ → Bool
+is_gap_byte b = is_control_byte b || is_plain_space (spaced b)
+
+abbrev pub AreBetweenWords : List ℕ → Type 0
+AreBetweenWords bytes = list_all is_gap_byte bytes ≡ true
 
 abbrev pub last_of : List ℕ → Option ℕ
 last_of [] = None
