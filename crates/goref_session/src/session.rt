@@ -1,4 +1,4 @@
-ghost use Rattle.std.specs.Prelude.{◌≡◌, false};
+ghost use Rattle.std.specs.Prelude.{◌≡◌, cond, false};
 ghost use Rattle.go_board.specs.Device.{failures_after};
 ghost use Rattle.go_game.specs.Standings.{Standing};
 ghost use Rattle.goref_session.specs.Replies.{DecidesLine, is_end, line_id};
@@ -23,16 +23,21 @@ use std::marker::Model;
 /// A game that is played by lines.
 #[derive(Drop)]
 pub struct Session<A: Allocator + Copy> {
-    game: Game<A>,
-    /// Where records are loaded, so that a refused one leaves the game as it is.
-    spare: Game<A>,
+    first: Game<A>,
+    second: Game<A>,
+    /// Which of the two is played. Records are loaded on the other, so that a refused one leaves the
+    /// game as it is, and a game that was loaded isn't moved.
+    plays_second: bool,
     alloc: A,
 }
 
 impl<A: Allocator + Copy> Model for Session<A> {
+    ghost use Rattle.std.specs.Prelude.{cond};
+    ghost use Rattle.go_game.specs.Standings.{Standing};
+
     ghost Value = { Standing };
 
-    ghost view = { λ s. s.game.standing };
+    ghost view = { λ s. cond s.plays_second s.second.standing s.first.standing };
 }
 
 impl<A: Allocator + Copy> Session<A> {
@@ -41,8 +46,9 @@ impl<A: Allocator + Copy> Session<A> {
         ensures { result ≡ begun size }
     {
         Session {
-            game: Game::new(alloc, size),
-            spare: Game::new(alloc, size),
+            first: Game::new(alloc, size),
+            second: Game::new(alloc, size),
+            plays_second: false,
             alloc,
         }
     }
@@ -51,7 +57,11 @@ impl<A: Allocator + Copy> Session<A> {
     pub fn game(&self) -> &Game<A>
         ensures { result.now.standing ≡ self.now }
     {
-        &self.game
+        if self.plays_second {
+            &self.second
+        } else {
+            &self.first
+        }
     }
 
     /// Answers a line. On a fault what was written is a front of the answer, and the session stands
@@ -98,31 +108,60 @@ impl<A: Allocator + Copy> Session<A> {
             (record { decision = result; standing = self.new }) }
     {
         let alloc = self.alloc;
-        let game = &mut self.game;
-        match command_asked(request) {
-            None => Decision::Refused(Refusal::UnknownCommand),
-            Some(Command::Tells(topic)) => Decision::Tells(Fact::About(topic)),
-            Some(Command::KnownCommand) => telling::decide_known(request),
-            Some(Command::Quit) => Decision::Ends,
-            Some(Command::Boardsize) => setup::decide_size(game, request),
-            Some(Command::ClearBoard) => setup::decide_clear(game),
-            Some(Command::Komi) => setup::decide_komi(game, request),
-            Some(Command::Play) => play::decide_play(game, request),
-            Some(Command::Genmove) => play::decide_genmove(game, request),
-            Some(Command::Undo) => play::decide_undo(game),
-            Some(Command::RegGenmove) => play::decide_choice(game, request),
-            Some(Command::Loadsgf) => {
-                record::decide_load(game, &mut self.spare, alloc, request, fetched)
-            }
-            Some(Command::FixedHandicap) => handicap::decide_fixed(game, alloc, request),
-            Some(Command::PlaceFreeHandicap) => handicap::decide_free(game, alloc, request),
-            Some(Command::SetFreeHandicap) => handicap::decide_stones(game, alloc, request),
-            Some(Command::TimeSettings) => time::decide_settings(request),
-            Some(Command::TimeLeft) => time::decide_left(request),
-            Some(Command::Legal) => play::decide_legal(game, request),
-            Some(Command::Superko) => setup::decide_superko(game, request),
+        let (decision, is_loaded) = if self.plays_second {
+            decide_on(&mut self.second, &mut self.first, alloc, request, fetched)
+        } else {
+            decide_on(&mut self.first, &mut self.second, alloc, request, fetched)
+        };
+        if is_loaded {
+            self.plays_second = !self.plays_second;
         }
+        decision
     }
+}
+
+/// Decides on the command that is asked for, and tells whether it is the spare game that is to be
+/// played on. One that was played gives its memory back then.
+fn decide_on<A: Allocator + Copy>(
+    game: &mut Game<A>,
+    spare: &mut Game<A>,
+    alloc: A,
+    request: &Request,
+    fetched: &Fetched<A>,
+) -> (Decision, bool)
+    ensures { Decides game.old.standing request.now (content_of fetched.now) (record {
+      decision = result.0;
+      standing = cond result.1 spare.new.standing game.new.standing;
+    }) }
+{
+    let decision = match command_asked(request) {
+        None => Decision::Refused(Refusal::UnknownCommand),
+        Some(Command::Tells(topic)) => Decision::Tells(Fact::About(topic)),
+        Some(Command::KnownCommand) => telling::decide_known(request),
+        Some(Command::Quit) => Decision::Ends,
+        Some(Command::Boardsize) => setup::decide_size(game, request),
+        Some(Command::ClearBoard) => setup::decide_clear(game),
+        Some(Command::Komi) => setup::decide_komi(game, request),
+        Some(Command::Play) => play::decide_play(game, request),
+        Some(Command::Genmove) => play::decide_genmove(game, request),
+        Some(Command::Undo) => play::decide_undo(game),
+        Some(Command::RegGenmove) => play::decide_choice(game, request),
+        Some(Command::Loadsgf) => match record::load_requested(spare, alloc, request, fetched) {
+            Ok(()) => {
+                game.clear();
+                return (Decision::Done, true);
+            }
+            Err(why) => Decision::Refused(why),
+        },
+        Some(Command::FixedHandicap) => handicap::decide_fixed(game, alloc, request),
+        Some(Command::PlaceFreeHandicap) => handicap::decide_free(game, alloc, request),
+        Some(Command::SetFreeHandicap) => handicap::decide_stones(game, alloc, request),
+        Some(Command::TimeSettings) => time::decide_settings(request),
+        Some(Command::TimeLeft) => time::decide_left(request),
+        Some(Command::Legal) => play::decide_legal(game, request),
+        Some(Command::Superko) => setup::decide_superko(game, request),
+    };
+    (decision, false)
 }
 
 /// Whether the session goes on after what was decided.

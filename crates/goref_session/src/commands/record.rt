@@ -3,15 +3,16 @@ ghost use Rattle.std.specs.Prelude.{◌≡◌, IsErrOf, OnOk, Some, option_map};
 ghost use Rattle.std.specs.Bool.{Decides};
 ghost use Rattle.std.specs.Option.{option_and_then};
 ghost use Rattle.go_board.specs.Pens.{Writes};
+ghost use Rattle.go_game.specs.Standings.{Standing};
 ghost use Rattle.go_record.specs.Records.{record_body};
 ghost use Rattle.goref_session.specs.Commands.{command_of};
 ghost use Rattle.goref_session.specs.Contents.{content_of};
-ghost use Rattle.goref_session.specs.Record.{DecidesBytes, DecidesContent, DecidesLoad, Loads, LoadsNone, load_of, load_error_of, of_sgf};
+ghost use Rattle.goref_session.specs.Record.{DecidesBytes, DecidesContent, DecidesLoad, Loads, LoadsNone, after_load, load_error_of, load_of, of_sgf};
 ghost use Rattle.goref_session.specs.declared.command.Command.{Command};
 ghost use Rattle.goref_results.specs.Results.{result_text};
 
 use crate::arguments::number_argument;
-use crate::decision::{Decision, Refusal};
+use crate::decision::Refusal;
 use crate::fetched::Fetched;
 use go_board::{Pen, Sink};
 use go_game::Game;
@@ -19,7 +20,6 @@ use go_record::{RecordError, put_record, replay_on};
 use go_sgf::{SgfError, read};
 use goref_lines::Request;
 use std::alloc::Allocator;
-use std::mem;
 
 /// A file that is to be loaded, up to the move of a number where one is given.
 #[derive(Clone, Copy)]
@@ -48,59 +48,53 @@ pub fn load_asked<'a>(request: &Request<'a>) -> Option<Load<'a>>
     Some(Load { name, number })
 }
 
-/// Loads on the spare game, so that a refused record leaves the game as it is.
-pub fn decide_load<A: Allocator + Copy>(
+/// Loads what a request asks for on a game, or tells why not.
+pub fn load_requested<A: Allocator + Copy>(
     game: &mut Game<A>,
-    spare: &mut Game<A>,
     alloc: A,
     request: &Request,
     fetched: &Fetched<A>,
-) -> Decision
-    ensures { DecidesLoad game.old.standing (load_of request.now.arguments) (content_of fetched.now)
-        (record { decision = result; standing = game.new.standing }) }
+) -> Result<(), Refusal>
+    ensures { (s : Standing) → DecidesLoad s (load_of request.now.arguments)
+        (content_of fetched.now) (after_load s game.new.standing result) }
 {
     match load_asked(request) {
-        None => Decision::Refused(Refusal::SyntaxError),
-        Some(load) => decide_fetched(game, spare, alloc, fetched, load.number),
+        None => Err(Refusal::SyntaxError),
+        Some(load) => load_fetched(game, alloc, fetched, load.number),
     }
 }
 
-fn decide_fetched<A: Allocator + Copy>(
+fn load_fetched<A: Allocator + Copy>(
     game: &mut Game<A>,
-    spare: &mut Game<A>,
     alloc: A,
     fetched: &Fetched<A>,
     number: Option<u32>,
-) -> Decision
-    ensures { DecidesContent game.old.standing (content_of fetched.now) number
-        (record { decision = result; standing = game.new.standing }) }
+) -> Result<(), Refusal>
+    ensures { (s : Standing) → DecidesContent s (content_of fetched.now) number
+        (after_load s game.new.standing result) }
 {
     match fetched {
-        Fetched::Bytes(bytes) => decide_bytes(game, spare, alloc, bytes.as_slice(), number),
-        Fetched::Memory => Decision::Refused(Refusal::OutOfMemory),
-        Fetched::None => Decision::Refused(Refusal::CannotLoad),
-        Fetched::Missing => Decision::Refused(Refusal::CannotLoad),
-        Fetched::TooLarge => Decision::Refused(Refusal::CannotLoad),
+        Fetched::Bytes(bytes) => load_bytes(game, alloc, bytes.as_slice(), number),
+        Fetched::Memory => Err(Refusal::OutOfMemory),
+        Fetched::None => Err(Refusal::CannotLoad),
+        Fetched::Missing => Err(Refusal::CannotLoad),
+        Fetched::TooLarge => Err(Refusal::CannotLoad),
     }
 }
 
-fn decide_bytes<A: Allocator + Copy>(
+fn load_bytes<A: Allocator + Copy>(
     game: &mut Game<A>,
-    spare: &mut Game<A>,
     alloc: A,
     bytes: &[u8],
     number: Option<u32>,
-) -> Decision
-    ensures { DecidesBytes game.old.standing bytes.now number
-        (record { decision = result; standing = game.new.standing }) }
+) -> Result<(), Refusal>
+    ensures { (s : Standing) → DecidesBytes s bytes.now number
+        (after_load s game.new.standing result) }
 {
-    match load_on(spare, alloc, bytes, number) {
-        Ok(()) => {
-            mem::swap(game, spare);
-            Decision::Done
-        }
-        Err(LoadError::Cannot) => Decision::Refused(Refusal::CannotLoad),
-        Err(LoadError::Memory) => Decision::Refused(Refusal::OutOfMemory),
+    match load_on(game, alloc, bytes, number) {
+        Ok(()) => Ok(()),
+        Err(LoadError::Cannot) => Err(Refusal::CannotLoad),
+        Err(LoadError::Memory) => Err(Refusal::OutOfMemory),
     }
 }
 
