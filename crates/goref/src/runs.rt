@@ -1,4 +1,4 @@
-ghost use Rattle.std.specs.Prelude.{◌≡◌, ◌≤◌, ◌+◌, ℕ, List, [], ◌∷◌, ◌++◌, Option, IfOk, IfSome, OnOk, IsErrOf, false, true};
+ghost use Rattle.std.specs.Prelude.{◌≡◌, ◌≢◌, ◌≤◌, ◌+◌, ℕ, List, [], ◌∷◌, ◌++◌, Err, Option, IfOk, IfSome, OnOk, IsErrOf, false, true};
 ghost use Rattle.go_board.specs.Device.{failures_after};
 ghost use Rattle.go_game.specs.Standings.{Standing};
 ghost use Rattle.goref_lines.specs.Words.{has_bytes};
@@ -16,6 +16,7 @@ use go_board::{Failed, Sink, Size, Source, WriteFault};
 use goref_lines::Line;
 use goref_session::laws::some_reply;
 use goref_session::{Fetched, Flow, Session, wants};
+use goref_tools::CHUNK;
 use memchr::memchr;
 use std::alloc::Allocator;
 
@@ -24,7 +25,8 @@ pub const READS: u64 = 1 << 40;
 
 /// Reads lines and answers each before the next read, up to `quit` or to the end of the input. A
 /// last line without a line end is answered too. It makes at most [`READS`] reads, and finds an
-/// input endless only after that many reads and as many bytes, where none of them found its end.
+/// input endless only after that many reads and as many bytes, where none of them found its end. No
+/// answer is held back while it reads: [`run_within`] says so, whatever number of reads it ends after.
 pub fn run<A: Allocator + Copy, R: Source, W: Sink, S: Shelf<A>>(
     alloc: A,
     size: Size,
@@ -35,7 +37,7 @@ pub fn run<A: Allocator + Copy, R: Source, W: Sink, S: Shelf<A>>(
     ensures ok { OnOk result (IfSome (R.left reader.old) (λ input.
         Converses (begun size) (lines input)
         (S.given shelf.old) (S.given shelf.new) (W.taken writer.old) (W.taken writer.new))) }
-    ensures held { OnOk result (W.held writer.old ≡ 0 → W.held writer.new ≡ 0) }
+    ensures held { result ≢ Err RunError.Write → W.held writer.old ≡ 0 → W.held writer.new ≡ 0 }
     ensures read { IsErrOf result RunError.Read →
         AnswersComplete (begun size) (R.left reader.old) (R.left reader.new)
         (S.given shelf.old) (S.given shelf.new) (W.taken writer.old) (W.taken writer.new) }
@@ -72,7 +74,7 @@ pub fn run_within<A: Allocator + Copy, R: Source, W: Sink, S: Shelf<A>>(
     ensures ok { OnOk result (IfSome (R.left reader.old) (λ input.
         Converses (begun size) (lines input)
         (S.given shelf.old) (S.given shelf.new) (W.taken writer.old) (W.taken writer.new))) }
-    ensures held { OnOk result (W.held writer.old ≡ 0 → W.held writer.new ≡ 0) }
+    ensures held { result ≢ Err RunError.Write → W.held writer.old ≡ 0 → W.held writer.new ≡ 0 }
     ensures read { IsErrOf result RunError.Read →
         AnswersComplete (begun size) (R.left reader.old) (R.left reader.new)
         (S.given shelf.old) (S.given shelf.new) (W.taken writer.old) (W.taken writer.new) }
@@ -109,7 +111,7 @@ fn run_from<A: Allocator + Copy, R: Source, W: Sink, S: Shelf<A>>(
     ensures ok { OnOk result (IfSome (R.left reader.old) (λ input.
         Converses session.old (lines input)
         (S.given shelf.old) (S.given shelf.new) (W.taken writer.old) (W.taken writer.new))) }
-    ensures held { OnOk result (W.held writer.old ≡ 0 → W.held writer.new ≡ 0) }
+    ensures held { result ≢ Err RunError.Write → W.held writer.old ≡ 0 → W.held writer.new ≡ 0 }
     ensures read { IsErrOf result RunError.Read →
         AnswersComplete session.old (R.left reader.old) (R.left reader.new)
         (S.given shelf.old) (S.given shelf.new) (W.taken writer.old) (W.taken writer.new) }
@@ -132,7 +134,7 @@ fn run_from<A: Allocator + Copy, R: Source, W: Sink, S: Shelf<A>>(
     ensures one_end { R.ends reader.new ≤ R.ends reader.old + 1 }
 {
     let mut line = Line::new();
-    let mut buffer = [0u8; 4096];
+    let mut buffer = [0u8; CHUNK];
     for _ in 0..limit {
         let count = match reader.pull(&mut buffer) {
             Ok(count) => count,

@@ -1,7 +1,7 @@
 //! What is told of the end of a task, and the exit status that follows it.
-ghost use Rattle.std.specs.Prelude.{◌≡◌, ◌⊎◌, Ok, OnOk};
+ghost use Rattle.std.specs.Prelude.{◌≡◌};
 ghost use Rattle.clap.specs.Values.{kind_of};
-ghost use Rattle.goref_program.specs.Status.{end_status, fault_status, words_status};
+ghost use Rattle.goref_program.specs.Status.{IsStatusOfText, end_status, fault_status};
 ghost use Rattle.goref_program.specs.declared.ends.Fault.TheVariants.{Run, Tool};
 
 use goref::{RunError, ToolError};
@@ -56,7 +56,7 @@ impl From<ToolError> for Fault {
 /// Tells of a fault in one line, where there is one, and gives the exit status.
 pub fn tell<E: Write>(end: Result<(), Fault>, errors: &mut E) -> u8
     ensures status { result ≡ end_status end }
-    ensures silent { OnOk end (errors.new ≡ errors.old) }
+    ensures silent { result ≡ 0 → errors.new ≡ errors.old }
 {
     match end {
         Ok(()) => 0,
@@ -70,8 +70,8 @@ pub fn tell<E: Write>(end: Result<(), Fault>, errors: &mut E) -> u8
 /// Tells why no task came of the words, or the help that they asked for, and gives the exit status.
 /// Help that can't be written is a fault, and told so in one line.
 pub fn explain<O: Write, E: Write>(error: &clap::Error, output: &mut O, errors: &mut E) -> u8
-    ensures status { (result ≡ words_status (kind_of error.now))
-        ⊎ ((words_status (kind_of error.now) ≡ 0) × (result ≡ 3)) }
+    ensures status { IsStatusOfText (kind_of error.now) result }
+    ensures silent { result ≡ 0 → errors.new ≡ errors.old }
 {
     if error.use_stderr() {
         let _ = write!(errors, "{error}");

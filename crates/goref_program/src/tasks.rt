@@ -17,7 +17,9 @@ pub fn obey<A: Allocator + Copy, R: Read + Drop, W: Write + Drop, S: Shelf<A>>(
     input: R,
     output: W,
     shelf: &mut S,
-) -> Result<(), Fault> {
+) -> Result<(), Fault>
+    ensures { IfErr result (IsFaultOf task) }
+{
     perform(
         alloc,
         task,

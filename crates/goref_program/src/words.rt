@@ -1,5 +1,8 @@
 //! What the program's words come to: a task that is done, or a text, and an exit status.
-ghost use Rattle.std.specs.Prelude.{◌≡◌};
+ghost use Rattle.std.specs.Prelude.{◌≡◌, ◌⊎◌, IfSome, None, map};
+ghost use Rattle.std.specs.String.{string_bytes};
+ghost use Rattle.goref.specs.CommandLine.{texts_of};
+ghost use Rattle.goref_program.specs.Status.{FollowsWords};
 
 use crate::ends::{REFUSED, explain, tell};
 use crate::tasks::obey;
@@ -16,7 +19,11 @@ pub fn answer_words<R: Read + Drop, W: Write + Drop, E: Write, S: Shelf<Global>>
     output: W,
     errors: &mut E,
     shelf: &mut S,
-) -> u8 {
+) -> u8
+    ensures unreadable { words ≡ None → result ≡ 2 }
+    ensures silent { result ≡ 0 → errors.new ≡ errors.old }
+    ensures words { IfSome words (λ list. (result ≡ 2) ⊎ FollowsWords (map string_bytes list.items) result) }
+{
     let Some(words) = words else {
         return unreadable(errors);
     };
@@ -41,7 +48,10 @@ fn obey_words<R: Read + Drop, W: Write + Drop, E: Write, S: Shelf<Global>>(
     mut output: W,
     errors: &mut E,
     shelf: &mut S,
-) -> u8 {
+) -> u8
+    ensures status { FollowsWords (texts_of words.now.items) result }
+    ensures silent { result ≡ 0 → errors.new ≡ errors.old }
+{
     match task_of(alloc, words.as_slice()) {
         Ok(task) => tell(obey(alloc, task, input, output, shelf), errors),
         Err(error) => explain(&error, &mut output, errors),

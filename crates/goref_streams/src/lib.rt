@@ -12,9 +12,11 @@ use go_board::{Failed, Meter, Sink, Source};
 use std::io::{self, ErrorKind, Read, Write};
 use std::marker::Model;
 
+pub mod laws;
+
 /// The most bytes that an output keeps back: no diagram of a board and no list of its chains has
 /// more.
-const KEPT: usize = 16_384;
+pub const KEPT: usize = 16_384;
 
 /// A stream that is read, as a device that doesn't tell its bytes.
 #[derive(Drop)]

@@ -7,6 +7,9 @@ use go_board::{Failed, Source};
 use go_sgf::MAX_RECORD;
 use std::alloc::Allocator;
 
+/// The most bytes of one read of an input.
+pub const CHUNK: usize = 4_096;
+
 /// All bytes that a device gives up to its end; of more than a record may have, the first ones,
 /// one more than that.
 ///
@@ -27,7 +30,7 @@ pub fn read_input<A: Allocator + Copy, R: Source>(
     ensures one_end { R.ends reader.new ≤ R.ends reader.old + 1 }
 {
     let mut bytes = Vec::new(alloc);
-    let mut buffer = [0u8; 4096];
+    let mut buffer = [0u8; CHUNK];
     while bytes.len() <= MAX_RECORD {
         let room = (MAX_RECORD + 1 - bytes.len()).min(buffer.len());
         let count = match reader.pull(buffer.split_at_mut(room).0) {

@@ -11,6 +11,6 @@ mod tidy;
 mod verdict_lines;
 
 pub use error::ToolError;
-pub use input::read_input;
+pub use input::{CHUNK, read_input};
 pub use judge::judge_run;
 pub use tidy::tidy_run;
