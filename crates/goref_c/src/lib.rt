@@ -5,9 +5,9 @@
 //! isn't 0, the text is the reason.
 #![tactic(auto)]
 
-ghost use Rattle.std.specs.Prelude.{◌≡◌, ◌≢◌, ◌⊎◌, ◌<◌};
+ghost use Rattle.std.specs.Prelude.{◌≡◌, ◌≢◌, ◌⊎◌, ◌<◌, ◌↔◌, []};
 ghost use Rattle.go_board.specs.declared.size.TheConstants.{MAX_LINES};
-ghost use Rattle.goref_c.specs.Ends.{ShowsAnswers, ShowsGameRefusal, ShowsNoMemory, ShowsRefusal, ShowsTidied, ShowsVerdict};
+ghost use Rattle.goref_c.specs.Ends.{IsText, ShowsAnswers, ShowsGameRefusal, ShowsNoMemory, ShowsRefusal, ShowsTidied, ShowsVerdict};
 
 mod devices;
 mod files;
@@ -28,7 +28,8 @@ pub extern "C" fn goref_answers(
     length: &mut usize,
 ) -> u8
     ensures done { result ≡ 0 → ShowsAnswers lines text.now room.old room.new length.new }
-    ensures size { result ≡ 2 → (lines ≡ 0) ⊎ (MAX_LINES < lines) }
+    ensures size { (result ≡ 2) ↔ ((lines ≡ 0) ⊎ (MAX_LINES < lines)) }
+    ensures no_text { result ≡ 2 → IsText [] room.old room.new length.new }
     ensures fault { result ≢ 0 → result ≢ 2
         → (result ≡ 3) × ShowsNoMemory room.old room.new length.new }
 {

@@ -1,6 +1,6 @@
-ghost use Rattle.std.specs.Prelude.{◌≡◌, ◌≢◌, ◌⊎◌, ◌<◌};
+ghost use Rattle.std.specs.Prelude.{◌≡◌, ◌≢◌, ◌⊎◌, ◌<◌, ◌↔◌, []};
 ghost use Rattle.go_board.specs.declared.size.TheConstants.{MAX_LINES};
-ghost use Rattle.goref_c.specs.Ends.{ShowsAnswers, ShowsNoMemory};
+ghost use Rattle.goref_c.specs.Ends.{IsText, ShowsAnswers, ShowsNoMemory};
 
 use crate::devices::{TextReader, TextWriter};
 use crate::files::NoFiles;
@@ -18,7 +18,8 @@ pub(crate) fn answers<A: Allocator + Copy>(
     length: &mut usize,
 ) -> u8
     ensures done { result ≡ 0 → ShowsAnswers lines text.now room.old room.new length.new }
-    ensures size { result ≡ 2 → (lines ≡ 0) ⊎ (MAX_LINES < lines) }
+    ensures size { (result ≡ 2) ↔ ((lines ≡ 0) ⊎ (MAX_LINES < lines)) }
+    ensures no_text { result ≡ 2 → IsText [] room.old room.new length.new }
     ensures fault { result ≢ 0 → result ≢ 2
         → (result ≡ 3) × ShowsNoMemory room.old room.new length.new }
 {

@@ -68,7 +68,7 @@ fn records_are_tidied(rt: HostRuntime) -> Result<(), Fail> {
     for (number, (source, size, (status, whole, text))) in TIDIED.iter().enumerate() {
         let mut room = Vec::new(rt.alloc());
         room.resize(*size, 0)?;
-        let mut length = 0;
+        let mut length = 7;
         let end = goref_tidy(rt.alloc(), source, room.as_mut_slice(), &mut length);
         assert!(rt; end == *status && length == *whole, "row {number}");
         assert!(rt; room.as_slice().starts_with(text), "row {number}");
@@ -81,7 +81,7 @@ fn records_are_judged(rt: HostRuntime) -> Result<(), Fail> {
     for (number, (source, size, (status, whole, text))) in JUDGED.iter().enumerate() {
         let mut room = Vec::new(rt.alloc());
         room.resize(*size, 0)?;
-        let mut length = 0;
+        let mut length = 7;
         let end = goref_judge(rt.alloc(), source, room.as_mut_slice(), &mut length);
         assert!(rt; end == *status && length == *whole, "row {number}");
         assert!(rt; room.as_slice().starts_with(text), "row {number}");
@@ -94,7 +94,7 @@ fn lines_are_answered(rt: HostRuntime) -> Result<(), Fail> {
     for (number, (lines, input, size, (status, whole, text))) in ANSWERED.iter().enumerate() {
         let mut room = Vec::new(rt.alloc());
         room.resize(*size, 0)?;
-        let mut length = 0;
+        let mut length = 7;
         let end = goref_answers(rt.alloc(), *lines, input, room.as_mut_slice(), &mut length);
         assert!(rt; end == *status && length == *whole, "row {number}");
         assert!(rt; room.as_slice().starts_with(text), "row {number}");
