@@ -48,6 +48,16 @@ end = os.times()
 taken = end.children_user + end.children_system - start.children_user - start.children_system
 print(f"goref gtp, loadsgf of each {1e6 * taken / len(records):8.2f} us a record")
 
+# A session of plays and undos, as one text.
+session = b"play b q16\nundo\n" * 50_000
+taken = least(lambda: goref.answers(session)) * len(records)
+print(f"goref.answers {taken / 100_000:8.2f} us a line")
+start = os.times()
+subprocess.run([os.path.join(top, "goref"), "gtp"], input=session, stdout=subprocess.DEVNULL, check=True)
+end = os.times()
+taken = end.children_user + end.children_system - start.children_user - start.children_system
+print(f"goref gtp, the same {1e6 * taken / 100_000:8.2f} us a line")
+
 few = records[:200]
 start = time.perf_counter()
 for record in few:
