@@ -193,8 +193,8 @@ impl<A: Allocator + Copy> Game<A> {
         self.resize(self.size());
     }
 
-    /// An empty board of this size, Black to move. The komi and the superko rule stay. What it costs
-    /// doesn't depend on the moves that were played, and it gives back the memory for them.
+    /// An empty board of this size, Black to move. The komi and the superko rule stay. The memory for
+    /// the moves is given back at once, list by list, and none of them is looked at.
     pub fn resize(&mut self, size: Size)
         ensures start { self.new.standing ≡ empty_start size self.old.standing.komi
             self.old.standing.rule }

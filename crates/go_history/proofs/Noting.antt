@@ -1,9 +1,9 @@
 -- What is noted of the keys, by their own test, and once a number that was written over is put back.
+use Rattle.std.specs.declared.result.Result.{Result}
 use Rattle.std.specs.Map.{lookup}
 use Rattle.std.proofs.lemmas.Bool.{and_parts}
 use Rattle.std.specs.Option.{option_eq, option_or}
-use Rattle.std.specs.Ordering.{is_eq}
-use Rattle.std.proofs.Common.{◌≡◌, nat_eq, ◌&&◌, ◌∙◌, ℕ, Bool, true, false, cond, List, [], ◌∷◌, ◌++◌, Option, Some, None, arith, length, ap, ap₂, refl, sym}
+use Rattle.std.proofs.Common.{◌≡◌, nat_eq, ◌&&◌, ◌∙◌, ℕ, Bool, true, false, cond, List, [], ◌∷◌, ◌++◌, Option, Some, None, Ok, Err, IfOk, arith, ap, ap₂, refl, sym}
 use Rattle.std.proofs.lemmas.Bool.Decides.{nat_tests}
 use Rattle.std.proofs.lemmas.Slice.Eq.{bytes_eq-Decides}
 use Rattle.go_board.specs.declared.colour.Colour.{Colour}
@@ -13,9 +13,8 @@ use Rattle.go_history.specs.declared.key.Key.{Key}
 use Rattle.go_history.specs.Keys.{key_eq}
 use Rattle.go_history.specs.Histories.{HistoryValue, later_at, number_at, without}
 use Rattle.go_history.specs.declared.ranked.Ranked.{Ranked}
-use Rattle.go_history.specs.inner.Ranks.{further_at, ranked, ranked_eq, unranked}
-use Rattle.go_history.specs.contracts.ranked.RankedOrd.TheImpl.{cmp-value}
-use Rattle.go_history.specs.contracts.ranked.RankedOrd.TheImpl.Laws.{matches_eq-law}
+use Rattle.go_history.specs.inner.Trees.{ranked, ranked_eq}
+use Rattle.go_history.specs.contracts.ranked.RankedPartialEq.TheImpl as by_rank
 use Rattle.go_history.specs.contracts.key.KeyPartialEq.TheImpl.{eq-value}
 use Rattle.go_board.specs.PackBytes.{bytes_of, packed_eq}
 
@@ -57,7 +56,7 @@ same_mover (Some Black) (Some White) e = cc
 same_mover (Some White) (Some Black) e = cc
 
 -- keys that are alike are the same
-same_key : (p q : Key) → key_eq p q ≡ true → p ≡ q
+pub same_key : (p q : Key) → key_eq p q ≡ true → p ≡ q
 same_key p q e =
     let parts = and_parts (packed_eq p.pack q.pack) (is_same p.mover q.mover) e in
     ap₂ (λ (bytes : List ℕ) (mover : Option Colour). let key : Key = record { pack = record { bytes = bytes }; mover = mover } in key)
@@ -105,7 +104,7 @@ pub past_start : (h : HistoryValue) (key : Key) (o : Option ℕ) → eq-value.it
 past_start h key o e is = is ∙ sym (ap (λ b. cond b (Some 0) (later_at h key)) (sym (key_is h.start key) ∙ e))
 
 -- a look-up in both parts
-lookup-append : {K X : Type 0} (test : K → Bool) (front back : List (K × X)) → lookup test (front ++ back) ≡ option_or (lookup test front) (lookup test back)
+pub lookup-append : {K X : Type 0} (test : K → Bool) (front back : List (K × X)) → lookup test (front ++ back) ≡ option_or (lookup test front) (lookup test back)
 lookup-append test [] back = refl
 lookup-append test (e ∷ front) back = here (test e.0) (lookup-append test front back)
   where
@@ -113,121 +112,86 @@ lookup-append test (e ∷ front) back = here (test e.0) (lookup-append test fron
     here true rest = refl
     here false rest = rest
 
-lookup-unranked : (k : Key) (further : List (Ranked × ℕ)) → lookup (key_eq k) (unranked further) ≡ further_at further k
-lookup-unranked k [] = refl
-lookup-unranked k (e ∷ further) = here (nat_eq (ranked e.0.key).rank e.0.rank) (nat_eq (ranked k).rank e.0.rank) (key_eq k e.0.key) refl refl refl (lookup-unranked k further)
-  where
-    here : (own asked same : Bool) → nat_eq (ranked e.0.key).rank e.0.rank ≡ own → nat_eq (ranked k).rank e.0.rank ≡ asked → key_eq k e.0.key ≡ same → lookup (key_eq k) (unranked further) ≡ further_at further k
-        → lookup (key_eq k) (cond own ((e.0.key, e.1) ∷ unranked further) (unranked further)) ≡ cond (asked && same) (Some e.1) (further_at further k)
-    here true true true o a s rest = ap (λ b. cond b (Some e.1) (lookup (key_eq k) (unranked further))) s
-    here true true false o a s rest = ap (λ b. cond b (Some e.1) (lookup (key_eq k) (unranked further))) s ∙ rest
-    here true false true o a s rest = absurd (let bad = sym o ∙ sym (ap (λ key. nat_eq (ranked key).rank e.0.rank) (same_key k e.0.key s)) ∙ a in cc)
-    here true false false o a s rest = ap (λ b. cond b (Some e.1) (lookup (key_eq k) (unranked further))) s ∙ rest
-    here false true true o a s rest = absurd (let bad = sym o ∙ sym (ap (λ key. nat_eq (ranked key).rank e.0.rank) (same_key k e.0.key s)) ∙ a in cc)
-    here false true false o a s rest = rest
-    here false false true o a s rest = rest
-    here false false false o a s rest = rest
-
 -- the test of ranked keys, and that of keys by it
-ranked_is : (a b : Ranked) → is_eq (cmp-value.it a b) ≡ ranked_eq a b
-ranked_is a b = sym (matches_eq-law a b) ∙ ap (λ same. nat_eq a.rank b.rank && same) (key_is a.key b.key)
+pub ranked_is : (a b : Ranked) → by_rank.eq-value.it a b ≡ ranked_eq a b
+ranked_is a b = ap (λ same. nat_eq a.rank b.rank && same) (key_is a.key b.key)
 
 and_false : (b : Bool) → (b && false) ≡ false
 and_false true = refl
 and_false false = refl
 
-same_number : (n : ℕ) → nat_eq n n ≡ true
+pub same_number : (n : ℕ) → nat_eq n n ≡ true
 same_number n = grind (arith, nat_tests)
 
-ranked_alike : (p q : Key) → ranked_eq (ranked p) (ranked q) ≡ key_eq p q
+pub ranked_alike : (p q : Key) → ranked_eq (ranked p) (ranked q) ≡ key_eq p q
 ranked_alike p q = here (key_eq p q) refl
   where
     here : (b : Bool) → key_eq p q ≡ b → (nat_eq (ranked p).rank (ranked q).rank && b) ≡ b
     here true e = ap (λ k. nat_eq (ranked p).rank (ranked k).rank && true) (sym (same_key p q e)) ∙ ap (λ b. b && true) (same_number (ranked p).rank)
     here false e = and_false (nat_eq (ranked p).rank (ranked q).rank)
 
-further_is : (further : List (Ranked × ℕ)) (k : Key) → lookup (λ r. is_eq (cmp-value.it (ranked k) r)) further ≡ further_at further k
-further_is further k = lookup_alike (λ r. is_eq (cmp-value.it (ranked k) r)) (ranked_eq (ranked k)) (ranked_is (ranked k)) further
-
-further_changed : (old new : List (Ranked × ℕ)) (p : Key) (w : Option ℕ)
-    → ((r : Ranked) → lookup (λ s. is_eq (cmp-value.it r s)) new ≡ cond (is_eq (cmp-value.it (ranked p) r)) w (lookup (λ s. is_eq (cmp-value.it r s)) old))
-    → (q : Key) → further_at new q ≡ cond (key_eq p q) w (further_at old q)
-further_changed old new p w updates q =
-    sym (further_is new q) ∙ updates (ranked q) ∙ ap₂ (λ b o. cond b w o) (ranked_is (ranked p) (ranked q) ∙ ranked_alike p q) (further_is old q)
-
-pub in_parts : (first : List (Key × ℕ)) (further : List (Ranked × ℕ)) (k : Key) → lookup (key_eq k) (first ++ unranked further) ≡ option_or (lookup (key_eq k) first) (further_at further k)
-in_parts first further k = lookup-append (key_eq k) first (unranked further) ∙ ap (option_or (lookup (key_eq k) first)) (lookup-unranked k further)
+pub in_parts : (first further : List (Key × ℕ)) (k : Key) → lookup (key_eq k) (first ++ further) ≡ option_or (lookup (key_eq k) first) (lookup (key_eq k) further)
+in_parts first further k = lookup-append (key_eq k) first further
 
 -- a key that the first part has, that neither has, and what the second has where the first has none
-pub in_first : (first : List (Key × ℕ)) (further : List (Ranked × ℕ)) (k : Key) (n : ℕ) → Some n ≡ lookup (key_eq k) first → Some n ≡ lookup (key_eq k) (first ++ unranked further)
-in_first first further k n is = ap (λ o. option_or o (further_at further k)) is ∙ sym (in_parts first further k)
+pub in_first : (first further : List (Key × ℕ)) (k : Key) (n : ℕ) → Some n ≡ lookup (key_eq k) first → Some n ≡ lookup (key_eq k) (first ++ further)
+in_first first further k n is = ap (λ o. option_or o (lookup (key_eq k) further)) is ∙ sym (in_parts first further k)
 
-pub in_further : (first : List (Key × ℕ)) (further : List (Ranked × ℕ)) (k : Key) → lookup (key_eq k) first ≡ None → lookup (λ r. is_eq (cmp-value.it (ranked k) r)) further ≡ lookup (key_eq k) (first ++ unranked further)
-in_further first further k none = further_is further k ∙ ap (λ o. option_or o (further_at further k)) (sym none) ∙ sym (in_parts first further k)
+pub in_further : (first further : List (Key × ℕ)) (k : Key) → lookup (key_eq k) first ≡ None → lookup (key_eq k) further ≡ lookup (key_eq k) (first ++ further)
+in_further first further k none = ap (λ o. option_or o (lookup (key_eq k) further)) (sym none) ∙ sym (in_parts first further k)
 
-pub in_first_alone : (first : List (Key × ℕ)) (further : List (Ranked × ℕ)) (k : Key) → length further ≡ 0 → lookup (key_eq k) (first ++ unranked further) ≡ lookup (key_eq k) first
-in_first_alone first [] k empty = in_parts first [] k ∙ or_none (lookup (key_eq k) first)
+pub in_first_alone : (first further : List (Key × ℕ)) (k : Key) → further ≡ [] → lookup (key_eq k) (first ++ further) ≡ lookup (key_eq k) first
+in_first_alone first further k empty = in_parts first further k ∙ ap (λ (es : List (Key × ℕ)). option_or (lookup (key_eq k) first) (lookup (key_eq k) es)) empty ∙ or_none (lookup (key_eq k) first)
   where
     or_none : (o : Option ℕ) → option_or o None ≡ o
     or_none None = refl
     or_none (Some n) = refl
-in_first_alone first (e ∷ further) k empty = absurd (omega (arith, empty))
-
--- where neither has anything, the first hasn't
-pub first_lacks : (first : List (Key × ℕ)) (further : List (Ranked × ℕ)) (k : Key) → lookup (key_eq k) (first ++ unranked further) ≡ None → lookup (key_eq k) first ≡ None
-first_lacks first further k none = here (lookup (key_eq k) first) refl (sym (in_parts first further k) ∙ none)
-  where
-    here : (o : Option ℕ) → lookup (key_eq k) first ≡ o → option_or o (further_at further k) ≡ None → o ≡ None
-    here None is or = refl
-    here (Some n) is or = or
 
 -- a key noted in the first part, or in the second, or taken out of both
-pub noted_first : (old new : List (Key × ℕ)) (further : List (Ranked × ℕ)) (p : Key) (n : ℕ) → ((q : Key) → lookup (key_eq q) new ≡ cond (key_eq p q) (Some n) (lookup (key_eq q) old))
-    → (q : Key) → lookup (key_eq q) (new ++ unranked further) ≡ cond (key_eq p q) (Some n) (lookup (key_eq q) (old ++ unranked further))
-noted_first old new further p n updates q = in_parts new further q ∙ ap (λ o. option_or o (further_at further q)) (updates q) ∙ here (key_eq p q) ∙ ap (cond (key_eq p q) (Some n)) (sym (in_parts old further q))
+pub noted_first : (old new further : List (Key × ℕ)) (p : Key) (n : ℕ) → ((q : Key) → lookup (key_eq q) new ≡ cond (key_eq p q) (Some n) (lookup (key_eq q) old))
+    → (q : Key) → lookup (key_eq q) (new ++ further) ≡ cond (key_eq p q) (Some n) (lookup (key_eq q) (old ++ further))
+noted_first old new further p n updates q = in_parts new further q ∙ ap (λ o. option_or o (lookup (key_eq q) further)) (updates q) ∙ here (key_eq p q) ∙ ap (cond (key_eq p q) (Some n)) (sym (in_parts old further q))
   where
-    here : (b : Bool) → option_or (cond b (Some n) (lookup (key_eq q) old)) (further_at further q) ≡ cond b (Some n) (option_or (lookup (key_eq q) old) (further_at further q))
+    here : (b : Bool) → option_or (cond b (Some n) (lookup (key_eq q) old)) (lookup (key_eq q) further) ≡ cond b (Some n) (option_or (lookup (key_eq q) old) (lookup (key_eq q) further))
     here true = refl
     here false = refl
 
-pub kept_first : (old new : List (Key × ℕ)) (further : List (Ranked × ℕ)) → ((q : Key) → lookup (key_eq q) new ≡ lookup (key_eq q) old)
-    → (q : Key) → lookup (key_eq q) (new ++ unranked further) ≡ lookup (key_eq q) (old ++ unranked further)
-kept_first old new further same q = in_parts new further q ∙ ap (λ o. option_or o (further_at further q)) (same q) ∙ sym (in_parts old further q)
+pub kept_first : (old new further : List (Key × ℕ)) → ((q : Key) → lookup (key_eq q) new ≡ lookup (key_eq q) old)
+    → (q : Key) → lookup (key_eq q) (new ++ further) ≡ lookup (key_eq q) (old ++ further)
+kept_first old new further same q = in_parts new further q ∙ ap (λ o. option_or o (lookup (key_eq q) further)) (same q) ∙ sym (in_parts old further q)
 
-pub noted_further : (first : List (Key × ℕ)) (old new : List (Ranked × ℕ)) (p : Key) (n : ℕ) → lookup (key_eq p) first ≡ None
-    → ((r : Ranked) → lookup (λ s. is_eq (cmp-value.it r s)) new ≡ cond (is_eq (cmp-value.it (ranked p) r)) (Some n) (lookup (λ s. is_eq (cmp-value.it r s)) old))
-    → (q : Key) → lookup (key_eq q) (first ++ unranked new) ≡ cond (key_eq p q) (Some n) (lookup (key_eq q) (first ++ unranked old))
+pub noted_further : (first old new : List (Key × ℕ)) (p : Key) (n : ℕ) → lookup (key_eq p) first ≡ None
+    → ((q : Key) → lookup (key_eq q) new ≡ cond (key_eq p q) (Some n) (lookup (key_eq q) old))
+    → (q : Key) → lookup (key_eq q) (first ++ new) ≡ cond (key_eq p q) (Some n) (lookup (key_eq q) (first ++ old))
 noted_further first old new p n lacks updates q =
-    in_parts first new q ∙ ap (option_or (lookup (key_eq q) first)) (further_changed old new p (Some n) updates q) ∙ here (key_eq p q) refl ∙ ap (cond (key_eq p q) (Some n)) (sym (in_parts first old q))
+    in_parts first new q ∙ ap (option_or (lookup (key_eq q) first)) (updates q) ∙ here (key_eq p q) refl ∙ ap (cond (key_eq p q) (Some n)) (sym (in_parts first old q))
   where
-    here : (b : Bool) → key_eq p q ≡ b → option_or (lookup (key_eq q) first) (cond b (Some n) (further_at old q)) ≡ cond b (Some n) (option_or (lookup (key_eq q) first) (further_at old q))
+    here : (b : Bool) → key_eq p q ≡ b → option_or (lookup (key_eq q) first) (cond b (Some n) (lookup (key_eq q) old)) ≡ cond b (Some n) (option_or (lookup (key_eq q) first) (lookup (key_eq q) old))
     here true e = ap (λ o. option_or o (Some n)) (ap (λ k. lookup (key_eq k) first) (sym (same_key p q e)) ∙ lacks)
     here false e = refl
 
-pub forgotten : (first first' : List (Key × ℕ)) (further further' : List (Ranked × ℕ)) (p : Key) → ((q : Key) → lookup (key_eq q) first' ≡ cond (key_eq p q) None (lookup (key_eq q) first))
-    → ((q : Key) → further_at further' q ≡ cond (key_eq p q) None (further_at further q))
-    → (q : Key) → lookup (key_eq q) (first' ++ unranked further') ≡ cond (key_eq p q) None (lookup (key_eq q) (first ++ unranked further))
+pub forgotten : (first first' further further' : List (Key × ℕ)) (p : Key) → ((q : Key) → lookup (key_eq q) first' ≡ cond (key_eq p q) None (lookup (key_eq q) first))
+    → ((q : Key) → lookup (key_eq q) further' ≡ cond (key_eq p q) None (lookup (key_eq q) further))
+    → (q : Key) → lookup (key_eq q) (first' ++ further') ≡ cond (key_eq p q) None (lookup (key_eq q) (first ++ further))
 forgotten first first' further further' p less less' q =
     in_parts first' further' q ∙ ap₂ option_or (less q) (less' q) ∙ here (key_eq p q) ∙ ap (cond (key_eq p q) None) (sym (in_parts first further q))
   where
-    here : (b : Bool) → option_or (cond b None (lookup (key_eq q) first)) (cond b None (further_at further q)) ≡ cond b None (option_or (lookup (key_eq q) first) (further_at further q))
+    here : (b : Bool) → option_or (cond b None (lookup (key_eq q) first)) (cond b None (lookup (key_eq q) further)) ≡ cond b None (option_or (lookup (key_eq q) first) (lookup (key_eq q) further))
     here true = refl
     here false = refl
 
--- the second part without a key, and where it is empty
-pub less_further : (old new : List (Ranked × ℕ)) (p : Key)
-    → ((r : Ranked) → lookup (λ s. is_eq (cmp-value.it r s)) new ≡ cond (is_eq (cmp-value.it (ranked p) r)) None (lookup (λ s. is_eq (cmp-value.it r s)) old))
-    → (q : Key) → further_at new q ≡ cond (key_eq p q) None (further_at old q)
-less_further old new p updates q = further_changed old new p None updates q
-
-pub none_further : (further : List (Ranked × ℕ)) (p : Key) → length further ≡ 0 → (q : Key) → further_at further q ≡ cond (key_eq p q) None (further_at further q)
-none_further [] p empty q = here (key_eq p q)
+pub none_further : (further : List (Key × ℕ)) (p : Key) → further ≡ [] → (q : Key) → lookup (key_eq q) further ≡ cond (key_eq p q) None (lookup (key_eq q) further)
+none_further further p empty q = ap (λ (es : List (Key × ℕ)). lookup (key_eq q) es) empty ∙ here (key_eq p q) ∙ sym (ap (λ (es : List (Key × ℕ)). cond (key_eq p q) None (lookup (key_eq q) es)) empty)
   where
     here : (b : Bool) → let none : Option ℕ = None in none ≡ cond b none none
     here true = refl
     here false = refl
-none_further (e ∷ further) p empty q = absurd (omega (arith, empty))
 
 -- nothing in either part
-pub nothing : (first : List (Key × ℕ)) (further : List (Ranked × ℕ)) → first ≡ [] → further ≡ [] → (q : Key) → lookup (key_eq q) (first ++ unranked further) ≡ None
-nothing first further e e' q = ap₂ (λ (xs : List (Key × ℕ)) (rs : List (Ranked × ℕ)). lookup (key_eq q) (xs ++ unranked rs)) e e'
+pub nothing : (first further : List (Key × ℕ)) → first ≡ [] → further ≡ [] → (q : Key) → lookup (key_eq q) (first ++ further) ≡ None
+nothing first further e e' q = ap₂ (λ (xs rs : List (Key × ℕ)). lookup (key_eq q) (xs ++ rs)) e e'
+
+-- what holds of a value that is there
+pub if_ok : {A E : Type 0} (P Q : A → Type 0) → ((x : A) → P x → Q x) → (r : Result A E) → IfOk r P → IfOk r Q
+if_ok P Q f (Ok x) p = f x p
+if_ok P Q f (Err e) p = p

@@ -1,2 +1,2 @@
 -- Words of what a history keeps. No public contract cites them.
-pub mod Ranks
+pub mod Trees

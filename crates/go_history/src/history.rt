@@ -5,9 +5,9 @@ ghost use Rattle.go_history.specs.declared.key.Key.{Key};
 ghost use Rattle.go_history.specs.Histories.{IsBegun, IsChangedAt, IsForgotten, IsUnchanged, later_at, number_at};
 
 use crate::Key;
-use crate::ranked::Ranked;
+use crate::key_tree::KeyTree;
 use std::alloc::{AllocError, Allocator};
-use std::collections::{BTreeMap, HashMap};
+use std::collections::HashMap;
 use std::hash::{BuildHasherDefault, FoldHasher};
 use std::marker::Model;
 
@@ -27,22 +27,21 @@ pub struct History<A: Allocator + Copy> {
     start: Key,
     /// After how many moves each other key stood first, of the first so many.
     first: HashMap<Key, usize, BuildHasherDefault<FoldHasher>, A>,
-    /// The same of the keys that were noted behind them, in order, so that no choice of moves makes
+    /// The same of the keys that were noted behind them, in a tree, so that no choice of moves makes
     /// a look-up long.
-    further: BTreeMap<Ranked, usize, A>,
+    further: KeyTree<A>,
     alloc: A,
 }
 
 impl<A: Allocator + Copy> Model for History<A> {
     ghost use Rattle.go_history.specs.Histories.{HistoryValue};
     ghost use Rattle.std.specs.Prelude.{◌++◌};
-    ghost use Rattle.go_history.specs.inner.Ranks.{unranked};
 
     ghost Value = { HistoryValue };
 
     ghost view = { λ h. record {
       start = h.start;
-      later = h.first.entries ++ unranked h.further.entries;
+      later = h.first.entries ++ h.further;
     } };
 }
 
@@ -54,7 +53,7 @@ impl<A: Allocator + Copy> History<A> {
         History {
             start,
             first: HashMap::new(alloc),
-            further: BTreeMap::new(alloc),
+            further: KeyTree::new(alloc),
             alloc,
         }
     }
@@ -79,7 +78,7 @@ impl<A: Allocator + Copy> History<A> {
         if self.further.is_empty() {
             return None;
         }
-        self.further.get(&Ranked::new(key)).copied()
+        self.further.get(key)
     }
 
     /// After how many moves what has this key stood first; or none where it didn't stand, and then
@@ -96,11 +95,10 @@ impl<A: Allocator + Copy> History<A> {
         if self.further.is_empty() && self.first.len() < FIRST_KEYS {
             return note_first(&mut self.first, key, number);
         }
-        if let Some(known) = self.look_up_later(key) {
+        if let Some(known) = self.first.get(key).copied() {
             return Ok(Some(known));
         }
-        self.further.insert(Ranked::new(key), number)?;
-        Ok(None)
+        self.further.note(key, number)
     }
 
     /// Takes out what was noted of a key. It takes no memory.
@@ -109,7 +107,7 @@ impl<A: Allocator + Copy> History<A> {
     {
         self.first.remove(key);
         if !self.further.is_empty() {
-            self.further.remove(&Ranked::new(key));
+            self.further.remove(key);
         }
     }
 
@@ -123,13 +121,13 @@ impl<A: Allocator + Copy> History<A> {
         }
     }
 
-    /// Begins anew. It takes no memory, and gives back that of a long game, so that what it costs
-    /// doesn't depend on how many keys were noted.
+    /// Begins anew. It takes no memory, and gives back that of a long game at once, list by list: no
+    /// key of it is looked at.
     pub fn restart(&mut self, start: Key)
         ensures { IsBegun self.new start }
     {
         self.start = start;
-        self.further = BTreeMap::new(self.alloc);
+        self.further = KeyTree::new(self.alloc);
         if self.first.capacity() > KEPT_KEYS {
             self.first = HashMap::new(self.alloc);
         } else {

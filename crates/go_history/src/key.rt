@@ -3,7 +3,7 @@ use std::hash::{Hash, Hasher};
 
 /// What a history tells apart: a colouring, by its pack, and the colour that is to move where a
 /// rule asks for it.
-#[derive(Clone, Copy, PartialEq, Eq, PartialOrd, Ord)]
+#[derive(Clone, Copy, PartialEq, Eq)]
 pub struct Key {
     pub pack: Packed,
     pub mover: Option<Colour>,

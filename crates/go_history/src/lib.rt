@@ -17,6 +17,7 @@
 
 mod history;
 mod key;
+mod key_tree;
 mod ranked;
 
 pub use history::History;

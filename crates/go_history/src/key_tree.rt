@@ -1,0 +1,204 @@
+ghost use Rattle.std.specs.Prelude.{◌≡◌, ◌≢◌, ◌<◌, ◌-◌, ◌++◌, ◌∷◌, [], ℕ, cond, IfNone, IfOk, IfSome, None, Ok, OnErr, OnOk, Some, length, slice_index, take};
+ghost use Rattle.std.specs.Map.{lookup};
+ghost use Rattle.go_history.specs.Keys.{key_eq};
+ghost use Rattle.go_history.specs.declared.key.Key.{Key};
+ghost use Rattle.go_history.specs.inner.Trees.{IsLinkTo, IsOwn, IsTree, StandsAt, StandsNowhere};
+
+use crate::Key;
+use crate::ranked::{Ranked, WAYS};
+use std::alloc::{AllocError, Allocator};
+use std::marker::Model;
+
+/// A key, and the number that it was noted with, or none once it was taken out.
+#[derive(Clone, Copy)]
+pub struct Entry {
+    pub ranked: Ranked,
+    pub number: Option<usize>,
+}
+
+/// Where a key stands in a tree, or is to stand.
+#[derive(Clone, Copy)]
+struct Place {
+    /// The number of its entry, if it has one.
+    entry: Option<usize>,
+    /// The link that leads there, or is to lead there. None leads to the first entry.
+    link: Option<usize>,
+}
+
+/// Keys with their numbers, each where the digits of its hash lead to from the first. So none is
+/// deeper than a hash has digits, but for keys with one hash, which stand one behind the other. All
+/// lie in two lists, which are given back at once.
+#[derive(Drop)]
+pub struct KeyTree<A: Allocator + Copy> {
+    /// In the order in which they were noted.
+    entries: Vec<Entry, A>,
+    /// To which entry each way from each entry leads. One that isn't behind it is none.
+    links: Vec<usize, A>,
+}
+
+impl<A: Allocator + Copy> Model for KeyTree<A> {
+    ghost use Rattle.std.specs.Prelude.{ℕ, List};
+    ghost use Rattle.go_history.specs.declared.key.Key.{Key};
+    ghost use Rattle.go_history.specs.inner.Trees.{IsTree, noted};
+
+    ghost Value = { List (Key × ℕ) };
+
+    ghost view = { λ t. noted t.entries.items };
+
+    ghost invariant = { λ t. IsTree t.entries.items t.links.items };
+}
+
+impl<A: Allocator + Copy> KeyTree<A> {
+    ghost use Rattle.std.specs.Prelude.{IsTrue};
+
+    /// A tree without keys. It takes no memory.
+    pub fn new(alloc: A) -> KeyTree<A>
+        ensures { result ≡ [] }
+    {
+        KeyTree {
+            entries: Vec::new(alloc),
+            links: Vec::new(alloc),
+        }
+    }
+
+    /// Whether no key was noted, but for those that were taken out in the opposite order.
+    pub fn is_empty(&self) -> bool
+        ensures { IsTrue result → self.now ≡ [] }
+    {
+        self.entries.is_empty()
+    }
+
+    /// The number of a key, or none where it has none.
+    pub fn get(&self, key: &Key) -> Option<usize>
+        ensures { result ≡ lookup (key_eq key.now) self.now }
+    {
+        match find(&self.entries, &self.links, &Ranked::new(key)).entry {
+            Some(at) => self.entries[at].number,
+            None => None,
+        }
+    }
+
+    /// The number of a key, or none where it has none, and then it is noted with this one.
+    pub fn note(&mut self, key: &Key, number: usize) -> Result<Option<usize>, AllocError>
+        ensures known { IfOk result (λ known. known ≡ lookup (key_eq key.now) self.old) }
+        ensures noted { result ≡ Ok None → (q : Key) → lookup (key_eq q) self.new
+            ≡ cond (key_eq key.now q) (Some number) (lookup (key_eq q) self.old) }
+        ensures stood { (k : ℕ) → result ≡ Ok (Some k) → self.new ≡ self.old }
+        ensures err { OnErr result (self.new ≡ self.old) }
+    {
+        let ranked = Ranked::new(key);
+        let place = find(&self.entries, &self.links, &ranked);
+        let number = Some(number);
+        match place.entry {
+            Some(at) => {
+                let known = self.entries[at].number;
+                if known.is_none() {
+                    self.entries[at].number = number;
+                }
+                Ok(known)
+            }
+            None => {
+                let entry = Entry { ranked, number };
+                hang(&mut self.entries, &mut self.links, place.link, entry)?;
+                Ok(None)
+            }
+        }
+    }
+
+    /// Takes a key out. The last that was noted leaves its place, another one is noted there without
+    /// a number. It takes no memory.
+    pub fn remove(&mut self, key: &Key)
+        ensures { (q : Key) → lookup (key_eq q) self.new
+            ≡ cond (key_eq key.now q) None (lookup (key_eq q) self.old) }
+    {
+        let place = find(&self.entries, &self.links, &Ranked::new(key));
+        match place.entry {
+            Some(at) if at + 1 == self.entries.len() => {
+                cut(&mut self.entries, &mut self.links, place.link);
+            }
+            Some(at) => self.entries[at].number = None,
+            None => {}
+        }
+    }
+}
+
+/// Where a key stands, or is to stand.
+fn find(entries: &[Entry], links: &[usize], ranked: &Ranked) -> Place
+    requires tree { IsTree entries.now links.now }
+    requires own { IsOwn ranked.now }
+    ensures stands { IfSome result.entry (λ i.
+        StandsAt entries.now links.now ranked.now.key i result.link) }
+    ensures none { IfNone result.entry
+        (StandsNowhere entries.now links.now ranked.now.key result.link) }
+{
+    let mut at = 0;
+    let mut depth = 0;
+    let mut link = None;
+    while let Some(entry) = entries.get(at) {
+        if *ranked == entry.ranked {
+            return Place {
+                entry: Some(at),
+                link,
+            };
+        }
+        let way = WAYS * at + ranked.digit(depth);
+        link = Some(way);
+        if links[way] <= at {
+            break;
+        }
+        at = links[way];
+        depth += 1;
+    }
+    Place { entry: None, link }
+}
+
+/// Puts an entry behind the others, and has a link lead to it.
+fn hang<A: Allocator + Copy>(
+    entries: &mut Vec<Entry, A>,
+    links: &mut Vec<usize, A>,
+    link: Option<usize>,
+    entry: Entry,
+) -> Result<(), AllocError>
+    requires tree { IsTree entries.old.items links.old.items }
+    requires own { IsOwn entry.ranked }
+    requires none { StandsNowhere entries.old.items links.old.items entry.ranked.key link }
+    ensures added { OnOk result (entries.new.items ≡ entries.old.items ++ entry ∷ []) }
+    ensures tree { IsTree entries.new.items links.new.items }
+    ensures err { OnErr result (entries.new.items ≡ entries.old.items) }
+{
+    entries.reserve(1)?;
+    links.extend_from_slice(&[0; WAYS])?;
+    lead(links, link, entries.len());
+    entries.push(entry)?;
+    Ok(())
+}
+
+/// Has a link lead to an entry.
+fn lead<A: Allocator + Copy>(links: &mut Vec<usize, A>, link: Option<usize>, entry: usize)
+    requires { IfSome link (λ way. way < length links.old.items) }
+    ensures long { length links.new.items ≡ length links.old.items }
+    ensures to { (way : ℕ) → link ≡ Some way → slice_index links.new.items way ≡ entry }
+    ensures others { (way : ℕ) → link ≢ Some way
+        → slice_index links.new.items way ≡ slice_index links.old.items way }
+{
+    if let Some(way) = link {
+        links[way] = entry;
+    }
+}
+
+/// Takes the last entry away, and the link that leads to it.
+fn cut<A: Allocator + Copy>(
+    entries: &mut Vec<Entry, A>,
+    links: &mut Vec<usize, A>,
+    link: Option<usize>,
+)
+    requires tree { IsTree entries.old.items links.old.items }
+    requires some { 0 < length entries.old.items }
+    requires leads { IfSome link (λ way. IsLinkTo links.old.items way (length entries.old.items - 1)) }
+    ensures cut { entries.new.items ≡ take (length entries.old.items - 1) entries.old.items }
+    ensures tree { IsTree entries.new.items links.new.items }
+{
+    lead(links, link, 0);
+    entries.pop();
+    links.truncate(WAYS * entries.len());
+}
