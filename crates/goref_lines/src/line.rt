@@ -1,5 +1,5 @@
 ghost use Rattle.std.specs.Prelude.{◌≡◌, ◌+◌, ◌<◌, ◌≤◌, ℕ, List, [], ◌∷◌, ◌++◌, length, take, false, true};
-ghost use Rattle.std.specs.List.{list_any, prefix_len};
+ghost use Rattle.std.specs.List.{list_all, list_any, prefix_len};
 ghost use Rattle.goref_lines.specs.Kept.{Kept, kept, is_control_byte, is_hash, printable, spaced};
 ghost use Rattle.goref_lines.specs.Words.{has_bytes, is_plain_space};
 ghost use Rattle.goref_lines.specs.inner.Front.{AreBetweenWords, AreOfWord, KeepsFront, is_gap_byte, is_word_byte, last_of, with_space};
@@ -10,6 +10,9 @@ use std::marker::Model;
 
 /// The most bytes that the words of a line have, joined by single spaces.
 pub const LINE_LIMIT: usize = 8192;
+
+/// How many bytes between words are taken at once.
+const BLOCK: usize = 64;
 
 /// What is kept of a line as its bytes come in.
 #[derive(Drop)]
@@ -223,11 +226,15 @@ fn is_blank(byte: u8) -> bool
     byte == b' ' || byte == b'\t'
 }
 
-/// Whether a space or a tab is among bytes.
+/// Whether a space or a tab is among bytes. It looks at all, so that many are looked at at once.
 fn has_blank(bytes: &[u8]) -> bool
     ensures { result ≡ list_any (λ b. is_plain_space (spaced b)) bytes.now }
 {
-    bytes.iter().any(|byte| is_blank(*byte))
+    let mut found = false;
+    for byte in bytes {
+        found |= is_blank(*byte);
+    }
+    found
 }
 
 /// Whether a byte stands in words.
@@ -252,12 +259,35 @@ fn word_front(bytes: &[u8]) -> usize
     bytes.iter().take_while(|byte| is_of_word(**byte)).count()
 }
 
-/// How many controls and white space stand first.
+/// How many controls and white space stand first, up to [`BLOCK`] of them where there are so many.
 fn gap_front(bytes: &[u8]) -> usize
+    ensures gap { AreBetweenWords (take result bytes.now) }
+    ensures bound { result ≤ length bytes.now }
+{
+    if bytes.len() >= BLOCK && is_gap(bytes.split_at(BLOCK).0) {
+        return BLOCK;
+    }
+    gap_len(bytes)
+}
+
+/// How many controls and white space stand first.
+fn gap_len(bytes: &[u8]) -> usize
     ensures value { result ≡ prefix_len is_gap_byte bytes.now }
     ensures bound { result ≤ length bytes.now }
 {
     bytes.iter().take_while(|byte| is_of_gap(**byte)).count()
+}
+
+/// Whether all bytes are controls and white space. It looks at all, so that many are looked at at
+/// once.
+fn is_gap(bytes: &[u8]) -> bool
+    ensures { result ≡ list_all is_gap_byte bytes.now }
+{
+    let mut all = true;
+    for byte in bytes {
+        all &= is_of_gap(*byte);
+    }
+    all
 }
 
 /// The last byte that is no control.
