@@ -49,6 +49,9 @@ fn put_answer<A: Allocator + Copy, W: Sink>(
 fn put_empty<W: Sink>(id: Option<u32>, pen: &mut Pen<'_, W>)
     ensures { Writes W.Sink pen.old pen.new (codes "=" ++ (id_text id ++ codes "\n\n")) }
 {
+    if id.is_none() {
+        return pen.put(b"=\n\n");
+    }
     pen.put(b"=");
     put_id(id, pen);
     put_end(pen);
