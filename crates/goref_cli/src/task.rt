@@ -63,7 +63,9 @@ fn gtp_subcommand<'a>(alloc: Global) -> Result<Command<'a>, AllocError>
 {
     Command::new(alloc, "gtp")
         .about("Answers the commands of the Go Text Protocol, version 2")
-        .after_help("Example: goref gtp --size 9")
+        .after_help(
+            "list_commands names the commands, and quit ends it.\n\nExample: goref gtp --size 9",
+        )
         .arg(size_argument(alloc))
 }
 
@@ -73,7 +75,10 @@ fn judge_subcommand<'a>(alloc: Global) -> Command<'a>
 {
     Command::new(alloc, "judge")
         .about("Replays a record in SGF, and writes its score and whether it states that score")
-        .after_help("Example: goref judge < game.sgf")
+        .override_usage("goref judge < RECORD")
+        .after_help(
+            "At a terminal it waits for the record and its end (Ctrl-D).\n\nExample: goref judge < game.sgf",
+        )
 }
 
 fn tidy_subcommand<'a>(alloc: Global) -> Command<'a>
@@ -82,7 +87,10 @@ fn tidy_subcommand<'a>(alloc: Global) -> Command<'a>
 {
     Command::new(alloc, "tidy")
         .about("Reads a record in SGF, and writes it in its one canonical spelling")
-        .after_help("Example: goref tidy < game.sgf")
+        .override_usage("goref tidy < RECORD")
+        .after_help(
+            "At a terminal it waits for the record and its end (Ctrl-D).\n\nExample: goref tidy < game.sgf",
+        )
 }
 
 /// The option `--size`.

@@ -110,26 +110,32 @@ Options:
       --size <N>  The lines of the board at the start, from 1 to 25 [default: 19]
   -h, --help      Print help
 
+list_commands names the commands, and quit ends it.
+
 Example: goref gtp --size 9
 ";
 
 const HELP_ON_JUDGE: &str =
     "Replays a record in SGF, and writes its score and whether it states that score
 
-Usage: goref judge
+Usage: goref judge < RECORD
 
 Options:
   -h, --help  Print help
+
+At a terminal it waits for the record and its end (Ctrl-D).
 
 Example: goref judge < game.sgf
 ";
 
 const HELP_ON_TIDY: &str = "Reads a record in SGF, and writes it in its one canonical spelling
 
-Usage: goref tidy
+Usage: goref tidy < RECORD
 
 Options:
   -h, --help  Print help
+
+At a terminal it waits for the record and its end (Ctrl-D).
 
 Example: goref tidy < game.sgf
 ";
@@ -154,7 +160,7 @@ fn texts_of_refused_words(rt: HostRuntime) -> Result<(), Fail> {
         &["goref", "judge", "game.sgf"],
         "error: unexpected argument 'game.sgf' found
 
-Usage: goref judge
+Usage: goref judge < RECORD
 
 For more information, try '--help'.
 ",
