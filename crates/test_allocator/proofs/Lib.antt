@@ -1,2 +1,3 @@
+mod Charges
 mod Shapes
 mod Ticks

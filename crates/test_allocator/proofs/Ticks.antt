@@ -16,7 +16,7 @@ use denote.Steps.{nothing, only}
 use denote.Triple.Statement.{Contract}
 use denote.Triple.Spec.{triple_of}
 use Rattle.std.specs.contracts.cell.Cell as CE
-use Rattle.test_allocator.specs.contracts.refuses as TK
+use Rattle.test_allocator.specs.contracts.failing.refuses as TK
 
 abbrev Calls : RattleType
 Calls = CE.the_row u64

@@ -17,6 +17,8 @@ mod histories;
 #[cfg(test)]
 mod laws;
 #[cfg(test)]
+mod needs;
+#[cfg(test)]
 mod packs;
 #[cfg(test)]
 mod plain_game;
@@ -28,6 +30,8 @@ mod seen;
 mod situations;
 #[cfg(test)]
 mod tables;
+#[cfg(test)]
+mod texts;
 #[cfg(test)]
 mod turns;
 #[cfg(test)]

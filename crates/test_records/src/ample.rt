@@ -62,7 +62,7 @@ fn push_move(text: &mut Vec<u8>, number: u16) -> Result<(), AllocError> {
 }
 
 /// The long record, with this behind its size.
-fn long_record(alloc: Global, root: &[u8]) -> Result<Vec<u8>, AllocError> {
+pub(crate) fn long_record(alloc: Global, root: &[u8]) -> Result<Vec<u8>, AllocError> {
     let mut text = b"(;SZ[19]".to_vec(alloc)?;
     text.extend_from_slice(root)?;
     for number in 0..MOVES {

@@ -22,6 +22,8 @@ mod matches;
 #[cfg(test)]
 mod memory;
 #[cfg(test)]
+mod needs;
+#[cfg(test)]
 mod plays;
 #[cfg(test)]
 mod refused_loads;

@@ -15,7 +15,7 @@ use std::process::Abort;
 use test_allocator::Failing;
 
 /// More reads than a script needs: a session that always wants memory would go on for ever.
-const READS: u64 = 50;
+pub(crate) const READS: u64 = 50;
 
 /// Whether a session comes to a request for memory with this number; that one alone is refused. It
 /// is told once, and the file of a `loadsgf` is fetched as often as that is sent.
@@ -62,7 +62,7 @@ fn each_refused(rt: &impl Abort, alloc: Global, row: Row) {
 
 /// Rows that ask for memory. That of a handicap after a pass asks for nothing but by the handicap,
 /// which is refused for the pass.
-const ROWS: &[Row] = &[
+pub(crate) const ROWS: &[Row] = &[
     REPETITION,
     KO,
     KO_AFTER_PASSES,

@@ -1,4 +1,4 @@
--- It counts the call, and answers what the inner allocator answers. Assumes `Logic`.
+-- It counts the bytes, and answers what the inner allocator answers. Assumes `Logic`.
 use types.Part.{agg}
 use Rattle.test_allocator.proofs.Shapes.{after}
 use Rattle.std.proofs.Common.{Bool, ◌≡◌, ℕ, ◌+◌, ◌^◌, ◌<◌, true, false, List, [], ◌∷◌, Ok, Err, refl, w64, Bor}
@@ -36,14 +36,14 @@ use denote.RawPtr.{block_ptr}
 use denote.Builtin.{usize, RefOf}
 use denote.Triple.Call.{calls_at}
 use Rattle.std.proofs.alloc.Calls.{Al, α, seen, Answer, answer_val, Answer-typed, Answer-Ok, Answer-err, takes_key, Takes, at_takes, Answered, Takes-goes, Takes-gives, answers}
-use Rattle.test_allocator.proofs.Ticks.{Tick, at_tick, Tick-goes, Tick-gives}
-use Rattle.test_allocator.proofs.refuses.Symbol as c_sym
-use Rattle.test_allocator.proofs.refuses.Met as c_met
-use Rattle.test_allocator.specs.contracts.Failing as wrapper
-use Rattle.test_allocator.specs.contracts.FailingAllocator.allocate as F
-use Rattle.test_allocator.specs.contracts.FailingAllocator.allocate.Key as key
-use Rattle.test_allocator.proofs.FailingAllocator.allocate.Statement as stated
-use Rattle.test_allocator.proofs.FailingAllocator.allocate.Code as code
+use Rattle.test_allocator.proofs.Charges.{Charge, at_charge, Charge-goes, Charge-gives}
+use Rattle.test_allocator.proofs.limited.exceeds.Symbol as c_sym
+use Rattle.test_allocator.proofs.limited.exceeds.Met as c_met
+use Rattle.test_allocator.specs.contracts.limited.Limited as wrapper
+use Rattle.test_allocator.specs.contracts.limited.LimitedAllocator.allocate as F
+use Rattle.test_allocator.specs.contracts.limited.LimitedAllocator.allocate.Key as key
+use Rattle.test_allocator.proofs.limited.LimitedAllocator.allocate.Statement as stated
+use Rattle.test_allocator.proofs.limited.LimitedAllocator.allocate.Code as code
 
 module _ (Z : Al) where
   abbrev args : Args
@@ -61,7 +61,7 @@ module _ (Z : Al) where
   abbrev stayed : Stays ended.signature.params ended.kept
   stayed = (stay_dropped self yes, (stay_dropped (plain (λ _. usize)) yes, (stay_dropped (plain (λ _. usize)) yes, tt)))
 
-module _ (Z : Al) {M : Type 1} {𝓤 : Ura M} (𝓛 : Logic 𝓤) (at_mem : Memory → SProp 𝓤) (run : Routine → Fun 𝓤) (𝓣 : Tables 𝓤 𝓛.H) (tk : Triple 𝓤 (𝓣.C (takes_key Z)) (Takes Z 𝓛 at_mem run)) (kn : Triple 𝓤 (𝓣.C c_sym.name) (Tick 𝓛 at_mem run)) where
+module _ (Z : Al) {M : Type 1} {𝓤 : Ura M} (𝓛 : Logic 𝓤) (at_mem : Memory → SProp 𝓤) (run : Routine → Fun 𝓤) (𝓣 : Tables 𝓤 𝓛.H) (tk : Triple 𝓤 (𝓣.C (takes_key Z)) (Takes Z 𝓛 at_mem run)) (kn : Triple 𝓤 (𝓣.C c_sym.name) (Charge 𝓛 at_mem run)) where
   open 𝓛 use {H}
 
   abbrev held : Clauses 𝓤 (ended Z)
@@ -96,9 +96,9 @@ module _ (Z : Al) {M : Type 1} {𝓤 : Ura M} (𝓛 : Logic 𝓤) (at_mem : Memo
         split ! $ split ! $ move ! (2 ∷ []) $ fsplit ! $ fsplit ! $ move ! (1 ∷ []) $ unhide ! $ fsplit ! $ fsplit ! $ use1 𝓛 (‵ (seen Z κ₁ p h)) (id⊢ 𝓤 _) $ move ! (1 ∷ []) $ fsplit ! $ keep ! (0 ∷ 6 ∷ 2 ∷ 7 ∷ []) $
         enter ! 𝓣.C 𝓣.Λ (here Z) vs _ $ alloc_all ! (λ l. pass_all ! refl ((tt, tt), ((tt, record { fits = fn }), ((tt, record { fits = fa }), tt))) $
         sets ! (addr ! (through ! refl (fld ! refl (stop !)))) refl (tt, tt) $
-        use2 𝓛 (raw ((Tick 𝓛 at_mem run).pre (at_tick 𝓛 at_mem run κ₁ q₁ c))) (Tick-goes 𝓛 at_mem run κ₁ q₁ c) $
-        calls_at ! (fm_of 𝓤 H 𝓛.laws 𝓣) (Tick 𝓛 at_mem run) kn (at_tick 𝓛 at_mem run κ₁ q₁ c) (and_then ! (get ! refl) (no_more !)) (λ u.
-        use1 𝓛 (later (some (λ (no : Bool). given (u ≡ vbool no) (‵ (flft κ₁ q₁))))) (Tick-gives 𝓛 at_mem run κ₁ q₁ c u) $ await ! tt $ pick ! (λ no. learn ! (λ eu. lands_as ! eu refl (tt, tt) $
+        use2 𝓛 (raw ((Charge 𝓛 at_mem run).pre (at_charge 𝓛 at_mem run κ₁ q₁ c n))) (Charge-goes 𝓛 at_mem run κ₁ q₁ c n fn) $
+        calls_at ! (fm_of 𝓤 H 𝓛.laws 𝓣) (Charge 𝓛 at_mem run) kn (at_charge 𝓛 at_mem run κ₁ q₁ c n) (and_then ! (get ! refl) (and_then ! (get ! refl) (no_more !))) (λ u.
+        use1 𝓛 (later (some (λ (no : Bool). given (u ≡ vbool no) (‵ (flft κ₁ q₁))))) (Charge-gives 𝓛 at_mem run κ₁ q₁ c n u) $ await ! tt $ pick ! (λ no. learn ! (λ eu. lands_as ! eu refl (tt, tt) $
         first ! $ branches ! (get ! refl)
         (λ t₁. sets ! (agg ! (no_more !)) refl (tt, tt) $
         sets ! (agg ! (and_then ! (lit ! tt) (and_then ! (get ! refl) (no_more !)))) refl (Answer-typed false 0 0) $
@@ -130,4 +130,4 @@ allocate_spec 𝓤 𝓛 𝓜 𝓡 wired Y L g d d' met _ =
     entered 𝓤 𝓛.H (triple_of 𝓛 (F.signature Y) (F.spec Y g d d' 𝓛 𝓜.mem 𝓡.returns)) 𝓣.C 𝓣.Λ (key.name (args Z)) (here Z) (code.unfolded 𝓤 𝓛.H 𝓜 𝓡 wired (Y, tt) d d')
     (walk_Meets 𝓛 (ended Z) (stayed Z) (Goes-dropped 𝓛 2 (self Z) yes (λ κs x f. refl), (Goes-dropped 𝓛 2 (plain (λ _. usize)) yes (λ κs x f. refl), (Goes-dropped 𝓛 2 (plain (λ _. usize)) yes (λ κs x f. refl), tt))) c (WpFn 𝓤 𝓛.H 𝓣.C 𝓣.Λ (here Z)) (WpFn-mono 𝓤 𝓛.H 𝓛.laws 𝓣 (here Z))
     (walked 𝓛 (ended Z) (stayed Z) c (WpFn 𝓤 𝓛.H 𝓣.C 𝓣.Λ (here Z)) (λ κs. (shr_vals, (uint_vals w64, (uint_vals w64, tt)))) (λ κs. ((λ r vs s. s.0), (uint_Tells w64, (uint_Tells w64, tt))))
-    (λ κs qs bounds a τ are. walk Z 𝓛 𝓜.mem 𝓡.returns 𝓣 (met.allocate d') (cited 𝓤 𝓛.H _ 𝓜 𝓡 𝓡.env c_sym.name (𝓡.env c_sym.name) refl (c_met.met 𝓤 𝓛 𝓜 𝓡 (code.calls-test_allocator::refuses 𝓡.env wired))) κs.0 κs.1.0 qs.0 qs.1.0 bounds.0 a.0 a.1.0 a.1.1.0 τ are.1.0.1 are.1.1.0.1)))
+    (λ κs qs bounds a τ are. walk Z 𝓛 𝓜.mem 𝓡.returns 𝓣 (met.allocate d') (cited 𝓤 𝓛.H _ 𝓜 𝓡 𝓡.env c_sym.name (𝓡.env c_sym.name) refl (c_met.met 𝓤 𝓛 𝓜 𝓡 (code.calls-test_allocator::limited::exceeds 𝓡.env wired))) κs.0 κs.1.0 qs.0 qs.1.0 bounds.0 a.0 a.1.0 a.1.1.0 τ are.1.0.1 are.1.1.0.1)))

@@ -34,11 +34,11 @@ use denote.RawPtr.{Ptr, block_ptr, null_ptr, ptr_val, rawptr_vals, rawptr_Tells}
 use denote.Builtin.{usize, RawPtr, RefOf}
 use denote.Triple.Call.{calls_at}
 use Rattle.std.proofs.alloc.Calls.{Al, α, seen, token, gives_key, Gives, at_gives, Gives-goes, Gives-Gives}
-use Rattle.test_allocator.specs.contracts.Failing as wrapper
-use Rattle.test_allocator.specs.contracts.FailingAllocator.deallocate as F
-use Rattle.test_allocator.specs.contracts.FailingAllocator.deallocate.Key as key
-use Rattle.test_allocator.proofs.FailingAllocator.deallocate.Statement as stated
-use Rattle.test_allocator.proofs.FailingAllocator.deallocate.Code as code
+use Rattle.test_allocator.specs.contracts.failing.Failing as wrapper
+use Rattle.test_allocator.specs.contracts.failing.FailingAllocator.deallocate as F
+use Rattle.test_allocator.specs.contracts.failing.FailingAllocator.deallocate.Key as key
+use Rattle.test_allocator.proofs.failing.FailingAllocator.deallocate.Statement as stated
+use Rattle.test_allocator.proofs.failing.FailingAllocator.deallocate.Code as code
 
 module _ (Z : Al) where
   abbrev args : Args

@@ -1,0 +1,112 @@
+//! What is done with a record asks for little more memory than it needs.
+use crate::ample::long_record;
+use crate::records::copies;
+use crate::tools::Tool;
+use go_board::Size;
+use go_sgf::{cook_simple, cook_text, escape, points_of, read};
+use std::alloc::{AllocError, Global};
+use std::process::Abort;
+use std::test::Fail;
+use test_allocator::Limited;
+use test_devices::{Reader, Writer};
+
+/// What a list of so many items asks for, each of so many bytes. It is doubled as it grows, so that
+/// it asks for at most four times its length in all.
+fn for_list(count: u64, each: u64) -> u64 {
+    count.saturating_mul(each).saturating_mul(4)
+}
+
+/// Whether a tool does its work with so many bytes.
+fn does(tool: Tool, alloc: Global, source: &[u8], bytes: u64) -> bool {
+    let limited = Limited::new(alloc, bytes);
+    let mut writer = Writer::new(alloc);
+    tool.run(&limited, &mut Reader::new(source), &mut writer) == Ok(())
+}
+
+/// Asserts that a record is read with so many bytes, tidied with those for its own, and judged with
+/// both and so many for its game.
+fn needs_little(rt: &impl Abort, alloc: Global, source: &[u8], to_read: u64, to_play: u64) {
+    let limited = Limited::new(alloc, to_read);
+    assert!(rt; read(&limited, source).is_ok());
+    let to_tidy = for_list(source.len() as u64, 1);
+    assert!(rt; does(Tool::Tidy, alloc, source, to_tidy));
+    let to_judge = to_tidy.saturating_add(to_read).saturating_add(to_play);
+    assert!(rt; does(Tool::Judge, alloc, source, to_judge));
+}
+
+/// Asserts that little memory is enough for a text, as it stands in a record and as it is said.
+fn cooks_with_little(rt: &impl Abort, alloc: Global, text: &[u8]) {
+    for call in 0..3u8 {
+        let limited = Limited::new(alloc, for_list(text.len() as u64, 1));
+        let done = match call {
+            0 => cook_text(&limited, text).is_ok(),
+            1 => cook_simple(&limited, text).is_ok(),
+            _ => escape(&limited, text).is_ok(),
+        };
+        assert!(rt; done, "call {call}");
+    }
+}
+
+/// What begins a record, what stands in it again and again, what ends it, and how many bytes each
+/// of that takes where it is read: a tree, a node, a property, a value, a pass, a letter. A tree has
+/// two lists and a node one, each of which keeps the allocator.
+const RECORDS: &[(&[u8], &[u8], &[u8], u64)] = &[
+    (b"", b"(;)", b"", 80),
+    (b"(", b";", b")", 40),
+    (b"(;", b"A[]", b")", 24),
+    (b"(;A", b"[]", b")", 16),
+    (b"(", b";B[]", b")", 40),
+    (b"(;C[", b"a", b"])", 0),
+];
+
+/// One more than there is room for before a list grows, so that it asks for most.
+const COPIES: u32 = 4_097;
+
+/// What a record has besides: its tree and its first node.
+const REST: u64 = 200;
+
+/// How many bytes a pass takes in the list of moves.
+const PASS: u64 = 8;
+
+/// A record of many copies of a piece.
+fn repeating(
+    alloc: Global,
+    front: &[u8],
+    piece: &[u8],
+    back: &[u8],
+) -> Result<Vec<u8>, AllocError> {
+    let behind = copies(alloc, piece, COPIES, back)?;
+    copies(alloc, front, 1, behind.as_slice())
+}
+
+#[test]
+fn little_memory_for_a_record(rt: HostRuntime) -> Result<(), Fail> {
+    for (front, piece, back, each) in RECORDS {
+        let record = repeating(rt.alloc(), front, piece, back)?;
+        let count = u64::from(COPIES);
+        let to_read = for_list(count, *each).saturating_add(REST);
+        let to_play = for_list(count, PASS);
+        needs_little(&rt, rt.alloc(), record.as_slice(), to_read, to_play);
+        cooks_with_little(&rt, rt.alloc(), record.as_slice());
+    }
+    Ok(())
+}
+
+/// What the game of the long record asks for. The log of plays needs some 290 kilobytes to begin
+/// with, and twice that when it grows; the rest is for 1,200 moves, 100 of them plays.
+const GAME: u64 = 1_000_000;
+
+#[test]
+fn little_memory_for_a_long_record(rt: HostRuntime) -> Result<(), Fail> {
+    let record = long_record(rt.alloc(), b"")?;
+    let to_read = for_list(1_201, 40).saturating_add(REST);
+    needs_little(&rt, rt.alloc(), record.as_slice(), to_read, GAME);
+    Ok(())
+}
+
+#[test]
+fn little_memory_for_points(rt: HostRuntime) {
+    let size = Size::new(25).expect(&rt, "a size");
+    let limited = Limited::new(rt.alloc(), for_list(625, 2));
+    assert!(rt; points_of(&limited, &[b"aa:yy".as_slice()], size).is_ok());
+}
