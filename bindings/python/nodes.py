@@ -7,6 +7,7 @@ Numbers of nodes count from 0, and those of moves from 1, as goref counts them w
 line takes the first variation everywhere.
 """
 import re
+import signal
 import sys
 
 TOKEN = re.compile(rb"[();]|[A-Za-z]+|\[(?:\\.|[^\\\]])*\]", re.S)
@@ -49,6 +50,8 @@ def vertex_of(value, size):
 
 
 def main():
+    # A reader that closes early, as `head` does, ends it without a word.
+    signal.signal(signal.SIGPIPE, signal.SIG_DFL)
     nodes = nodes_of(sys.stdin.buffer.read())
     size, moves = 19, 0
     for number, node in enumerate(nodes):

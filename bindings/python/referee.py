@@ -6,7 +6,7 @@
 BLACK and WHITE are command lines, as "gnugo --mode gtp --chinese-rules". The result is printed, as B+7.5, W+R where
 Black resigned, or W+F where Black's move is illegal, and the status is 0. Where there is no result, since a program
 isn't there, ended, refused a line or didn't come to an end, it is said which one, and the status is 1. The record of
-what was played is written in either case.
+what was played is written in either case, once the boards are set up.
 """
 import argparse
 import shlex
