@@ -1,6 +1,8 @@
 /* Times the library for other languages: bench ROUNDS FILE..
  * The files are read first. Then each function goes over all of them, by one thread and by four at
- * once, and the least time of so many rounds is printed, in microseconds a file. */
+ * once, and the least time of so many rounds is printed, in microseconds a file. The first is no
+ * function of the library: it reckons with numbers alone, so it tells what four threads come to on
+ * this machine where they share nothing at all. */
 #include <goref.h>
 #include <pthread.h>
 #include <stdio.h>
@@ -20,6 +22,21 @@ struct work {
     int count;
     size_t largest;
 };
+
+/* 30,000 steps of a random number for each file, which touch no memory. */
+static uint8_t steps(const uint8_t *source, size_t size, uint8_t *room, size_t place, size_t *length)
+{
+    uint64_t state = size + 1;
+    (void)source;
+    (void)room;
+    for (int i = 0; i < 30000; i++) {
+        state ^= state << 13;
+        state ^= state >> 7;
+        state ^= state << 17;
+    }
+    *length = (size_t)(state % (place + 1));
+    return 0;
+}
 
 static void *all(void *argument)
 {
@@ -93,9 +110,9 @@ int main(int count, char **words)
     }
     if (files < 1)
         return 1;
-    const char *names[] = { "goref_tidy", "goref_judge" };
-    function *calls[] = { goref_tidy, goref_judge };
-    for (int i = 0; i < 2; i++) {
+    const char *names[] = { "steps", "goref_tidy", "goref_judge" };
+    function *calls[] = { steps, goref_tidy, goref_judge };
+    for (int i = 0; i < 3; i++) {
         work.call = calls[i];
         double one = least(&work, 1, rounds);
         double four = least(&work, 4, rounds);
