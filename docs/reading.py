@@ -32,7 +32,8 @@ CLAIMS = [
     ("the program's status", "goref_program.specs.Status.FollowsWords"),
 ]
 
-HEAD = re.compile(r"^(\s*)(?:(?:abbrev|unfoldable|opaque)\s+)?(?:pub\s+)?(?:(?:record|data)\s+)?([^\s:(){}]+)\s*(?:[:({]|$)")
+HEAD = re.compile(
+    r"^(\s*)(?:(?:abbrev|unfoldable|opaque)\s+)?(?:pub\s+)?(?:(?:record|data)\s+)?([^\s:(){}]+)\s*(?:[:({]|$)")
 USE = re.compile(r"^(?:pub\s+)?use\s+(Rattle\.\S+?)\.\{([^}]*)\}")
 WORD = re.compile(r"[^\s(){},;.:λ→×=]+")
 
