@@ -192,6 +192,19 @@ fn words_that_name_no_task(rt: HostRuntime) {
 }
 
 #[test]
+fn a_refusal_is_told(rt: HostRuntime) {
+    let told = b"error: unexpected argument 'game.sgf' found
+
+Usage: goref judge < RECORD
+
+For more information, try '--help'.
+"
+        .as_slice();
+    let words = &["judge", "game.sgf"];
+    assert!(rt; comes_to(&rt, words, Broken, 0, b"", told, 2));
+}
+
+#[test]
 fn words_that_cannot_be_read(rt: HostRuntime) {
     let mut output = Page::new(rt.alloc(), 1_000);
     let mut errors = Page::new(rt.alloc(), 1_000);
@@ -298,6 +311,12 @@ fn devices_are_missing(rt: HostRuntime) {
     for name in [b"/dev/null".as_slice(), b"/dev/zero", b"/dev/tty"] {
         assert!(rt; matches!(fetched(&rt, name), Fetched::Missing));
     }
+}
+
+/// The memory of a process is a file that begins with what cannot be read.
+#[test]
+fn a_file_that_cannot_be_read(rt: HostRuntime) {
+    assert!(rt; matches!(fetched(&rt, b"/proc/self/mem"), Fetched::Missing));
 }
 
 #[test]

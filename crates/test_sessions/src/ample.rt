@@ -1,6 +1,6 @@
 //! Lines that may want memory, on boards of all sizes and in a long game, where there is enough of
 //! it: each of them is accepted.
-use crate::loads::{Gift, OneFile};
+use crate::loads::{Gift, OneFile, answers_over};
 use crate::rows::KO_AFTER_PASSES;
 use crate::scripts::ends;
 use crate::sessions::told;
@@ -232,6 +232,18 @@ fn large_files_are_loaded(rt: HostRuntime) -> Result<(), Fail> {
             writer.bytes() == b"=\n\n= B+81\n\n".as_slice(),
             "{letters} letters"
         );
+    }
+    Ok(())
+}
+
+#[test]
+fn records_of_each_size_are_loaded(rt: HostRuntime) -> Result<(), Fail> {
+    let alloc = rt.alloc();
+    for lines in 1..=MAX_LINES {
+        let record = format!(in alloc; "(;SZ[{lines}];B[])")?;
+        let gift = Gift::Bytes(record.as_str().as_bytes());
+        let answers = answers_over(&rt, alloc, gift, b"loadsgf f\n")?;
+        assert!(rt; answers.as_slice() == b"=\n\n".as_slice(), "{lines} lines");
     }
     Ok(())
 }
