@@ -1,0 +1,114 @@
+//! A very long game of random plays, undone to its start.
+use crate::digest::Digest;
+use crate::drawn::{colour_of, usual_size};
+use crate::random::Random;
+use crate::texts::put_play;
+use go_board::{Point, Sink, WriteFault};
+use go_game::Game;
+use goref::{Fetched, Line, Session};
+use goref_streams::Output;
+use std::alloc::{AllocError, Global};
+
+/// A session, and the line that it is told.
+#[derive(Drop)]
+struct Play<'a> {
+    session: Session<Global>,
+    line: Line,
+    text: Vec<u8>,
+    output: Output<&'a mut Digest>,
+    alloc: Global,
+}
+
+/// Why a game broke off.
+#[derive(Drop)]
+pub enum LongError {
+    Memory,
+    Write,
+}
+
+impl From<AllocError> for LongError {
+    fn from(_: AllocError) -> LongError {
+        LongError::Memory
+    }
+}
+
+impl From<WriteFault> for LongError {
+    fn from(_: WriteFault) -> LongError {
+        LongError::Write
+    }
+}
+
+/// Plays so many random moves, and takes all back.
+pub fn play_long(
+    alloc: Global,
+    moves: u32,
+    random: &mut Random,
+    digest: &mut Digest,
+) -> Result<(), LongError> {
+    let mut play = Play {
+        session: Session::new(alloc, usual_size()),
+        line: Line::new(),
+        text: Vec::new(alloc),
+        output: Output::new(digest),
+        alloc,
+    };
+    for number in 0..moves {
+        play.put_any(number, random)?;
+    }
+    play.say(b"showboard")?;
+    for _ in 0..moves {
+        play.say(b"undo")?;
+    }
+    play.say(b"showboard")
+}
+
+impl Play<'_> {
+    fn say(&mut self, line: &[u8]) -> Result<(), LongError> {
+        self.line.clear();
+        self.line.extend(line);
+        self.session
+            .answer(&self.line, Fetched::None, &mut self.output)?;
+        match self.output.flush() {
+            Ok(()) => Ok(()),
+            Err(_) => Err(LongError::Write),
+        }
+    }
+
+    fn put_any(&mut self, number: u32, random: &mut Random) -> Result<(), LongError> {
+        let Some(at) = vacant(self.session.game(), random) else {
+            return Ok(());
+        };
+        let mut text = Vec::new(self.alloc);
+        put_play(&mut text, colour_of(number), at)?;
+        self.say(text.as_slice())
+    }
+}
+
+/// The first vacant point from any point on, if there is one.
+fn vacant(game: &Game<Global>, random: &mut Random) -> Option<Point> {
+    let mut at = Point {
+        col: random.below(19) as u8,
+        row: random.below(19) as u8,
+    };
+    for _ in 0..361u32 {
+        if at.on(game.size()) && game.colour_at(at).is_none() {
+            return Some(at);
+        }
+        at = behind(at);
+    }
+    None
+}
+
+/// The point behind this one in point order, and behind the last one the first.
+fn behind(at: Point) -> Point {
+    if at.col < 18 {
+        return Point {
+            col: at.col + 1,
+            row: at.row,
+        };
+    }
+    Point {
+        col: 0,
+        row: if at.row < 18 { at.row + 1 } else { 0 },
+    }
+}
