@@ -24,7 +24,7 @@ is_of_next : (a b : ℕ) → (a + 1 ≡ b) ⊎ (b + 1 ≡ a) → is_next a b ≡
 is_of_next a b (inl up) = or_left (a + 1 == b) (b + 1 == a) (eq-eqb (a + 1) b up)
 is_of_next a b (inr down) = or_right (a + 1 == b) (b + 1 == a) (eq-eqb (b + 1) a down)
 
-next_from_beside : (p q : Point) → are_beside p q ≡ true → IsNext p.row p.col q.row q.col
+pub next_from_beside : (p q : Point) → are_beside p q ≡ true → IsNext p.row p.col q.row q.col
 next_from_beside p q e = elim (or_cases (p.row == q.row && is_next p.col q.col) (p.col == q.col && is_next p.row q.row) e) [
   | inl row ↦ let h = and_parts (p.row == q.row) (is_next p.col q.col) row in inl (eqb-true p.row q.row h.0, next_of_is p.col q.col h.1)
   | inr col ↦ let h = and_parts (p.col == q.col) (is_next p.row q.row) col in inr (eqb-true p.col q.col h.0, next_of_is p.row q.row h.1)
@@ -34,14 +34,14 @@ beside_from_next : (p q : Point) → IsNext p.row p.col q.row q.col → are_besi
 beside_from_next p q (inl row) = or_left (p.row == q.row && is_next p.col q.col) _ (and_from (p.row == q.row) (is_next p.col q.col) (eq-eqb p.row q.row row.0) (is_of_next p.col q.col row.1))
 beside_from_next p q (inr col) = or_right (p.row == q.row && is_next p.col q.col) _ (and_from (p.col == q.col) (is_next p.row q.row) (eq-eqb p.col q.col col.0) (is_of_next p.row q.row col.1))
 
-adjacent_from_next : (n row col row' col' : ℕ) → row < n → col < n → row' < n → col' < n → IsNext row col row' col' → IsAdjacent n (row * n + col) (row' * n + col')
+pub adjacent_from_next : (n row col row' col' : ℕ) → row < n → col < n → row' < n → col' < n → IsNext row col row' col' → IsAdjacent n (row * n + col) (row' * n + col')
 adjacent_from_next n row col row' col' row_low col_low row'_low col'_low next =
     let p : Point = record { col = col; row = row } in
     let q : Point = record { col = col'; row = row' } in
     adjacent_to n p q (col_low, row_low) (col'_low, row'_low) (beside_from_next p q next)
 
 -- a point is empty, or has a stone of the one colour or the other
-colour_cases : (c : Colour) (o : Option Colour) → (o ≡ None) ⊎ ((o ≡ Some c) ⊎ (o ≡ Some (other c)))
+pub colour_cases : (c : Colour) (o : Option Colour) → (o ≡ None) ⊎ ((o ≡ Some c) ⊎ (o ≡ Some (other c)))
 colour_cases c None = inl refl
 colour_cases Black (Some Black) = inr (inl refl)
 colour_cases Black (Some White) = inr (inr refl)
@@ -49,20 +49,20 @@ colour_cases White (Some White) = inr (inl refl)
 colour_cases White (Some Black) = inr (inr refl)
 
 module _ (n : ℕ) (g : Colouring) (c : Colour) where
-  held_stone : (p : ℕ) → colour_at g p ≡ Some c → is_held n g c p ≡ true
+  pub held_stone : (p : ℕ) → colour_at g p ≡ Some c → is_held n g c p ≡ true
   held_stone p stone = or_left (has_colour g p (Some c)) _ (same_from_equal (colour_at g p) (Some c) stone)
 
-  held_empty : (p : ℕ) → colour_at g p ≡ None → reaches n g p (Some c) ≡ true → is_held n g c p ≡ true
+  pub held_empty : (p : ℕ) → colour_at g p ≡ None → reaches n g p (Some c) ≡ true → is_held n g c p ≡ true
   held_empty p empty reach = or_right (has_colour g p (Some c)) _ (and_from (has_colour g p None) _ (same_from_equal (colour_at g p) None empty) reach)
 
-  held_cases : (p : ℕ) → is_held n g c p ≡ true → (colour_at g p ≡ Some c) ⊎ ((colour_at g p ≡ None) × (reaches n g p (Some c) ≡ true))
+  pub held_cases : (p : ℕ) → is_held n g c p ≡ true → (colour_at g p ≡ Some c) ⊎ ((colour_at g p ≡ None) × (reaches n g p (Some c) ≡ true))
   held_cases p held = elim (or_cases (has_colour g p (Some c)) _ held) [
     | inl stone ↦ inl (equal_from_same (colour_at g p) (Some c) stone)
     | inr further ↦ let parts = and_parts (has_colour g p None) (reaches n g p (Some c)) further in inr (equal_from_same (colour_at g p) None parts.0, parts.1)
   ]
 
   -- an empty point beside one that is held is held
-  held_beside : (p q : ℕ) → IsAdjacent n p q → colour_at g p ≡ None → is_held n g c q ≡ true → is_held n g c p ≡ true
+  pub held_beside : (p q : ℕ) → IsAdjacent n p q → colour_at g p ≡ None → is_held n g c q ≡ true → is_held n g c p ≡ true
   held_beside p q adjacent empty held = elim (held_cases q held) [
     | inl stone ↦ held_empty p empty ((reaches_is n g p (Some c) adjacent.0).1 (p, q, ([], refl), adjacent, stone))
     | inr further ↦
@@ -71,10 +71,10 @@ module _ (n : ℕ) (g : Colouring) (c : Colour) where
   ]
 
   -- the test that what spreads passes
-  on_held : ℕ → ℕ → Bool
+  pub on_held : ℕ → ℕ → Bool
   on_held row col = nat_lt row n && (nat_lt col n && is_held n g c (row * n + col))
 
-  on_held_is : (row col : ℕ) → (on_held row col ≡ true) ↔ ((row < n) × (col < n) × IsTrue (is_held n g c (row * n + col)))
+  pub on_held_is : (row col : ℕ) → (on_held row col ≡ true) ↔ ((row < n) × (col < n) × IsTrue (is_held n g c (row * n + col)))
   unfolding on_held
   on_held_is row col = (
     λ e.

@@ -19,3 +19,5 @@ pub mod RowsBeside
 pub mod Growing
 pub mod Holding
 pub mod RowCounts
+pub mod Rounding
+pub mod Gaining

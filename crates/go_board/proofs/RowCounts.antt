@@ -67,7 +67,7 @@ count_on test here from (suc k) agree =
     ∙ (let sum : count_by test (range_with_len 0 (from + k + 1)) ≡ count_by test (range_with_len 0 from) + count_by here (range_with_len 0 (suc k)) = omega (arith, rest, last, last_here, same, one) in sum)
 
 -- held by the one and not by the other, and counted for the one
-alone_is : (c : Colour) (o : Option Colour) (own theirs : Bool)
+pub alone_is : (c : Colour) (o : Option Colour) (own theirs : Bool)
     → ((is_same o (Some c) || (is_same o None && own)) && not (is_same o (Some (other c)) || (is_same o None && theirs)))
     ≡ (is_same o (Some c) || ((is_same o None && own) && not theirs))
 alone_is Black None own theirs = refl

@@ -2,3 +2,4 @@
 -- leave them out.
 pub mod Flood
 pub mod Areas
+pub mod Around

@@ -32,6 +32,7 @@ mod colour;
 mod decimals;
 mod device;
 mod flood;
+pub mod gains;
 mod grid;
 pub mod laws;
 mod meter;

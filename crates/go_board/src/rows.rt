@@ -18,6 +18,13 @@ pub const ROWS: usize = MAX_LINES as usize;
 /// A set of places: a word for each row, with a bit for each column, the lowest for the first.
 pub type Rows = [u32; ROWS];
 
+/// The stones of both colours on a board.
+#[derive(Clone, Copy)]
+pub struct Stones {
+    pub black: Rows,
+    pub white: Rows,
+}
+
 /// A row with this column put in where a point's colour is the own one.
 pub fn with_stone(word: u32, col: usize, colour: Option<Colour>, own: Colour) -> u32
     requires { col < 32 }
@@ -124,8 +131,9 @@ fn spread(marks: &mut Rows, free: &Rows, lines: usize)
     while sweep(marks, free, lines) {}
 }
 
-/// The points that a colour holds, from its stones and those of the other colour.
-fn held(own: &Rows, theirs: &Rows, lines: usize) -> Rows
+/// The points that a colour holds, its stones and the empty points that reach it, from its stones and
+/// those of the other colour.
+pub fn held(own: &Rows, theirs: &Rows, lines: usize) -> Rows
     requires { lines ≤ ROWS }
     ensures { (g : Colouring) (c : Colour) → AreStones lines g c own.now
         → AreStones lines g (other c) theirs.now → AreHeld lines g c result }
