@@ -6,8 +6,7 @@ ghost use Rattle.go_board.specs.Packs.{byte_of, code_of, packed_of};
 ghost use Rattle.go_board.specs.Points.{IsOn, number_of, point_at};
 ghost use Rattle.go_board.specs.Reaching.{area, moved};
 ghost use Rattle.go_board.specs.declared.colour.Colour.{Colour};
-ghost use Rattle.go_board.specs.declared.pack.TheConstants.{PACK_BYTES};
-ghost use Rattle.go_board.specs.declared.size.TheConstants.{MAX_POINTS};
+ghost use Rattle.go_board.specs.declared.size.TheConstants.{MAX_LINES, MAX_POINTS};
 ghost use Rattle.go_chains.specs.declared.cells.TheConstants.{COUNT, WORDS};
 ghost use Rattle.go_chains.specs.declared.change.Change.{Change};
 ghost use Rattle.go_chains.specs.Cells.{code_at, label_of, lib_of};
@@ -15,7 +14,7 @@ ghost use Rattle.go_chains.specs.inner.Parts.{has_label, is_in_part, points_left
 ghost use Rattle.go_chains.specs.Playing.{most_at, played, went};
 ghost use Rattle.go_chains.specs.Rewound.{ForLast, IsRewound, NamesCells, PlayLogged, rewound};
 ghost use Rattle.go_chains.specs.Sound.{IsKept};
-ghost use Rattle.go_chains.specs.Boards.{IsRowOfStones, HoldsStone, grid_of, shown};
+ghost use Rattle.go_chains.specs.Boards.{IsRowOfStones, HoldsStone, colouring_of, grid_of, shown};
 ghost use Rattle.go_chains.specs.inner.Words.{free_in_word};
 ghost use Rattle.go_board.specs.Grids.{are_joined, chain_liberties, chain_stones, has_liberty, liberty_count, stone_at, stone_count};
 
@@ -28,7 +27,7 @@ use crate::masks::mask_of;
 use crate::place::{ROOM, place};
 use go_board::laws::{bytes_make_a_pack, joined_by_a_path, liberty_by_a_path, points_by_number};
 use go_board::rows::{ROWS, areas_of, with_stone};
-use go_board::{Area, Colour, Grid, Meter, Packed, Point, Size, Taken, packed_byte};
+use go_board::{Area, Colour, Grid, Meter, PACK_BYTES, Packed, Point, Size, Taken, packed_byte};
 use std::alloc::Allocator;
 use std::marker::Model;
 
@@ -165,21 +164,20 @@ impl Board {
     {
         bytes_make_a_pack();
         let full = usize::from(self.size().points()) / 4;
-        let mut packed = Packed::empty();
-        for place in 0..full {
-            packed.set(place, self.byte_at(place));
-        }
+        let mut packed = self.largest_pack();
         packed.set(full, self.last_byte());
+        for place in full + 1..PACK_BYTES {
+            packed.set(place, 0);
+        }
         packed
     }
 
-    /// The byte of four points of the board.
-    fn byte_at(&self, place: usize) -> u8
-        requires place { place < PACK_BYTES }
-        requires within { 4 * place + 3 < self.now.lines * self.now.lines }
-        ensures { result ≡ byte_of (grid_of self.now) place }
+    /// The pack of the colours as if the board had the most lines: it has the bytes of this one's
+    /// points, but for the last, and then those of points that an earlier board had.
+    fn largest_pack(&self) -> Packed
+        ensures { bytes_of result ≡ packed_of (colouring_of MAX_LINES self.now.cells) }
     {
-        self.cells.packed_byte(place)
+        self.cells.pack()
     }
 
     /// The last byte: of the points that are left where the others are taken four by four.

@@ -1,6 +1,6 @@
 ghost use Rattle.std.specs.Prelude.{◌≡◌, ◌≢◌, ◌<◌, ◌≤◌, ◌+◌, ◌*◌, ◌++◌, ◌∷◌, [], ℕ, slice_index, slice_set};
-ghost use Rattle.go_board.specs.Packs.{byte_of, code_of, colour_coded};
-ghost use Rattle.go_board.specs.declared.pack.TheConstants.{PACK_BYTES};
+ghost use Rattle.go_board.specs.PackBytes.{bytes_of};
+ghost use Rattle.go_board.specs.Packs.{code_of, colour_coded, packed_of};
 ghost use Rattle.go_board.specs.declared.size.TheConstants.{MAX_LINES, MAX_POINTS};
 ghost use Rattle.go_chains.specs.declared.cells.TheConstants.{COUNT, LIBERTIES, WORDS};
 ghost use Rattle.go_chains.specs.Cells.{words_for};
@@ -101,12 +101,11 @@ impl Cells {
         }
     }
 
-    /// The byte of four points, as if the board had the most lines.
-    pub fn packed_byte(&self, place: usize) -> u8
-        requires { place < PACK_BYTES }
-        ensures { result ≡ byte_of (colouring_of MAX_LINES self.now.numbers) place }
+    /// The pack of the colours, as if the board had the most lines.
+    pub fn pack(&self) -> Packed
+        ensures { bytes_of result ≡ packed_of (colouring_of MAX_LINES self.now.numbers) }
     {
-        self.pack.byte(place)
+        self.pack
     }
 }
 

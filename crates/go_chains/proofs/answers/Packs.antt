@@ -17,11 +17,11 @@ use Rattle.go_chains.proofs.rules.Sound.{colouring-at, length-colouring}
 use Rattle.go_chains.proofs.answers.Queries.{code_none, zero_cell}
 
 -- a byte of a pack
-pub byte-at : (g : Colouring) (i : ℕ) → i < PACK_BYTES → slice_index (packed_of g) i ≡ byte_of g i
+byte-at : (g : Colouring) (i : ℕ) → i < PACK_BYTES → slice_index (packed_of g) i ≡ byte_of g i
 unfolding packed_of
 byte-at g i low = get_or-map-range_with_len (byte_of g) 0 PACK_BYTES i i 0 low (omega arith)
 
-length-pack : (g : Colouring) → length (packed_of g) ≡ PACK_BYTES
+pub length-pack : (g : Colouring) → length (packed_of g) ≡ PACK_BYTES
 unfolding packed_of
 length-pack g = length-map-range_with_len (byte_of g) 0 PACK_BYTES
 
@@ -106,9 +106,11 @@ pack_left cells bytes place number past was =
     packed_by h bytes (ap length was ∙ length-pack g)
     (λ i low. ap (λ (l : List ℕ). get_or l i 0) was ∙ byte-at g i low ∙ byte_same g h i (λ k first last. same k))
 
--- each point of a board lies in the colouring of the largest one
-pub byte_within : (n : ℕ) (cells : List ℕ) (i : ℕ) → n ≤ MAX_LINES → n * n ≤ MAX_POINTS → 4 * i + 3 < n * n
-    → byte_of (colouring_of MAX_LINES cells) i ≡ byte_of (colouring_of n cells) i
-byte_within n cells i small few inside =
-    byte_same (colouring_of MAX_LINES cells) (colouring_of n cells) i
+-- each point of a board lies in the colouring of the largest one, so a byte of four of them is one of its pack
+pub largest-at : (n : ℕ) (cells bytes : List ℕ) (i : ℕ) → n ≤ MAX_LINES → n * n ≤ MAX_POINTS → 4 * i + 3 < n * n → bytes ≡ packed_of (colouring_of MAX_LINES cells)
+    → get_or bytes i 0 ≡ byte_of (colouring_of n cells) i
+largest-at n cells bytes i small few inside is =
+    ap (λ (l : List ℕ). get_or l i 0) is
+    ∙ byte-at (colouring_of MAX_LINES cells) i (omega (arith, few, inside))
+    ∙ byte_same (colouring_of MAX_LINES cells) (colouring_of n cells) i
     (λ k first last. colouring-at MAX_LINES cells k (omega (arith, few, inside, last)) ∙ sym (colouring-at n cells k (omega (arith, inside, last))))

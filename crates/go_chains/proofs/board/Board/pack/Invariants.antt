@@ -1,4 +1,4 @@
-use Rattle.std.proofs.Common.{◌≡◌, ◌≤◌, ◌<◌, ℕ, length, slice_index_or}
+use Rattle.std.proofs.Common.{◌≡◌, ◌<◌, ℕ, length, slice_index_or}
 use Rattle.go_board.specs.declared.pack.TheConstants.{PACK_BYTES}
 use Rattle.go_board.specs.PackBytes.{bytes_of}
 use Rattle.go_board.specs.Packs.{byte_of}
@@ -9,5 +9,4 @@ abbrev pub invariant-loop-place : goal.invariant-loop-place
 invariant-loop-place l = record {
   whole : length (bytes_of l.packed) ≡ PACK_BYTES;
   done : (k : ℕ) → k < l.place → slice_index_or (bytes_of l.packed) k 0 ≡ byte_of (grid_of l.self) k;
-  rest : (k : ℕ) → l.place ≤ k → k < PACK_BYTES → slice_index_or (bytes_of l.packed) k 0 ≡ 0;
 }

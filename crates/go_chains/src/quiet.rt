@@ -1,0 +1,231 @@
+//! Stones that take nothing, told without playing them, and the liberties that they have then.
+ghost use Rattle.std.specs.Prelude.{◌≡◌, ◌≢◌, ◌<◌, ◌≤◌, ◌+◌, ◌*◌, ◌⊎◌, ◌↔◌, ℕ, Bool, List, IsTrue, filter, length, nat_eq};
+ghost use Rattle.go_board.specs.declared.size.TheConstants.{MAX_POINTS};
+ghost use Rattle.go_chains.specs.declared.cells.TheConstants.{WORDS};
+ghost use Rattle.go_board.specs.Reaching.{points};
+ghost use Rattle.go_chains.specs.Cells.{code_at, label_of, lib_of, word_of};
+ghost use Rattle.go_chains.specs.Sound.{IsKept};
+ghost use Rattle.go_chains.specs.inner.Beside.{AreBeside};
+ghost use Rattle.go_chains.specs.inner.Quiet.{HasOther, IsLent, IsOutlook, IsQuiet};
+ghost use Rattle.go_chains.specs.inner.Words.{free_in_word};
+ghost use Rattle.go_chains.specs.inner.Writes.{mask_bit};
+
+use crate::cells::{Cells, LABELS, word_place, words_of};
+use crate::masks::{mask_but, mask_of};
+use crate::occupy::{Words, empty_of};
+use go_board::{Meter, Size};
+
+/// What a stone on an empty point means for a point beside it.
+#[derive(Clone, Copy)]
+pub(crate) enum Outlook {
+    /// A chain that it may take.
+    Taken,
+    /// Nothing that it takes.
+    Stays,
+    /// Nothing that it takes, and a liberty for it.
+    Breathes,
+}
+
+/// Whether one word of a label has the bit of one of the first so many points but this one.
+fn has_other_in(
+    cells: &Cells,
+    meter: &mut Meter,
+    points: usize,
+    label: usize,
+    word: usize,
+    point: usize,
+) -> bool
+    requires points { points ≤ MAX_POINTS }
+    requires label { label < MAX_POINTS }
+    requires word { word < WORDS }
+    ensures some { IsTrue result
+        → (q : ℕ) × (q < points) × (q ≢ point) × (lib_of cells.now.numbers label q ≡ 1) }
+    ensures count { meter.new ≡ meter.old + 1 }
+{
+    cells.get(word_place(label, word), meter) & mask_but(points, word, point) != 0
+}
+
+/// Whether a label has a liberty but this point. Liberties are mostly close by, so the word with the
+/// bit of the point is looked at first. It may overlook none.
+fn has_other(cells: &Cells, meter: &mut Meter, size: Size, label: usize, point: usize) -> bool
+    requires label { label < MAX_POINTS }
+    requires point { point < size * size }
+    ensures some { IsTrue result → HasOther size cells.now.numbers point label }
+    ensures count { meter.new ≤ meter.old + (WORDS + 1) }
+    ensures onward { meter.old ≤ meter.new }
+{
+    let points = usize::from(size.points());
+    if has_other_in(cells, meter, points, label, point / 64, point) {
+        return true;
+    }
+    for word in 0..words_of(size) {
+        if has_other_in(cells, meter, points, label, word, point) {
+            return true;
+        }
+    }
+    false
+}
+
+/// What a stone of the colour with this code on an empty point means for a point beside it.
+fn outlook_on(
+    cells: &Cells,
+    meter: &mut Meter,
+    size: Size,
+    own: u64,
+    point: usize,
+    near: usize,
+) -> Outlook
+    requires kept { IsKept size cells.now.numbers }
+    requires point { point < size * size }
+    requires near { near < size * size }
+    ensures outlook { IsOutlook size cells.now.numbers point own near result }
+    ensures count { meter.new ≤ meter.old + (WORDS + 3) }
+    ensures onward { meter.old ≤ meter.new }
+{
+    let code = cells.get(near, meter);
+    if code == 0 {
+        return Outlook::Breathes;
+    }
+    let label = cells.get(LABELS + near, meter) as usize;
+    let lives = has_other(cells, meter, size, label, point);
+    if code == own {
+        return if lives {
+            Outlook::Breathes
+        } else {
+            Outlook::Stays
+        };
+    }
+    if lives {
+        Outlook::Stays
+    } else {
+        Outlook::Taken
+    }
+}
+
+/// Whether a stone of the colour with this code on an empty point takes nothing, itself included, as
+/// its neighbours show: none of them is a chain of the other colour without another liberty, and one
+/// of them lends it a liberty.
+pub(crate) fn is_quiet(
+    cells: &Cells,
+    meter: &mut Meter,
+    size: Size,
+    own: u64,
+    point: usize,
+    beside: &[usize],
+) -> bool
+    requires kept { IsKept size cells.now.numbers }
+    requires point { point < size * size }
+    requires beside { AreBeside size point beside.now }
+    ensures quiet { IsTrue result → IsQuiet size cells.now.numbers point own }
+    ensures count { meter.new ≤ meter.old + 4 * (WORDS + 3) }
+    ensures onward { meter.old ≤ meter.new }
+{
+    let mut breathes = false;
+    for near in beside {
+        match outlook_on(cells, meter, size, own, point, *near) {
+            Outlook::Taken => return false,
+            Outlook::Stays => {}
+            Outlook::Breathes => breathes = true,
+        }
+    }
+    breathes
+}
+
+/// Adds a label's liberties to words.
+fn add_liberties(cells: &Cells, meter: &mut Meter, size: Size, label: usize, words: &mut Words)
+    requires label { label < MAX_POINTS }
+    requires words { length words.old ≡ WORDS }
+    ensures added { (q : ℕ) → q < size * size → (mask_bit words.new q ≡ 1)
+        ↔ ((mask_bit words.old q ≡ 1) ⊎ (lib_of cells.now.numbers label q ≡ 1)) }
+    ensures words { length words.new ≡ WORDS }
+    ensures count { meter.new ≤ meter.old + WORDS }
+    ensures onward { meter.old ≤ meter.new }
+{
+    for word in 0..words_of(size) {
+        words[word] |= cells.get(word_place(label, word), meter);
+    }
+}
+
+/// Adds the liberties of the stone on a point, if it has the colour with this code.
+fn add_own(cells: &Cells, meter: &mut Meter, size: Size, own: u64, near: usize, words: &mut Words)
+    requires kept { IsKept size cells.now.numbers }
+    requires own { 0 < own }
+    requires near { near < size * size }
+    requires words { length words.old ≡ WORDS }
+    ensures added { (q : ℕ) → q < size * size → (mask_bit words.new q ≡ 1)
+        ↔ ((mask_bit words.old q ≡ 1) ⊎ ((code_at cells.now.numbers near ≡ own)
+        × (lib_of cells.now.numbers (label_of cells.now.numbers near) q ≡ 1))) }
+    ensures words { length words.new ≡ WORDS }
+    ensures count { meter.new ≤ meter.old + (WORDS + 2) }
+    ensures onward { meter.old ≤ meter.new }
+{
+    if cells.get(near, meter) != own {
+        return;
+    }
+    let label = cells.get(LABELS + near, meter) as usize;
+    add_liberties(cells, meter, size, label, words);
+}
+
+/// Takes a point out of words.
+fn leave_out(words: &mut Words, point: usize)
+    requires point { point < MAX_POINTS }
+    requires words { length words.old ≡ WORDS }
+    ensures left { (q : ℕ) → (mask_bit words.new q ≡ 1)
+        ↔ ((q ≢ point) × (mask_bit words.old q ≡ 1)) }
+    ensures words { length words.new ≡ WORDS }
+{
+    words[point / 64] &= !(1 << (point % 64));
+}
+
+/// The points but this one that are empty beside it, or liberties of a chain of the colour with this
+/// code beside it.
+pub(crate) fn lent_to(
+    cells: &Cells,
+    meter: &mut Meter,
+    size: Size,
+    own: u64,
+    point: usize,
+    beside: &[usize],
+) -> Words
+    requires kept { IsKept size cells.now.numbers }
+    requires own { 0 < own }
+    requires point { point < size * size }
+    requires beside { AreBeside size point beside.now }
+    ensures lent { (q : ℕ) → q < size * size → (mask_bit result q ≡ 1)
+        ↔ ((q ≢ point) × IsLent size cells.now.numbers point own q) }
+    ensures words { length result ≡ WORDS }
+    ensures count { meter.new ≤ meter.old + 4 * (WORDS + 3) }
+    ensures onward { meter.old ≤ meter.new }
+{
+    let mut words = empty_of(cells, meter, beside);
+    for near in beside {
+        add_own(cells, meter, size, own, *near, &mut words);
+    }
+    leave_out(&mut words, point);
+    words
+}
+
+/// How many bits of a word stand for one of the first so many points.
+fn count_in(bits: u64, points: usize, word: usize) -> u16
+    requires points { points ≤ MAX_POINTS }
+    requires word { word < WORDS }
+    ensures counted { (cells : List ℕ) (label : ℕ) → bits ≡ word_of cells label word
+        → result ≡ free_in_word cells points label word }
+    ensures few { result ≤ 64 }
+{
+    (bits & mask_of(points, word)).count_ones() as u16
+}
+
+/// How many points of the board are in words: as many as pass a test that tells just those.
+pub(crate) fn count_points(words: &Words, size: Size) -> u16
+    requires { length words.now ≡ WORDS }
+    ensures { (test : ℕ → Bool) → ((q : ℕ) → q < size * size
+        → nat_eq (mask_bit words.now q) 1 ≡ test q) → result ≡ length (filter test (points size)) }
+{
+    let points = usize::from(size.points());
+    let mut count = 0;
+    for word in 0..words_of(size) {
+        count += count_in(words[word], points, word);
+    }
+    count
+}
