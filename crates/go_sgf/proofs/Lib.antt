@@ -1,3 +1,4 @@
+pub mod Lanes
 pub mod Scanning
 pub mod Machine
 pub mod Parts

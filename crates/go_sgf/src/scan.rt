@@ -1,12 +1,14 @@
-ghost use Rattle.std.specs.Prelude.{◌≡◌, ◌≢◌, ◌≤◌, ◌∷◌, ◌++◌, ◌||◌, ◌==◌, ℕ, IfNone, IfSome, None, false, length, true};
+ghost use Rattle.std.specs.Prelude.{◌≡◌, ◌≢◌, ◌≤◌, ◌∷◌, ◌++◌, ◌||◌, ◌==◌, ℕ, IfNone, IfSome, None, Some, false, length, map, true};
 ghost use Rattle.std.specs.List.{list_all, list_any};
-ghost use Rattle.memchr.specs.Find.{IsFirstByte, is_byte2};
+ghost use Rattle.std.specs.Simd.Lanes.{mask_l};
+ghost use Rattle.memchr.specs.Find.{IsFirst, IsFirstByte, Passes, is_byte2};
 ghost use Rattle.go_sgf.specs.inner.Reads.{is_letter_first, is_ordinary};
 ghost use Rattle.go_sgf.specs.inner.Tidied.{behind_from, is_left_out_byte, is_left_out_first, tidied_from};
 ghost use Rattle.go_sgf.specs.Record.{is_letter_byte, is_upper_byte};
 ghost use Rattle.go_sgf.specs.Spelling.{without_space, is_tree_first, is_first, tree_in, is_space};
 
 use memchr::memchr2;
+use std::simd::prelude::*;
 
 /// Whether a byte is white space: space, HT, LF, VT, FF or CR.
 pub(crate) fn is_white(byte: u8) -> bool
@@ -166,22 +168,72 @@ fn is_stop(byte: u8) -> bool
     byte == b']' || byte == b'\\'
 }
 
-/// How many bytes are looked at one by one. Most values have fewer, and have ended before a search
-/// over many bytes at once has begun.
-const NEAR: usize = 16;
+/// How many bytes are looked at at once.
+const LANES: usize = 16;
+
+/// How many times so many are looked at here. A search over a longer text begins slowly, and most
+/// values have ended before it has begun.
+const BLOCKS: usize = 4;
+
+/// Which of the bytes are `]` or `\`, as bits.
+#[inline]
+fn stops(bytes: u8x16) -> u64
+    ensures { result ≡ mask_l (map (is_byte2 93 92) bytes) }
+{
+    (bytes.simd_eq(u8x16::splat(b']')) | bytes.simd_eq(u8x16::splat(b'\\'))).to_bitmask()
+}
+
+/// The place of the first `]` or `\`, where it is near.
+#[inline]
+fn near_stop(bytes: &[u8]) -> Option<usize>
+    ensures { IfSome result (λ place. IsFirstByte (is_byte2 93 92) bytes.now (Some place)) }
+{
+    for block in 0..BLOCKS {
+        let from = block * LANES;
+        if bytes.len() - from < LANES {
+            return last_stop(bytes, from);
+        }
+        let found = stops(u8x16::from_slice(&bytes[from..]));
+        if found != 0 {
+            return Some(from + found.trailing_zeros() as usize);
+        }
+    }
+    None
+}
+
+/// The place of the first `]` or `\` from a place on.
+fn last_stop(bytes: &[u8], from: usize) -> Option<usize>
+    ensures { IsFirst (Passes (is_byte2 93 92) bytes.now) from (length bytes.now) result }
+{
+    for place in from..bytes.len() {
+        if is_stop(bytes[place]) {
+            return Some(place);
+        }
+    }
+    None
+}
 
 /// What stands before the first `]`, and what follows it, where it is near and no `\` comes first.
+#[inline]
 pub(crate) fn near_bracket(bytes: &[u8]) -> Option<(&[u8], &[u8])>
     ensures whole { IfSome result (λ r. bytes.now ≡ r.0.now ++ (93 ∷ r.1.now)) }
     ensures front { IfSome result (λ r. list_all is_ordinary r.0.now ≡ true) }
 {
-    for place in 0..bytes.len().min(NEAR) {
-        if is_stop(bytes[place]) {
-            let (front, rest) = bytes.split_at(place);
-            return Some((front, strip(rest, b']')?));
-        }
+    let place = near_stop(bytes)?;
+    if bytes[place] != b']' {
+        return None;
     }
-    None
+    Some((bytes.split_at(place).0, bytes.split_at(place + 1).1))
+}
+
+/// The place of the first `]` or `\`.
+fn first_stop(bytes: &[u8]) -> Option<usize>
+    ensures { IsFirstByte (is_byte2 93 92) bytes.now result }
+{
+    match near_stop(bytes) {
+        Some(place) => Some(place),
+        None => memchr2(b']', b'\\', bytes),
+    }
 }
 
 /// What stands before the first `]` or `\`, that byte, and what follows it.
@@ -191,7 +243,7 @@ pub(crate) fn ordinary(bytes: &[u8]) -> Option<(&[u8], u8, &[u8])>
     ensures stopped { IfSome result (λ r. is_ordinary r.1 ≡ false) }
     ensures none { IfNone result (list_all is_ordinary bytes.now ≡ true) }
 {
-    let place = memchr2(b']', b'\\', bytes)?;
+    let place = first_stop(bytes)?;
     let (front, rest) = bytes.split_at(place);
     match rest.split_first() {
         Some((byte, more)) => Some((front, *byte, more)),

@@ -1,5 +1,0 @@
-use Rattle.memchr.specs.Find.{Nowhere, Passes, is_byte2}
-use Rattle.go_sgf.proofs.scan.near_bracket.Given as goal
-
-abbrev pub invariant-loop-place : goal.invariant-loop-place
-invariant-loop-place l = Nowhere (Passes (is_byte2 93 92) l.bytes) 0 l.place
