@@ -1,6 +1,6 @@
 -- What is written of a tree's text, byte by byte and part by part, and what follows the tree.
 use Rattle.std.proofs.Common.{◌≡◌, ◌≢◌, ◌==◌, ◌-◌, ◌+◌, not, ℕ, zero, suc, List, [], ◌∷◌, ◌++◌, Bool, true, false, Option, Some, None, refl, sym, ap, subst, ◌∙◌, map, append_assoc, inl, inr, arith}
-use Rattle.std.proofs.lemmas.Bool.{and_parts, cases_Bool}
+use Rattle.std.proofs.lemmas.Bool.{and_parts, cases_Bool, eq-eqb, true≢false}
 use Rattle.std.proofs.lemmas.Bool.Decides.{nat_tests}
 use Rattle.std.proofs.lemmas.List.{append-nil}
 use Rattle.std.specs.List.{filter, flat_map, list_all, AllByRecursion}
@@ -203,6 +203,21 @@ other_stays (suc d) c more some left_out bracket opening' closing' =
     let o : (c == 40) ≡ false = grind (arith, nat_tests) in
     let k : (c == 41) ≡ false = grind (arith, nat_tests) in
     stays None (suc d) (suc d) (c ∷ more) more (c ∷ []) refl (other_given d c more left_out b o k)
+
+pub semicolon_stays : (d c : ℕ) (more : List ℕ) → d ≢ 0 → c ≡ 59 → StaysTo None d (c ∷ more) d more
+semicolon_stays zero c more some e = absurd (some refl)
+semicolon_stays (suc d) c more some e = rw e (stays None (suc d) (suc d) (59 ∷ more) more (59 ∷ []) refl (given_byte None d 59 more))
+
+pub upper_stays : (d c : ℕ) (more : List ℕ) → d ≢ 0 → is_upper_byte c ≡ true → StaysTo None d (c ∷ more) d more
+upper_stays d c more some e =
+    let left_out : is_left_out_byte c ≡ false = grind (arith, nat_tests) in
+    let b : (c == 91) ≡ false = grind (arith, nat_tests) in
+    let o : (c == 40) ≡ false = grind (arith, nat_tests) in
+    let k : (c == 41) ≡ false = grind (arith, nat_tests) in
+    let bracket : c ≢ 91 = λ is. true≢false (sym (eq-eqb c 91 is) ∙ b) in
+    let opening' : c ≢ 40 = λ is. true≢false (sym (eq-eqb c 40 is) ∙ o) in
+    let closing' : c ≢ 41 = λ is. true≢false (sym (eq-eqb c 41 is) ∙ k) in
+    other_stays d c more some left_out bracket opening' closing'
 
 -- ---- what is left out
 

@@ -14,7 +14,7 @@ use std::simd::prelude::*;
 pub(crate) fn is_white(byte: u8) -> bool
     ensures { result ≡ is_space byte }
 {
-    byte == b' ' || (9 <= byte && byte <= 13)
+    byte <= b' ' && (byte == b' ' || (9 <= byte && byte <= 13))
 }
 
 fn is_letter(byte: u8) -> bool
@@ -171,8 +171,7 @@ fn is_stop(byte: u8) -> bool
 /// How many bytes are looked at at once.
 const LANES: usize = 16;
 
-/// How many times so many are looked at here. A search over a longer text begins slowly, and most
-/// values have ended before it has begun.
+/// How many times so many are looked at before a search over a longer text, which begins slowly.
 const BLOCKS: usize = 4;
 
 /// Which of the bytes are `]` or `\`, as bits.
@@ -183,12 +182,12 @@ fn stops(bytes: u8x16) -> u64
     (bytes.simd_eq(u8x16::splat(b']')) | bytes.simd_eq(u8x16::splat(b'\\'))).to_bitmask()
 }
 
-/// The place of the first `]` or `\`, where it is near.
+/// The place of the first `]` or `\`, where it is within so many blocks.
 #[inline]
-fn near_stop(bytes: &[u8]) -> Option<usize>
+fn near_stop(bytes: &[u8], blocks: usize) -> Option<usize>
     ensures { IfSome result (λ place. IsFirstByte (is_byte2 93 92) bytes.now (Some place)) }
 {
-    for block in 0..BLOCKS {
+    for block in 0..blocks {
         let from = block * LANES;
         if bytes.len() - from < LANES {
             return last_stop(bytes, from);
@@ -202,6 +201,7 @@ fn near_stop(bytes: &[u8]) -> Option<usize>
 }
 
 /// The place of the first `]` or `\` from a place on.
+#[inline(never)]
 fn last_stop(bytes: &[u8], from: usize) -> Option<usize>
     ensures { IsFirst (Passes (is_byte2 93 92) bytes.now) from (length bytes.now) result }
 {
@@ -219,7 +219,7 @@ pub(crate) fn near_bracket(bytes: &[u8]) -> Option<(&[u8], &[u8])>
     ensures whole { IfSome result (λ r. bytes.now ≡ r.0.now ++ (93 ∷ r.1.now)) }
     ensures front { IfSome result (λ r. list_all is_ordinary r.0.now ≡ true) }
 {
-    let place = near_stop(bytes)?;
+    let place = near_stop(bytes, 1)?;
     if bytes[place] != b']' {
         return None;
     }
@@ -230,7 +230,7 @@ pub(crate) fn near_bracket(bytes: &[u8]) -> Option<(&[u8], &[u8])>
 fn first_stop(bytes: &[u8]) -> Option<usize>
     ensures { IsFirstByte (is_byte2 93 92) bytes.now result }
 {
-    match near_stop(bytes) {
+    match near_stop(bytes, BLOCKS) {
         Some(place) => Some(place),
         None => memchr2(b']', b'\\', bytes),
     }

@@ -9,6 +9,7 @@ ghost use Rattle.go_sgf.specs.Stands.{in_value};
 use crate::scan::{near_bracket, ordinary};
 
 /// A value from behind its `[`, and what follows its `]`; none where the value has no end.
+#[inline]
 pub(crate) fn value(bytes: &[u8]) -> Option<(&[u8], &[u8])>
     ensures inside { IfSome result (λ v. IsValue v.0.now) }
     ensures whole { IfSome result (λ v. bytes.now ≡ v.0.now ++ (93 ∷ v.1.now)) }
@@ -23,6 +24,7 @@ pub(crate) fn value(bytes: &[u8]) -> Option<(&[u8], &[u8])>
 }
 
 /// The same, of a value of any length.
+#[inline(never)]
 fn any_value(bytes: &[u8]) -> Option<(&[u8], &[u8])>
     ensures inside { IfSome result (λ v. IsValue v.0.now) }
     ensures whole { IfSome result (λ v. bytes.now ≡ v.0.now ++ (93 ∷ v.1.now)) }

@@ -1,7 +1,7 @@
 ghost use Rattle.std.specs.Prelude.{◌≡◌, ◌≢◌, ◌≤◌, ◌<◌, ◌+◌, ◌^◌, ◌++◌, ℕ, [], IfNone, IfSome, Some, None, false, length};
 ghost use Rattle.go_sgf.specs.inner.Tidied.{StaysTo, behind_from, is_left_out_first, tidied_from};
 
-use crate::scan::is_left_out;
+use crate::scan::{is_left_out, is_upper};
 use crate::values::value;
 
 /// What stands at the front of a tree's text just as it is written, what follows that, and how many
@@ -33,6 +33,7 @@ pub(crate) fn verbatim(text: &[u8], depth: usize) -> Option<(&[u8], &[u8], usize
 }
 
 /// What follows a byte that is written, or a whole value, and how many trees are open there.
+#[inline]
 fn behind_next(text: &[u8], depth: usize) -> Option<(&[u8], usize)>
     requires { depth + length text.now ≤ 2 ^ 63 }
     ensures stays { IfSome result (λ r. StaysTo None depth text.now r.1 r.0.now) }
@@ -42,11 +43,20 @@ fn behind_next(text: &[u8], depth: usize) -> Option<(&[u8], usize)>
         (is_left_out_first text.now ≡ false → depth ≢ 0 → text.now ≡ []) }
 {
     let (byte, more) = text.split_first()?;
-    if depth == 0 || is_left_out(*byte) {
+    if depth == 0 {
+        return None;
+    }
+    // Most bytes are of these, so they are told first.
+    if *byte == b'[' {
+        return Some((behind_value(more), depth));
+    }
+    if *byte == b';' || is_upper(*byte) {
+        return Some((more, depth));
+    }
+    if is_left_out(*byte) {
         return None;
     }
     match *byte {
-        b'[' => Some((behind_value(more), depth)),
         b'(' => Some((more, depth + 1)),
         b')' => Some((more, depth - 1)),
         _ => Some((more, depth)),
@@ -54,6 +64,7 @@ fn behind_next(text: &[u8], depth: usize) -> Option<(&[u8], usize)>
 }
 
 /// What follows a value from behind its `[` on; nothing where it has no end.
+#[inline]
 fn behind_value(text: &[u8]) -> &[u8]
     ensures stays { (d : ℕ) → d ≢ 0 → StaysTo (Some false) d text.now d result.now }
     ensures shorter { length result.now ≤ length text.now }
