@@ -1,7 +1,8 @@
 -- What stands inside of a value.
-use Rattle.std.proofs.Common.{◌≡◌, ◌≤◌, ◌+◌, ◌==◌, ◌≢◌, inl, inr, ℕ, List, [], ◌∷◌, ◌++◌, Bool, true, false, not, refl, sym, ap, subst, ◌∙◌, length, take, drop, append_assoc, length-append, eqb-true, arith}
+use Rattle.std.proofs.Common.{◌≡◌, ◌<◌, ◌≤◌, ◌+◌, ◌==◌, ◌≢◌, inl, inr, ℕ, List, [], ◌∷◌, ◌++◌, Bool, true, false, not, refl, sym, ap, subst, ◌∙◌, length, take, drop, get_or, append_assoc, length-append, eqb-true, arith}
 use Rattle.std.proofs.lemmas.Bool.{and_parts, not-true, not-false, or_parts, or_cases}
 use Rattle.std.proofs.lemmas.List.{take-append-drop, take_at, length-take-le}
+use Rattle.std.proofs.Math.Seq.{get_or-append_seam}
 use Rattle.std.specs.List.{list_all}
 use Rattle.go_sgf.specs.Record.{is_inside, IsValue}
 use Rattle.go_sgf.specs.inner.Reads.{is_ordinary}
@@ -38,6 +39,17 @@ split_further n b front rest h e =
     let front_is : take (n + length front) b ≡ take n b ++ front =
     ap (take (n + length front)) whole ∙ take_at (take n b ++ front) rest (n + length front) long in
     (front_is, whole ∙ ap (λ xs. xs ++ rest) (sym front_is))
+
+-- the byte behind what stands there
+pub byte_at : (n : ℕ) (b front : List ℕ) (c : ℕ) (more : List ℕ) → n ≤ length b → drop n b ≡ front ++ (c ∷ more) →
+    (n + length front < length b) × (get_or b (n + length front) 0 ≡ c)
+byte_at n b front c more h e =
+    let split = split_further n b front (c ∷ more) h e in
+    let long : length (take (n + length front) b) ≡ n + length front =
+    ap length split.0 ∙ length-append (take n b) front ∙ ap (λ k. k + length front) (length-take-le n b h) in
+    let less : n + length front < length b = omega (arith, ap length split.1, length-append (take (n + length front) b) (c ∷ more), long) in
+    let front_is : List ℕ = take (n + length front) b in
+    (less, ap (λ xs. get_or xs (n + length front) 0) split.1 ∙ ap (λ k. get_or (front_is ++ (c ∷ more)) k 0) (sym long) ∙ get_or-append_seam front_is c more 0)
 
 -- the byte where a search for `]` and `\` stops
 pub stop_is_escape : (c : ℕ) → is_ordinary c ≡ false → c ≢ 93 → c ≡ 92

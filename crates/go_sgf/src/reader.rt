@@ -14,9 +14,7 @@ use crate::keep::{Keep, Lists, Nothing};
 use crate::limits::{MAX_DEPTH, MAX_RECORD};
 use crate::nodes::{self, Node, Sequence};
 use crate::record::{Collection, Tree};
-use crate::scan::{
-    after_space, begins_letter, begins_with, from_tree, has_upper, letters, strip, strip_tree,
-};
+use crate::scan::{after_space, begins_letter, begins_with, from_tree, name_at, strip, strip_tree};
 use crate::values::value;
 use std::alloc::{AllocError, Allocator};
 
@@ -83,8 +81,8 @@ fn property<'a, K: Keep>(
         (outcome MAX_DEPTH in_node d bytes.now) (λ rest. outcome MAX_DEPTH in_node d rest.now) }
     ensures memory { IsErrOf result Fault.Memory → K.keeps }
 {
-    let (name, behind) = letters(bytes);
-    if !has_upper(name) {
+    let (name, behind, is_name) = name_at(bytes);
+    if !is_name {
         return Err(unexpected(behind));
     }
     let mut own = Few::new();

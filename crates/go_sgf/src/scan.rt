@@ -1,8 +1,8 @@
-ghost use Rattle.std.specs.Prelude.{◌≡◌, ◌≢◌, ◌≤◌, ◌∷◌, ◌++◌, ◌||◌, ◌==◌, ℕ, IfNone, IfSome, None, Some, false, length, map, true};
+ghost use Rattle.std.specs.Prelude.{◌≡◌, ◌≢◌, ◌≤◌, ◌∷◌, ◌++◌, ◌||◌, ◌==◌, ℕ, IfNone, IfSome, None, Some, false, length, map, take, true};
 ghost use Rattle.std.specs.List.{list_all, list_any};
 ghost use Rattle.std.specs.Simd.Lanes.{mask_l};
 ghost use Rattle.memchr.specs.Find.{IsFirst, IsFirstByte, Passes, is_byte2};
-ghost use Rattle.go_sgf.specs.inner.Reads.{is_letter_first, is_ordinary};
+ghost use Rattle.go_sgf.specs.inner.Reads.{IsBracketAt, is_letter_first, is_ordinary};
 ghost use Rattle.go_sgf.specs.inner.Tidied.{behind_from, is_left_out_byte, is_left_out_first, tidied_from};
 ghost use Rattle.go_sgf.specs.Record.{is_letter_byte, is_upper_byte};
 ghost use Rattle.go_sgf.specs.Spelling.{without_space, is_tree_first, is_first, tree_in, is_space};
@@ -31,7 +31,7 @@ pub(crate) fn is_upper(byte: u8) -> bool
 }
 
 /// Whether one of the bytes is an upper-case letter.
-pub(crate) fn has_upper(bytes: &[u8]) -> bool
+fn has_upper(bytes: &[u8]) -> bool
     ensures { result ≡ list_any is_upper_byte bytes.now }
 {
     bytes.iter().any(|byte| is_upper(*byte))
@@ -110,7 +110,7 @@ pub(crate) fn strip(bytes: &[u8], byte: u8) -> Option<&[u8]>
 }
 
 /// The letters at the front, and what follows them.
-pub(crate) fn letters(bytes: &[u8]) -> (&[u8], &[u8])
+fn letters(bytes: &[u8]) -> (&[u8], &[u8])
     ensures whole { bytes.now ≡ result.0.now ++ result.1.now }
     ensures letters { list_all is_letter_byte result.0.now ≡ true }
     ensures stopped { is_letter_first result.1.now ≡ false }
@@ -121,6 +121,24 @@ pub(crate) fn letters(bytes: &[u8]) -> (&[u8], &[u8])
         }
     }
     (bytes, &[])
+}
+
+/// The letters at the front, what follows them, and whether one of them is an upper-case letter.
+#[inline]
+pub(crate) fn name_at(bytes: &[u8]) -> (&[u8], &[u8], bool)
+    ensures whole { bytes.now ≡ result.0.now ++ result.1.now }
+    ensures letters { list_all is_letter_byte result.0.now ≡ true }
+    ensures upper { result.2 ≡ list_any is_upper_byte result.0.now }
+    ensures stopped { is_letter_first result.1.now ≡ false }
+{
+    // Most names have one letter.
+    if let Some((first, behind)) = bytes.split_first() {
+        if is_upper(*first) && begins_with(behind, b'[') {
+            return (bytes.split_at(1).0, behind, true);
+        }
+    }
+    let (name, behind) = letters(bytes);
+    (name, behind, has_upper(name))
 }
 
 /// Whether a tree begins here: `(`, and `;` behind it, white space aside.
@@ -213,17 +231,19 @@ fn last_stop(bytes: &[u8], from: usize) -> Option<usize>
     None
 }
 
-/// What stands before the first `]`, and what follows it, where it is near and no `\` comes first.
+/// The place of the first `]`, where it is near and no `\` comes first.
 #[inline]
-pub(crate) fn near_bracket(bytes: &[u8]) -> Option<(&[u8], &[u8])>
-    ensures whole { IfSome result (λ r. bytes.now ≡ r.0.now ++ (93 ∷ r.1.now)) }
-    ensures front { IfSome result (λ r. list_all is_ordinary r.0.now ≡ true) }
+pub(crate) fn near_bracket(bytes: &[u8]) -> Option<usize>
+    ensures bracket { IfSome result (λ place. IsBracketAt bytes.now place) }
+    ensures front { IfSome result
+        (λ place. list_all is_ordinary (take place bytes.now) ≡ true) }
 {
     let place = near_stop(bytes, 1)?;
-    if bytes[place] != b']' {
-        return None;
+    if bytes[place] == b']' {
+        Some(place)
+    } else {
+        None
     }
-    Some((bytes.split_at(place).0, bytes.split_at(place + 1).1))
 }
 
 /// The place of the first `]` or `\`.

@@ -1,4 +1,5 @@
-ghost use Rattle.std.specs.Prelude.{◌≡◌, ◌∷◌, ◌++◌, ℕ, Err, IfNone, IfSome};
+ghost use Rattle.std.specs.Prelude.{◌≡◌, ◌∷◌, ◌++◌, ℕ, Err, IfNone, IfSome, take};
+ghost use Rattle.go_sgf.specs.inner.Reads.{IsBracketAt};
 ghost use Rattle.go_sgf.specs.declared.error.Fault.TheVariants.{End};
 ghost use Rattle.go_sgf.specs.declared.limits.TheConstants.{MAX_DEPTH};
 ghost use Rattle.go_sgf.specs.inner.Outcome.{IsWithin, outcome};
@@ -17,17 +18,32 @@ pub(crate) fn value(bytes: &[u8]) -> Option<(&[u8], &[u8])>
         → outcome MAX_DEPTH in_value d bytes.now ≡ Err End) }
     ensures unended { IfNone result (NeverEnds bytes.now) }
 {
+    match value_end(bytes) {
+        Some(place) => Some((bytes.split_at(place).0, bytes.split_at(place + 1).1)),
+        None => None,
+    }
+}
+
+/// The place of a value's `]`, from behind its `[`; none where the value has no end.
+#[inline]
+fn value_end(bytes: &[u8]) -> Option<usize>
+    ensures inside { IfSome result (λ place. IsValue (take place bytes.now)) }
+    ensures bracket { IfSome result (λ place. IsBracketAt bytes.now place) }
+    ensures none { IfNone result ((d : ℕ) → IsWithin MAX_DEPTH d
+        → outcome MAX_DEPTH in_value d bytes.now ≡ Err End) }
+    ensures unended { IfNone result (NeverEnds bytes.now) }
+{
     match near_bracket(bytes) {
-        Some(short) => Some(short),
-        None => any_value(bytes),
+        Some(place) => Some(place),
+        None => far_end(bytes),
     }
 }
 
 /// The same, of a value of any length.
 #[inline(never)]
-fn any_value(bytes: &[u8]) -> Option<(&[u8], &[u8])>
-    ensures inside { IfSome result (λ v. IsValue v.0.now) }
-    ensures whole { IfSome result (λ v. bytes.now ≡ v.0.now ++ (93 ∷ v.1.now)) }
+fn far_end(bytes: &[u8]) -> Option<usize>
+    ensures inside { IfSome result (λ place. IsValue (take place bytes.now)) }
+    ensures bracket { IfSome result (λ place. IsBracketAt bytes.now place) }
     ensures none { IfNone result ((d : ℕ) → IsWithin MAX_DEPTH d
         → outcome MAX_DEPTH in_value d bytes.now ≡ Err End) }
     ensures unended { IfNone result (NeverEnds bytes.now) }
@@ -36,7 +52,7 @@ fn any_value(bytes: &[u8]) -> Option<(&[u8], &[u8])>
     while let Some((front, byte, more)) = ordinary(bytes.split_at(read).1) {
         let place = read + front.len();
         if byte == b']' {
-            return Some((bytes.split_at(place).0, more));
+            return Some(place);
         }
         if more.is_empty() {
             return None;

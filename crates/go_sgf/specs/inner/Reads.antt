@@ -1,5 +1,5 @@
 -- What the parts of the reader have read, up to the rest. It serves the contracts of private functions alone.
-use Rattle.std.specs.Prelude.{◌≢◌, ◌≤◌, ◌+◌, ◌==◌, ◌||◌, not, Bool, false, ℕ, List, [], ◌∷◌, ◌++◌, map}
+use Rattle.std.specs.Prelude.{◌≡◌, ◌≢◌, ◌<◌, ◌≤◌, ◌+◌, ◌==◌, ◌||◌, not, Bool, false, ℕ, List, [], ◌∷◌, ◌++◌, length, map, slice_index}
 use Rattle.std.specs.List.{flat_map, AllByRecursion}
 use Rattle.go_sgf.specs.Record.{Property, IsValue, IsProperty, AreTrees, depth, TreeValue, is_letter_byte}
 use Rattle.go_sgf.specs.Spelling.{is_space, closing, value_part, SpellsParts, property_parts, node_parts, parts}
@@ -34,6 +34,10 @@ pub record ReadsTree (d : ℕ) (b : List ℕ) (t : TreeValue) (rest : List ℕ) 
 -- neither `]` nor `\`
 abbrev pub is_ordinary : ℕ → Bool
 is_ordinary c = not (c == 93 || c == 92)
+
+-- a `]` stands at this place
+abbrev pub IsBracketAt : List ℕ → ℕ → Type 0
+IsBracketAt b place = (place < length b) × (slice_index b place ≡ 93)
 
 abbrev pub begins_space : List ℕ → Bool
 begins_space [] = false

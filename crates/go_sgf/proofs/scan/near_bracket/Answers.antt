@@ -2,7 +2,6 @@ use Rattle.std.proofs.Common.{arith}
 use Rattle.go_sgf.proofs.Scanning.{ordinary_before}
 use Rattle.go_sgf.proofs.scan.near_bracket.Goals as goal
 
-pub returns-clause-front : goal.returns-clause-front
-returns-clause-front c =
-    rw c.split_at.ensures.front
-    (ordinary_before c.args.bytes.now c.in_ok-place.place (λ k less. c.in_ok-place.ensures.0.before k (omega arith) less))
+pub returns-then-bytes-place-eq93-clause-front : goal.returns-then-bytes-place-eq93-clause-front
+returns-then-bytes-place-eq93-clause-front c =
+    ordinary_before c.args.bytes.now c.in_ok-place.place (λ k less. c.in_ok-place.ensures.0.before k (omega arith) less)

@@ -1,5 +1,4 @@
-use Rattle.go_sgf.proofs.Inside.{ordinary_inside}
 use Rattle.go_sgf.proofs.values.value.Goals as goal
 
 pub returns-in-Some-clause-inside : goal.returns-in-Some-clause-inside
-returns-in-Some-clause-inside c = ordinary_inside c.in-Some.short.0.now c.in-Some.ensures.front
+returns-in-Some-clause-inside c = rw c.split_at.ensures.front c.in-Some.ensures.inside

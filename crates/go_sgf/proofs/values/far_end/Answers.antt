@@ -1,24 +1,23 @@
 use Rattle.std.proofs.Common.{◌≡◌, ◌∷◌, [], sym, subst, take, ◌∙◌, eqb-true}
 use Rattle.std.proofs.lemmas.List.{nil_from_length, take-append-drop}
 use Rattle.go_sgf.specs.declared.limits.TheConstants.{MAX_DEPTH}
-use Rattle.go_sgf.proofs.Inside.{ordinary_on, split_further, stop_is_escape, value_up_to, value_past_escape}
+use Rattle.go_sgf.proofs.Inside.{byte_at, ordinary_on, split_further, stop_is_escape, value_up_to, value_past_escape}
 use Rattle.go_sgf.specs.inner.Tidied.{NeverEnds}
 use Rattle.go_sgf.proofs.Passed.{never_ends, never_ends_escape}
 use Rattle.go_sgf.proofs.Machine.{escape_ends, ordinary_ends}
-use Rattle.go_sgf.proofs.values.any_value.Goals as goal
+use Rattle.go_sgf.proofs.values.far_end.Goals as goal
 
 pub returns-then-byte-eq93-clause-inside : goal.returns-then-byte-eq93-clause-inside
 returns-then-byte-eq93-clause-inside c =
-    rw c.split_at-then-byte-eq93.ensures.front
-    (value_up_to c.loop-front.read c.args.bytes.now c.in-Some.front.now (c.in-Some.byte ∷ c.in-Some.more.now)
+    value_up_to c.loop-front.read c.args.bytes.now c.in-Some.front.now (c.in-Some.byte ∷ c.in-Some.more.now)
     c.loop-front.invariant.within c.loop-front.invariant.inside c.in-Some.ensures.front
-    (sym c.split_at.ensures.back ∙ c.in-Some.ensures.whole))
+    (sym c.split_at.ensures.back ∙ c.in-Some.ensures.whole)
 
-pub returns-then-byte-eq93-clause-whole : goal.returns-then-byte-eq93-clause-whole
-returns-then-byte-eq93-clause-whole c =
-    let split = split_further c.loop-front.read c.args.bytes.now c.in-Some.front.now (c.in-Some.byte ∷ c.in-Some.more.now)
+pub returns-then-byte-eq93-clause-bracket : goal.returns-then-byte-eq93-clause-bracket
+returns-then-byte-eq93-clause-bracket c =
+    let at = byte_at c.loop-front.read c.args.bytes.now c.in-Some.front.now c.in-Some.byte c.in-Some.more.now
     c.loop-front.invariant.within (sym c.split_at.ensures.back ∙ c.in-Some.ensures.whole) in
-    rw (c.split_at-then-byte-eq93.ensures.front, ← c.if-byte-eq93.true) split.1
+    (at.0, at.1 ∙ c.if-byte-eq93.true)
 
 pub returns-then-is_empty-clause-none : goal.returns-then-is_empty-clause-none
 returns-then-is_empty-clause-none c = λ d h.

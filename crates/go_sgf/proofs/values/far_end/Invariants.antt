@@ -1,6 +1,6 @@
 use Rattle.std.proofs.Common.{◌≤◌, ◌-◌, length, take}
 use Rattle.go_sgf.specs.Record.{IsValue}
-use Rattle.go_sgf.proofs.values.any_value.Given as goal
+use Rattle.go_sgf.proofs.values.far_end.Given as goal
 
 abbrev pub invariant-loop-front : goal.invariant-loop-front
 invariant-loop-front l = record {
