@@ -78,6 +78,18 @@ pub(crate) fn after_space(bytes: &[u8]) -> &[u8]
     rest
 }
 
+/// The same, where a `[` is likely to be first.
+#[inline]
+pub(crate) fn to_bracket(bytes: &[u8]) -> &[u8]
+    ensures { result.now ≡ without_space bytes.now }
+{
+    if begins_with(bytes, b'[') {
+        bytes
+    } else {
+        after_space(bytes)
+    }
+}
+
 /// Whether the first byte is this one.
 pub(crate) fn begins_with(bytes: &[u8], byte: u8) -> bool
     ensures { result ≡ is_first byte bytes.now }
