@@ -181,14 +181,15 @@ pub(crate) fn strip_tree(bytes: &[u8]) -> Option<&[u8]>
 pub(crate) fn from_tree(bytes: &[u8]) -> &[u8]
     ensures { result.now ≡ tree_in bytes.now }
 {
-    let mut rest = bytes;
-    while let Some((_, more)) = rest.split_first() {
-        if begins_tree(rest) {
-            return rest;
+    for (place, byte) in bytes.iter().enumerate() {
+        if *byte == b'(' {
+            let (_, rest) = bytes.split_at(place);
+            if begins_tree(rest) {
+                return rest;
+            }
         }
-        rest = more;
     }
-    rest
+    &[]
 }
 
 /// Whether a byte is `]` or `\`.
