@@ -4,3 +4,4 @@ pub mod Counting
 pub mod Playing
 pub mod Taking
 pub mod Placing
+pub mod Quiet

@@ -9,3 +9,4 @@ pub mod Traces
 pub mod Words
 pub mod Parts
 pub mod Codes
+pub mod Quiet

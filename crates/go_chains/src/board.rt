@@ -1,10 +1,12 @@
-ghost use Rattle.std.specs.Prelude.{◌≡◌, ◌<◌, ◌≤◌, ◌+◌, ◌*◌, ◌/◌, ◌++◌, ◌∷◌, ◌↔◌, ℕ, [], List, None, IfNone, IfOk, IfSome, IsErrOf, OnErr, OnOk, length, nat_eq, replicate, slice_index};
+ghost use Rattle.std.specs.Prelude.{◌≡◌, ◌<◌, ◌≤◌, ◌+◌, ◌*◌, ◌/◌, ◌++◌, ◌∷◌, ◌↔◌, ℕ, [], List, None, IfNone, IfOk, IfSome, IsErrOf, IsTrue, OnErr, OnOk, Some, length, nat_eq, replicate, slice_index, slice_set};
 ghost use Rattle.std.specs.Int.{bit_at};
+ghost use Rattle.go_board.specs.Chains.{liberties};
 ghost use Rattle.go_board.specs.Colours.{colour_at, other};
 ghost use Rattle.go_board.specs.PackBytes.{bytes_of};
 ghost use Rattle.go_board.specs.Packs.{byte_of, code_of, packed_of};
 ghost use Rattle.go_board.specs.Points.{IsOn, number_of, point_at};
 ghost use Rattle.go_board.specs.Reaching.{area, moved};
+ghost use Rattle.go_board.specs.Rows.{AreStones};
 ghost use Rattle.go_board.specs.declared.colour.Colour.{Colour};
 ghost use Rattle.go_board.specs.declared.size.TheConstants.{MAX_LINES, MAX_POINTS};
 ghost use Rattle.go_chains.specs.declared.cells.TheConstants.{COUNT, WORDS};
@@ -19,14 +21,17 @@ ghost use Rattle.go_chains.specs.inner.Words.{free_in_word};
 ghost use Rattle.go_board.specs.Grids.{are_joined, chain_liberties, chain_stones, has_liberty, liberty_count, stone_at, stone_count};
 
 use crate::beside::beside;
-use crate::cells::{Cells, LABELS, SIZES, word_place};
+use crate::cells::{Cells, LABELS, SIZES, with_code, word_place};
 use crate::chain_points::{ChainPoints, Part};
 use crate::error::PlaceError;
 use crate::log::{Log, reserve_play, seal};
 use crate::masks::mask_of;
 use crate::place::{ROOM, place};
-use go_board::laws::{bytes_make_a_pack, joined_by_a_path, liberty_by_a_path, points_by_number};
-use go_board::rows::{ROWS, areas_of, with_stone};
+use crate::quiet::{count_points, is_quiet, lent_to};
+use go_board::laws::{
+    bytes_make_a_pack, joined_by_a_path, liberty_by_a_path, points_by_number, reaches_by_a_path,
+};
+use go_board::rows::{ROWS, Stones, areas_of, with_stone};
 use go_board::{Area, Colour, Grid, Meter, PACK_BYTES, Packed, Point, Size, Taken, packed_byte};
 use std::alloc::Allocator;
 use std::marker::Model;
@@ -141,21 +146,35 @@ impl Board {
         stones
     }
 
+    /// The stones of both colours, as words of rows.
+    pub fn stones(&self) -> Stones
+        ensures black { AreStones self.now.lines (grid_of self.now) Colour.Black result.black }
+        ensures white { AreStones self.now.lines (grid_of self.now) Colour.White result.white }
+    {
+        let mut stones = Stones {
+            black: [0; ROWS],
+            white: [0; ROWS],
+        };
+        for row in 0..usize::from(self.size().lines()) {
+            let here = self.stones_in(row);
+            stones.black[row] = here.black;
+            stones.white[row] = here.white;
+        }
+        stones
+    }
+
     /// How many points count for each colour: its stones, and the empty points that reach that
     /// colour alone.
     pub fn area(&self) -> Area
         ensures black { result.black ≡ area self.now.lines (grid_of self.now) Colour.Black }
         ensures white { result.white ≡ area self.now.lines (grid_of self.now) Colour.White }
     {
-        let lines = usize::from(self.size().lines());
-        let mut black = [0u32; ROWS];
-        let mut white = [0u32; ROWS];
-        for row in 0..lines {
-            let stones = self.stones_in(row);
-            black[row] = stones.black;
-            white[row] = stones.white;
-        }
-        areas_of(&black, &white, lines)
+        let stones = self.stones();
+        areas_of(
+            &stones.black,
+            &stones.white,
+            usize::from(self.size().lines()),
+        )
     }
 
     /// The colours in two bits a point, as `Grid::pack` has them.
@@ -405,7 +424,7 @@ impl Board {
         ensures own { IfOk result (λ taken. taken.own ≡ went self.old self.new colour p colour) }
         ensures logged { OnOk result (PlayLogged self.old self.new log.old log.new
             (most_at self.old colour p)) }
-        ensures count { meter.new ≤ meter.old + 3 * most_at self.old colour p }
+        ensures count { meter.new + 52 ≤ meter.old + 3 * most_at self.old colour p }
         ensures ticked { (changes : List Change) → log.new ≡ log.old ++ changes ∷ []
             → meter.old + length changes ≤ meter.new }
         ensures onward { meter.old ≤ meter.new }
@@ -434,6 +453,72 @@ impl Board {
         let count = log.changes.len() - before;
         seal(&mut log.lengths, count);
         Ok(taken)
+    }
+
+    /// Whether a stone on an empty point takes nothing, as its neighbours show; it may also say no
+    /// where it takes nothing.
+    pub fn is_quiet(&self, meter: &mut Meter, colour: Colour, p: Point) -> bool
+        requires on { IsOn self.now.lines p }
+        requires empty { HoldsStone self.now p → ⊥ }
+        ensures quiet { IsTrue result → played self.now colour p
+            ≡ slice_set (grid_of self.now) (number_of self.now.lines p) (Some colour) }
+        ensures count { meter.new ≤ meter.old + 52 }
+        ensures onward { meter.old ≤ meter.new }
+    {
+        points_by_number();
+        reaches_by_a_path();
+        let size = self.size();
+        let near = beside(size, p);
+        let point = usize::from(p.index(size));
+        is_quiet(
+            &self.cells,
+            meter,
+            size,
+            colour.code(),
+            point,
+            near.as_slice(),
+        )
+    }
+
+    /// How many liberties the chain of a stone on an empty point has, where it takes nothing.
+    pub fn liberties_with(&self, meter: &mut Meter, colour: Colour, p: Point) -> u16
+        requires on { IsOn self.now.lines p }
+        requires empty { HoldsStone self.now p → ⊥ }
+        ensures liberties { result ≡ length (liberties self.now.lines
+            (slice_set (grid_of self.now) (number_of self.now.lines p) (Some colour))
+            (number_of self.now.lines p)) }
+        ensures count { meter.new ≤ meter.old + 52 }
+        ensures onward { meter.old ≤ meter.new }
+    {
+        points_by_number();
+        liberty_by_a_path();
+        let size = self.size();
+        let near = beside(size, p);
+        let point = usize::from(p.index(size));
+        let words = lent_to(
+            &self.cells,
+            meter,
+            size,
+            colour.code(),
+            point,
+            near.as_slice(),
+        );
+        count_points(&words, size)
+    }
+
+    /// The pack with a stone on an empty point too.
+    pub fn pack_with(&self, colour: Colour, p: Point) -> Packed
+        requires { IsOn self.now.lines p }
+        ensures { bytes_of result ≡ packed_of (slice_set (grid_of self.now)
+            (number_of self.now.lines p) (Some colour)) }
+    {
+        points_by_number();
+        let size = self.size();
+        let point = usize::from(p.index(size));
+        let mut packed = self.pack();
+        let byte = packed.byte(point / 4);
+        packed.set(point / 4, with_code(byte, point % 4, colour.code() as u8));
+        packed
     }
 
     /// Takes back the last play of a log, change by change from the last to the first. It takes no

@@ -122,7 +122,7 @@ fn colour_code(number: u64) -> u8
 }
 
 /// The byte of four codes with another code at one of its places.
-fn with_code(byte: u8, at: usize, code: u8) -> u8
+pub(crate) fn with_code(byte: u8, at: usize, code: u8) -> u8
     requires at { at < 4 }
     requires code { code ≤ 2 }
     ensures code { code_in result at ≡ code }

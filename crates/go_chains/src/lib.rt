@@ -43,6 +43,7 @@ mod masks;
 mod numbers;
 mod occupy;
 mod place;
+mod quiet;
 mod trace;
 
 pub use board::Board;

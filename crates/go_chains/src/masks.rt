@@ -22,3 +22,18 @@ pub(crate) fn mask_of(points: usize, word: usize) -> u64
     }
     (1 << (points - first)) - 1
 }
+
+/// The same bits but for that of one point.
+pub(crate) fn mask_but(points: usize, word: usize, point: usize) -> u64
+    requires points { points ≤ MAX_POINTS }
+    requires word { word < WORDS }
+    ensures outside { (i : ℕ) → i < 64 → points ≤ 64 * word + i → bit_at result i ≡ 0 }
+    ensures without { (i : ℕ) → i < 64 → 64 * word + i ≡ point → bit_at result i ≡ 0 }
+{
+    let mask = mask_of(points, word);
+    if point / 64 == word {
+        mask & !(1 << (point % 64))
+    } else {
+        mask
+    }
+}

@@ -15,7 +15,7 @@ use go_board::{MAX_POINTS, Meter, Size};
 use std::alloc::Allocator;
 
 /// A bit for each point, as the words of a label's liberties have them.
-type Words = [u64; WORDS];
+pub(crate) type Words = [u64; WORDS];
 
 /// Marks a point if it is empty.
 fn mark_empty(cells: &Cells, meter: &mut Meter, near: usize, words: &mut Words)
@@ -31,7 +31,7 @@ fn mark_empty(cells: &Cells, meter: &mut Meter, near: usize, words: &mut Words)
 }
 
 /// The empty ones among these points.
-fn empty_of(cells: &Cells, meter: &mut Meter, beside: &[usize]) -> Words
+pub(crate) fn empty_of(cells: &Cells, meter: &mut Meter, beside: &[usize]) -> Words
     requires few { length beside.now ≤ 4 }
     requires on { All (λ near. near < MAX_POINTS) beside.now }
     ensures marks { MarksEmpty cells.now.numbers result beside.now (length beside.now) }

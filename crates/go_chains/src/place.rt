@@ -47,7 +47,7 @@ pub fn place<A: Allocator + Copy>(
     ensures own { result.own ≡ lost size (colours_in size cells.old)
         (colours_in size cells.new) colour point colour }
     ensures edited { let most = most_of size (colours_in size cells.old) colour point in
-        Edited cells.old cells.new changes.old changes.new meter.old meter.new most (3 * most - 1) }
+        Edited cells.old cells.new changes.old changes.new meter.old meter.new most (3 * most - 53) }
 {
     joined_by_a_path();
     reaches_by_a_path();

@@ -43,3 +43,21 @@ alive_in cells label points word mask read small read_is some outside =
     let q_bit : q % 64 ≡ i = omega arith in
     let q_in : q < points = elim (cases_lt q points) [ inl inside ↦ inside | inr out ↦ absurd (let z : bit_at mask i ≡ 0 = outside i i_in out in omega arith) ] in
     (q, q_in, ap (λ w. bit_at (word_of cells label w) (q % 64)) q_word ∙ ap (bit_at (word_of cells label word)) q_bit ∙ ap (λ x. bit_at x i) (sym read_is) ∙ (let o : bit_at read i ≡ 1 = omega arith in o))
+
+-- a word with a marked bit, where that of a point isn't marked, has another liberty
+pub other_in : (cells : List ℕ) (label points point word mask read : ℕ) → bit_and read mask < 2 ^ 64 → read ≡ word_of cells label word → bit_and read mask ≢ 0 → ((i : ℕ) → i < 64 → points ≤ 64 * word + i → bit_at mask i ≡ 0)
+    → ((i : ℕ) → i < 64 → 64 * word + i ≡ point → bit_at mask i ≡ 0) → (q : ℕ) × (q < points) × (q ≢ point) × (lib_of cells label q ≡ 1)
+other_in cells label points point word mask read small read_is some outside without =
+    let both = bit_and read mask in
+    let t = bit_at-trailing_zeros w64 both (omega arith) small in
+    let i = trailing_zeros w64 both in
+    let i_in : i < 64 = t.0 in
+    let e : min (bit_at read i) (bit_at mask i) ≡ 1 = sym (bit_at_and read mask i) ∙ t.1 in
+    let r : bit_at read i < 2 = bit_at-lt read i in
+    let m : bit_at mask i < 2 = bit_at-lt mask i in
+    let q = 64 * word + i in
+    let q_word : q / 64 ≡ word = omega arith in
+    let q_bit : q % 64 ≡ i = omega arith in
+    let q_in : q < points = elim (cases_lt q points) [ inl inside ↦ inside | inr out ↦ absurd (let z : bit_at mask i ≡ 0 = outside i i_in out in omega arith) ] in
+    let off : q ≢ point = λ at. (let z : bit_at mask i ≡ 0 = without i i_in at in omega arith) in
+    (q, q_in, off, ap (λ w. bit_at (word_of cells label w) (q % 64)) q_word ∙ ap (bit_at (word_of cells label word)) q_bit ∙ ap (λ x. bit_at x i) (sym read_is) ∙ (let o : bit_at read i ≡ 1 = omega arith in o))

@@ -1,14 +1,16 @@
 -- The set bits of words of liberties, counted as points.
-use Rattle.std.specs.Prelude.{count_by, count_ones, filter}
+use Rattle.std.specs.Prelude.{count_by, count_ones, filter, replicate, slice_index}
 use Rattle.std.specs.Int.{bit_at}
 use Rattle.std.specs.List.{range_with_len}
-use Rattle.std.proofs.Common.{ℕ, ◌+◌, ◌*◌, ◌-◌, ◌/◌, ◌%◌, ◌^◌, ◌<◌, ◌≤◌, ◌≡◌, refl, sym, ap, ap₂, ◌∙◌, subst, arith, inl, inr, Bool, false, cond, List, length, map, nat_eq, bit_and, min, ◌&&◌, zero, suc}
+use Rattle.std.proofs.Common.{ℕ, ◌+◌, ◌*◌, ◌-◌, ◌/◌, ◌%◌, ◌^◌, ◌<◌, ◌≤◌, ◌≡◌, refl, sym, ap, ap₂, ◌∙◌, subst, arith, inl, inr, Bool, false, cond, List, length, map, nat_eq, bit_and, min, ◌&&◌, ◌++◌, zero, suc}
 use Rattle.std.proofs.lemmas.Bool.{cases_lt, le-ltb, lt-ltb}
 use Rattle.std.proofs.lemmas.List.FromFn.{get_or-map-range_with_len, length-map-range_with_len}
 use Rattle.std.proofs.lemmas.Nat.Bits.{bit_at-lt, bit_at_and, same_from_bits_below}
 use Rattle.std.proofs.lemmas.Simd.{bit_mask_l, mask_l-lt, ones-mask_l}
 use lib.Lanes.{mask_l}
 use Rattle.go_board.specs.Reaching.{points}
+use Rattle.std.proofs.lemmas.List.{get_or-append-add, length-replicate}
+use Rattle.go_chains.specs.declared.cells.TheConstants.{LIBERTIES, WORDS}
 use Rattle.go_chains.specs.Cells.{lib_of, word_of}
 use Rattle.go_chains.specs.inner.Words.{free_in_word, is_marked_free}
 use Rattle.go_chains.proofs.rules.Counting.{count-range, count_none, counted_alike}
@@ -83,3 +85,13 @@ words_counted n words cells label count other fits is same =
     ∙ (let z : count_by test (range_with_len 0 (n * n)) + count_by test (range_with_len (0 + n * n) rest) ≡ count_by test (range_with_len 0 (n * n)) = omega arith in z) in
     let at : (q : ℕ) → q < n * n → test q ≡ other q = λ q below. ap (λ b. b && nat_eq (lib_of cells label q) 1) (lt-ltb q (n * n) below) ∙ same q below in
     all ∙ counted_alike n test other (λ q below passes. sym (at q below) ∙ passes) (λ q below passes. at q below ∙ passes)
+
+-- words as those of a label of cells
+pub shelf : List ℕ → List ℕ
+shelf words = replicate LIBERTIES 0 ++ words
+
+pub shelf_word : (words : List ℕ) (w : ℕ) → word_of (shelf words) 0 w ≡ slice_index words w
+unfolding shelf
+shelf_word words w =
+    ap (λ k. slice_index (replicate {A = ℕ} LIBERTIES 0 ++ words) k) (let e : LIBERTIES + WORDS * 0 + w ≡ length (replicate {A = ℕ} LIBERTIES 0) + w = omega (arith, length-replicate {A = ℕ} LIBERTIES 0) in e)
+    ∙ get_or-append-add (replicate {A = ℕ} LIBERTIES 0) words w 0

@@ -1,12 +1,13 @@
 -- The pack of the colours that cells say, byte by byte.
 use Rattle.std.specs.Prelude.{replicate}
-use Rattle.std.proofs.Common.{arith, ◌≡◌, ◌≢◌, ◌<◌, ◌≤◌, ◌+◌, ◌*◌, ◌/◌, ◌%◌, ◌∙◌, ℕ, List, None, ap, get_or, inl, inr, length, slice_index, slice_set, sym}
+use Rattle.std.proofs.Common.{arith, ◌≡◌, ◌≢◌, ◌<◌, ◌≤◌, ◌+◌, ◌*◌, ◌/◌, ◌%◌, ◌∙◌, ℕ, List, Some, None, ap, get_or, inl, inr, length, slice_index, slice_set, sym}
 use Rattle.std.proofs.lemmas.Bool.{cases_eq, cases_lt}
 use Rattle.std.proofs.lemmas.List.{get_or-replicate, get_or-set_other, get_or-set_same, get_or_past, length-replicate}
 use Rattle.std.proofs.lemmas.List.FromFn.{fill_by_all, get_or-map-range_with_len, length-map-range_with_len}
 use Rattle.std.proofs.Math.ListN.{length-set}
 use Rattle.go_board.specs.declared.pack.TheConstants.{PACK_BYTES}
 use Rattle.go_board.specs.declared.size.TheConstants.{MAX_LINES, MAX_POINTS}
+use Rattle.go_board.specs.declared.colour.Colour.{Colour}
 use Rattle.go_board.specs.Colours.{Colouring, colour_at}
 use Rattle.go_board.specs.Packs.{byte_of, code_of, packed_of, colour_coded}
 use Rattle.go_chains.specs.Cells.{code_at}
@@ -114,3 +115,26 @@ largest-at n cells bytes i small few inside is =
     ∙ byte-at (colouring_of MAX_LINES cells) i (omega (arith, few, inside))
     ∙ byte_same (colouring_of MAX_LINES cells) (colouring_of n cells) i
     (λ k first last. colouring-at MAX_LINES cells k (omega (arith, few, inside, last)) ∙ sym (colouring-at n cells k (omega (arith, inside, last))))
+
+-- a stone put on a point changes the byte of that point alone
+pub packed_put : (g : Colouring) (bytes : List ℕ) (place byte new code : ℕ) (c : Colour) → length g ≤ MAX_POINTS → place < length g → bytes ≡ packed_of g → new < 256
+    → byte ≡ slice_index bytes (place / 4) → code_in new (place % 4) ≡ code → ((k : ℕ) → k < 4 → k ≢ place % 4 → code_in new k ≡ code_in byte k) → code ≡ code_of (Some c)
+    → slice_set bytes (place / 4) new ≡ packed_of (slice_set g place (Some c))
+packed_put g bytes place byte new code c few inside was fits read here others coded =
+    let h = slice_set g place (Some c) in
+    let whole : length bytes ≡ PACK_BYTES = ap length was ∙ length-pack g in
+    let at : 4 * (place / 4) + place % 4 ≡ place = omega arith in
+    let low : place / 4 < PACK_BYTES = omega (arith, few, inside) in
+    let place_code : code ≡ code_of (colour_at h (4 * (place / 4) + place % 4)) =
+    coded ∙ ap code_of (sym (get_or-set_same g place (Some c) None inside)) ∙ ap (λ (k : ℕ). code_of (colour_at h k)) (sym at) in
+    let same : (k : ℕ) → k ≢ place → colour_at g k ≡ colour_at h k = λ k off. sym (get_or-set_other g place k (Some c) None off) in
+    let byte_is : new ≡ byte_of h (place / 4) =
+    byte_put g h (place / 4) (place % 4) code byte new fits
+    (read ∙ ap (λ (l : List ℕ). slice_index l (place / 4)) was ∙ byte-at g (place / 4) low)
+    here others place_code (λ k other. same k (λ e. other (e ∙ sym at))) in
+    packed_by h (slice_set bytes (place / 4) new) (length-set bytes (place / 4) new ∙ whole)
+    (λ i i_in. elim (cases_eq i (place / 4)) [
+      | inl is ↦ ap (λ k. get_or (slice_set bytes (place / 4) new) k 0) is ∙ get_or-set_same bytes (place / 4) new 0 (omega (arith, whole, is, i_in)) ∙ byte_is ∙ ap (byte_of h) (sym is)
+      | inr other ↦ get_or-set_other bytes (place / 4) i new 0 other ∙ ap (λ (l : List ℕ). get_or l i 0) was ∙ byte-at g i i_in
+          ∙ byte_same g h i (λ k first last. same k (λ e. other (omega (arith, first, last, e))))
+    ])

@@ -1,4 +1,4 @@
-use Rattle.std.proofs.Common.{arith, ◌≡◌, ◌≤◌, ◌<◌, ◌+◌, ◌*◌, ◌/◌, ◌∙◌, ℕ, List, ap, length, slice_index_or, slice_set, sym}
+use Rattle.std.proofs.Common.{arith, ◌≡◌, ◌<◌, ◌*◌, ◌/◌, ◌∙◌, ℕ, List, ap, length, slice_index_or, slice_set, sym}
 use Rattle.std.proofs.lemmas.List.Edits.{fill_by_more}
 use Rattle.std.proofs.Math.ListN.{length-set}
 use Rattle.go_board.specs.declared.pack.TheConstants.{PACK_BYTES}
