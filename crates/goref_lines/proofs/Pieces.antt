@@ -1,8 +1,8 @@
 -- What a line keeps as several bytes come to its end.
-use Rattle.std.proofs.Common.{◌≡◌, ◌∙◌, ◌+◌, ◌<◌, ℕ, zero, suc, Some, None, Bool, true, false, not, cond, drop, if◌then◌else◌, ◌&&◌, ◌||◌, List, [], ◌∷◌, ◌++◌, refl, sym, ap, subst, take, length, nat_eq, nat_lt, map, arith, append_assoc, length-append}
+use Rattle.std.proofs.Common.{◌≡◌, ◌∙◌, ◌+◌, ◌<◌, ◌≤◌, get_or, ℕ, zero, suc, Some, None, Bool, true, false, not, cond, drop, if◌then◌else◌, ◌&&◌, ◌||◌, List, [], ◌∷◌, ◌++◌, refl, sym, ap, subst, take, length, nat_eq, nat_lt, map, arith, append_assoc, length-append}
 use Rattle.std.proofs.lemmas.Bool.{and_parts}
 use Rattle.std.specs.List.{list_all, list_any, prefix_len}
-use Rattle.std.proofs.lemmas.List.{append-nil, map-append, take-append-le}
+use Rattle.std.proofs.lemmas.List.{append-nil, map-append, take-append-le, take_more}
 use Rattle.std.proofs.lemmas.List.Elements.{filter-append}
 use Rattle.std.proofs.lemmas.List.Folds.{list_any-append}
 use Rattle.std.proofs.lemmas.Bool.Decides.{nat_tests}
@@ -11,8 +11,8 @@ use Rattle.memchr.specs.Find.{IsFirstByte, is_byte}
 use Rattle.goref_lines.specs.declared.line.TheConstants.{LINE_LIMIT}
 use Rattle.goref_lines.specs.Kept.{is_control_byte, is_hash, spaced, printable, before_comment, cleaned, ends_with_space, Kept, kept}
 use Rattle.goref_lines.specs.Words.{is_plain_space, has_bytes, single_spaced}
-use Rattle.goref_lines.specs.inner.Front.{AreBetweenWords, AreOfWord, KeepsFront, is_gap_byte, is_word_byte, last_of, space_after, with_space}
-use Rattle.goref_lines.proofs.Joins.{has_trailing_space, joined_push_space, joined_push_byte, has_trailing_space_push_byte}
+use Rattle.goref_lines.specs.inner.Front.{AreBetweenWords, AreJoined, KeepsFront, end_of_words, goes_on_joined, is_gap_byte, is_word_byte, last_of, space_after, with_space}
+use Rattle.goref_lines.proofs.Joins.{has_trailing_space, joined_push_space, joined_push_byte, has_trailing_space_push_space, has_trailing_space_push_byte}
 use Rattle.goref_lines.proofs.Pushes.{before_comment_none, kept_comment, kept_control, kept_hash, kept_space, plain, plain_is, plain_before, has_comment_is, spaced_other}
 
 before_comment_append : (bs more : List ℕ) → list_any is_hash bs ≡ false → before_comment (bs ++ more) ≡ bs ++ before_comment more
@@ -44,12 +44,6 @@ of_word_parts false false false e = (refl, refl, refl)
 of_word : (b : ℕ) → is_word_byte b ≡ true → (is_control_byte b ≡ false) × (is_hash b ≡ false) × (is_plain_space (spaced b) ≡ false)
 of_word b e = of_word_parts (is_control_byte b) (is_hash b) (is_plain_space (spaced b)) e
 
-first_of : (b : ℕ) (word : List ℕ) → AreOfWord (b ∷ word) → is_word_byte b ≡ true
-first_of b word h = (and_parts (is_word_byte b) (list_all is_word_byte word) h).0
-
-others_of : (b : ℕ) (word : List ℕ) → AreOfWord (b ∷ word) → AreOfWord word
-others_of b word h = (and_parts (is_word_byte b) (list_all is_word_byte word) h).1
-
 one_more : (n : ℕ) → suc n ≡ 1 + n
 one_more n = omega arith
 
@@ -64,74 +58,256 @@ taken_pass test (b ∷ bytes) = at (test b) refl (taken_pass test bytes)
         subst (λ n. list_all test (take n (b ∷ bytes)) ≡ true) (one_more (prefix_len test bytes)) (ap (λ c. c && list_all test (take (prefix_len test bytes) bytes)) e ∙ later)
     at false e later = refl
 
-printable_word : (word : List ℕ) → AreOfWord word → printable word ≡ word
-printable_word [] h = refl
-printable_word (b ∷ word) h =
-    ap (λ c. cond (not c) (b ∷ printable word) (printable word)) (of_word b (first_of b word h)).0
-    ∙ ap (λ bs. b ∷ bs) (printable_word word (others_of b word h))
+-- a byte of words that are joined by single spaces
+abbrev is_joined_byte : ℕ → Bool
+is_joined_byte b = is_word_byte b || is_plain_space b
 
-no_hash_in_word : (word : List ℕ) → AreOfWord word → list_any is_hash word ≡ false
-no_hash_in_word [] h = refl
-no_hash_in_word (b ∷ word) h = ap (λ c. c || list_any is_hash word) (of_word b (first_of b word h)).1 ∙ no_hash_in_word word (others_of b word h)
+abbrev AreOfJoined : List ℕ → Type 0
+AreOfJoined bytes = list_all is_joined_byte bytes ≡ true
 
-spaced_word : (word : List ℕ) → AreOfWord word → map spaced word ≡ word
-spaced_word [] h = refl
-spaced_word (b ∷ word) h =
-    ap (λ c. c ∷ map spaced word) (spaced_other b (of_word b (first_of b word h)).2) ∙ ap (λ bs. b ∷ bs) (spaced_word word (others_of b word h))
+is_space : (b : ℕ) → is_plain_space b ≡ true → b ≡ 32
+is_space b e = grind (arith, nat_tests)
 
-cleaned_word : (word : List ℕ) → AreOfWord word → cleaned word ≡ word
-cleaned_word word h =
-    ap (λ bs. map spaced (before_comment bs)) (printable_word word h)
-    ∙ ap (map spaced) (before_comment_none word (no_hash_in_word word h)) ∙ spaced_word word h
+joined_byte : (b : ℕ) → is_joined_byte b ≡ true → (is_control_byte b ≡ false) × (is_hash b ≡ false) × (spaced b ≡ b)
+joined_byte b h = at (is_word_byte b) (is_plain_space b) refl refl h
+  where
+    Kept_so : ℕ → Type 0
+    Kept_so x = (is_control_byte x ≡ false) × (is_hash x ≡ false) × (spaced x ≡ x)
+
+    at : (w s : Bool) → is_word_byte b ≡ w → is_plain_space b ≡ s → (w || s) ≡ true → Kept_so b
+    at true s e f h = let parts = of_word b e in (parts.0, parts.1, spaced_other b parts.2)
+    at false true e f h = subst Kept_so (sym (is_space b f)) (refl, refl, refl)
+    at false false e f h = cc
+
+of_joined : (behind : Bool) (bytes : List ℕ) → goes_on_joined behind bytes ≡ true → AreOfJoined bytes
+of_joined behind [] h = refl
+of_joined behind (b ∷ bytes) h = at (is_word_byte b) (is_plain_space b) behind (of_joined true bytes) (of_joined false bytes) h
+  where
+    at : (w s a : Bool) → (goes_on_joined true bytes ≡ true → AreOfJoined bytes) → (goes_on_joined false bytes ≡ true → AreOfJoined bytes) →
+        (if w then goes_on_joined true bytes else ((s && a) && goes_on_joined false bytes)) ≡ true → ((w || s) && list_all is_joined_byte bytes) ≡ true
+    at true s a word space h = word h
+    at false true true word space h = space h
+    at false true false word space h = cc
+    at false false a word space h = cc
+
+first_of : (b : ℕ) (bytes : List ℕ) → AreOfJoined (b ∷ bytes) → is_joined_byte b ≡ true
+first_of b bytes h = (and_parts (is_joined_byte b) (list_all is_joined_byte bytes) h).0
+
+others_of : (b : ℕ) (bytes : List ℕ) → AreOfJoined (b ∷ bytes) → AreOfJoined bytes
+others_of b bytes h = (and_parts (is_joined_byte b) (list_all is_joined_byte bytes) h).1
+
+printable_joined : (bytes : List ℕ) → AreOfJoined bytes → printable bytes ≡ bytes
+printable_joined [] h = refl
+printable_joined (b ∷ bytes) h =
+    ap (λ c. cond (not c) (b ∷ printable bytes) (printable bytes)) (joined_byte b (first_of b bytes h)).0
+    ∙ ap (λ bs. b ∷ bs) (printable_joined bytes (others_of b bytes h))
+
+no_hash_in_joined : (bytes : List ℕ) → AreOfJoined bytes → list_any is_hash bytes ≡ false
+no_hash_in_joined [] h = refl
+no_hash_in_joined (b ∷ bytes) h =
+    ap (λ c. c || list_any is_hash bytes) (joined_byte b (first_of b bytes h)).1 ∙ no_hash_in_joined bytes (others_of b bytes h)
+
+spaced_joined : (bytes : List ℕ) → AreOfJoined bytes → map spaced bytes ≡ bytes
+spaced_joined [] h = refl
+spaced_joined (b ∷ bytes) h = ap (λ c. c ∷ map spaced bytes) (joined_byte b (first_of b bytes h)).2 ∙ ap (λ bs. b ∷ bs) (spaced_joined bytes (others_of b bytes h))
+
+cleaned_joined : (bytes : List ℕ) → AreOfJoined bytes → cleaned bytes ≡ bytes
+cleaned_joined bytes h =
+    ap (λ bs. map spaced (before_comment bs)) (printable_joined bytes h)
+    ∙ ap (map spaced) (before_comment_none bytes (no_hash_in_joined bytes h)) ∙ spaced_joined bytes h
 
 no_space : (b : ℕ) → is_word_byte b ≡ true → is_plain_space b ≡ false
 no_space b h = ap is_plain_space (sym (spaced_other b (of_word b h).2)) ∙ (of_word b h).2
 
-behind : (has_space : Bool) (b : ℕ) (word : List ℕ) → with_space has_space (b ∷ []) ++ word ≡ with_space has_space (b ∷ word)
-behind true b word = refl
-behind false b word = refl
+before_more : (has_space : Bool) (b : ℕ) (bytes : List ℕ) → with_space has_space (b ∷ []) ++ bytes ≡ with_space has_space (b ∷ bytes)
+before_more true b bytes = refl
+before_more false b bytes = refl
 
-joined_word : (text : List ℕ) (b : ℕ) (word : List ℕ) → is_word_byte b ≡ true → AreOfWord word →
-    single_spaced (text ++ b ∷ word) ≡ single_spaced text ++ with_space (has_trailing_space text) (b ∷ word)
-joined_word text b [] one h = joined_push_byte text b (no_space b one)
-joined_word text b (c ∷ word) one h =
-    let front = text ++ b ∷ [] in
-    ap single_spaced (sym (append_assoc text (b ∷ []) (c ∷ word)))
-    ∙ joined_word front c word (first_of c word h) (others_of c word h)
-    ∙ ap (λ s. single_spaced front ++ with_space s (c ∷ word)) (has_trailing_space_push_byte text b (no_space b one))
-    ∙ ap (λ t. t ++ c ∷ word) (joined_push_byte text b (no_space b one))
-    ∙ append_assoc (single_spaced text) (with_space (has_trailing_space text) (b ∷ [])) (c ∷ word)
-    ∙ ap (λ t. single_spaced text ++ t) (behind (has_trailing_space text) b (c ∷ word))
+has_bytes_behind : (text : List ℕ) (has_space : Bool) (b : ℕ) → has_bytes (text ++ with_space has_space (b ∷ [])) ≡ true
+has_bytes_behind [] true b = refl
+has_bytes_behind [] false b = refl
+has_bytes_behind (c ∷ text) has_space b = refl
 
-trailing_word : (text : List ℕ) (b : ℕ) (word : List ℕ) → is_word_byte b ≡ true → AreOfWord word → has_trailing_space (text ++ b ∷ word) ≡ false
-trailing_word text b [] one h = has_trailing_space_push_byte text b (no_space b one)
-trailing_word text b (c ∷ word) one h =
-    ap has_trailing_space (sym (append_assoc text (b ∷ []) (c ∷ word))) ∙ trailing_word (text ++ b ∷ []) c word (first_of c word h) (others_of c word h)
+-- behind a text with words, which ends with a space where one is due, these bytes join as they are
+abbrev Joins : Bool → List ℕ → List ℕ → Type 0
+Joins has_space bytes text = (single_spaced (text ++ bytes) ≡ single_spaced text ++ with_space has_space bytes) × (has_trailing_space (text ++ bytes) ≡ false)
 
--- bytes of a word come to a line k
-pub kept_word : (line word : List ℕ) (k : Kept) → k ≡ kept line → (text : List ℕ) (is_long : Bool) → k.has_comment ≡ false → 0 < length word → AreOfWord word →
-    ((whole : List ℕ) → KeepsFront k.text k.is_long whole → KeepsFront text is_long (whole ++ with_space k.has_space word)) →
-    record k { text = text; is_long = is_long; has_space = false } ≡ kept (line ++ word)
-kept_word line [] k seen text is_long none some h grows = absurd (omega arith)
-kept_word line (b ∷ word) k seen text is_long none some h grows =
+join_word : (text : List ℕ) (b : ℕ) (bytes : List ℕ) → is_word_byte b ≡ true → Joins false bytes (text ++ b ∷ []) → Joins (has_trailing_space text) (b ∷ bytes) text
+join_word text b bytes one later = (
+  ap single_spaced (sym (append_assoc text (b ∷ []) bytes)) ∙ later.0
+      ∙ ap (λ t. t ++ bytes) (joined_push_byte text b (no_space b one))
+      ∙ append_assoc (single_spaced text) (with_space (has_trailing_space text) (b ∷ [])) bytes
+      ∙ ap (λ t. single_spaced text ++ t) (before_more (has_trailing_space text) b bytes),
+  ap has_trailing_space (sym (append_assoc text (b ∷ []) bytes)) ∙ later.1,
+)
+
+join_space : (text : List ℕ) (b : ℕ) (bytes : List ℕ) → is_plain_space b ≡ true → Joins true bytes (text ++ b ∷ []) → Joins false (b ∷ bytes) text
+join_space text b bytes space later = (
+  ap single_spaced (sym (append_assoc text (b ∷ []) bytes)) ∙ later.0
+      ∙ ap (λ t. t ++ 32 ∷ bytes) (joined_push_space text b space)
+      ∙ ap (λ c. single_spaced text ++ c ∷ bytes) (sym (is_space b space)),
+  ap has_trailing_space (sym (append_assoc text (b ∷ []) bytes)) ∙ later.1,
+)
+
+has_words_then : (text : List ℕ) (b : ℕ) → is_word_byte b ≡ true → has_bytes (single_spaced (text ++ b ∷ [])) ≡ true
+has_words_then text b one = ap has_bytes (joined_push_byte text b (no_space b one)) ∙ has_bytes_behind (single_spaced text) (has_trailing_space text) b
+
+joins : (bytes text : List ℕ) (behind : Bool) → goes_on_joined behind bytes ≡ true → has_trailing_space text ≡ not behind → has_bytes (single_spaced text) ≡ true → Joins (not behind) bytes text
+joins [] text true h space some = (ap single_spaced (append-nil text) ∙ sym (append-nil (single_spaced text)), ap has_trailing_space (append-nil text) ∙ space)
+joins [] text false h space some = cc
+joins (b ∷ bytes) text behind h space some = at (is_word_byte b) (is_plain_space b) behind refl refl h space
+    (λ g one. joins bytes (text ++ b ∷ []) true g (has_trailing_space_push_byte text b (no_space b one)) (has_words_then text b one))
+    (λ g e. joins bytes (text ++ b ∷ []) false g (has_trailing_space_push_space text b e ∙ some) (ap has_bytes (joined_push_space text b e) ∙ some))
+  where
+    at : (w s a : Bool) → is_word_byte b ≡ w → is_plain_space b ≡ s → (if w then goes_on_joined true bytes else ((s && a) && goes_on_joined false bytes)) ≡ true →
+        has_trailing_space text ≡ not a →
+        (goes_on_joined true bytes ≡ true → is_word_byte b ≡ true → Joins false bytes (text ++ b ∷ [])) →
+        (goes_on_joined false bytes ≡ true → is_plain_space b ≡ true → Joins true bytes (text ++ b ∷ [])) → Joins (not a) (b ∷ bytes) text
+    at true s a e f h space word blank = subst (λ t. Joins t (b ∷ bytes) text) space (join_word text b bytes e (word h e))
+    at false true true e f h space word blank = join_space text b bytes f (blank h f)
+    at false true false e f h space word blank = cc
+    at false false a e f h space word blank = cc
+
+first_joined : (b : ℕ) (bytes : List ℕ) → AreJoined (b ∷ bytes) → (is_word_byte b ≡ true) × (goes_on_joined true bytes ≡ true)
+first_joined b bytes h = at (is_word_byte b) (is_plain_space b) h
+  where
+    at : (w s : Bool) → (if w then goes_on_joined true bytes else ((s && false) && goes_on_joined false bytes)) ≡ true → (w ≡ true) × (goes_on_joined true bytes ≡ true)
+    at true s h = (refl, h)
+    at false true h = cc
+    at false false h = cc
+
+joins_first : (text : List ℕ) (b : ℕ) (bytes : List ℕ) → AreJoined (b ∷ bytes) → Joins (has_trailing_space text) (b ∷ bytes) text
+joins_first text b bytes h =
+    let parts = first_joined b bytes h in
+    join_word text b bytes parts.0
+    (joins bytes (text ++ b ∷ []) true parts.1 (has_trailing_space_push_byte text b (no_space b parts.0)) (has_words_then text b parts.0))
+
+-- words that are joined by single spaces come to a line k
+pub kept_words : (line words : List ℕ) (k : Kept) → k ≡ kept line → (text : List ℕ) (is_long : Bool) → k.has_comment ≡ false → AreJoined words →
+    ((whole : List ℕ) → KeepsFront k.text k.is_long whole → KeepsFront text is_long (whole ++ with_space k.has_space words)) →
+    record k { text = text; is_long = is_long; has_space = false } ≡ kept (line ++ words)
+kept_words line [] k seen text is_long none h grows = cc
+kept_words line (b ∷ word) k seen text is_long none joined grows =
+    let h : AreOfJoined (b ∷ word) = of_joined false (b ∷ word) joined in
     let before : k ≡ plain (cleaned line) = seen ∙ plain_before line (sym (ap (λ (x : Kept). x.has_comment) seen) ∙ none) in
     let any : list_any is_hash (printable line) ≡ false = sym (has_comment_is line) ∙ sym (ap (λ (x : Kept). x.has_comment) seen) ∙ none in
     let any' : list_any is_hash (printable (line ++ b ∷ word)) ≡ false =
     ap (list_any is_hash) (printable_append line (b ∷ word)) ∙ list_any-append is_hash (printable line) (printable (b ∷ word))
     ∙ ap (λ c. c || list_any is_hash (printable (b ∷ word))) any
-    ∙ ap (list_any is_hash) (printable_word (b ∷ word) h) ∙ no_hash_in_word (b ∷ word) h in
+    ∙ ap (list_any is_hash) (printable_joined (b ∷ word) h) ∙ no_hash_in_joined (b ∷ word) h in
+    let join = joins_first (cleaned line) b word joined in
     let grown = grows (single_spaced (cleaned line)) (record { front = ap (λ (x : Kept). x.text) before; longer = ap (λ (x : Kept). x.is_long) before }) in
     let whole : single_spaced (cleaned line) ++ with_space k.has_space (b ∷ word) ≡ single_spaced (cleaned line ++ b ∷ word) =
-    ap (λ s. single_spaced (cleaned line) ++ with_space s (b ∷ word)) (ap (λ (x : Kept). x.has_space) before) ∙ sym (joined_word (cleaned line) b word (first_of b word h) (others_of b word h)) in
-    let all : cleaned (line ++ b ∷ word) ≡ cleaned line ++ b ∷ word = cleaned_append line (b ∷ word) any ∙ ap (λ t. cleaned line ++ t) (cleaned_word (b ∷ word) h) in
+    ap (λ s. single_spaced (cleaned line) ++ with_space s (b ∷ word)) (ap (λ (x : Kept). x.has_space) before) ∙ sym join.0 in
+    let all : cleaned (line ++ b ∷ word) ≡ cleaned line ++ b ∷ word = cleaned_append line (b ∷ word) any ∙ ap (λ t. cleaned line ++ t) (cleaned_joined (b ∷ word) h) in
     let f : List ℕ → Bool → Bool → Bool → Kept = λ text is_long comment space. record { text = text; is_long = is_long; has_comment = comment; has_space = space } in
     let last = cleaned line ++ b ∷ word in
     ap (λ c. f text is_long c false) none
     ∙ ap (λ t. f t is_long false false) (grown.front ∙ ap (take LINE_LIMIT) whole)
     ∙ ap (λ l. f (take LINE_LIMIT (single_spaced last)) l false false) (grown.longer ∙ ap (λ w. nat_lt LINE_LIMIT (length w)) whole)
-    ∙ ap (f (take LINE_LIMIT (single_spaced last)) (nat_lt LINE_LIMIT (length (single_spaced last))) false) (sym (trailing_word (cleaned line) b word (first_of b word h) (others_of b word h)))
+    ∙ ap (f (take LINE_LIMIT (single_spaced last)) (nat_lt LINE_LIMIT (length (single_spaced last))) false) (sym join.1)
     ∙ ap plain (sym all)
     ∙ sym (plain_is (line ++ b ∷ word) any')
+
+-- joined words go on where a word goes on, or another follows behind a single space
+pub joined_append : (behind : Bool) (bytes more : List ℕ) → goes_on_joined behind bytes ≡ true → goes_on_joined true more ≡ true → goes_on_joined behind (bytes ++ more) ≡ true
+joined_append behind [] more h g = ap (λ a. goes_on_joined a more) h ∙ g
+joined_append behind (b ∷ bytes) more h g = at (is_word_byte b) (is_plain_space b && behind) h (λ k. joined_append true bytes more k g) (λ k. joined_append false bytes more k g)
+  where
+    at : (w s : Bool) → (if w then goes_on_joined true bytes else (s && goes_on_joined false bytes)) ≡ true →
+        (goes_on_joined true bytes ≡ true → goes_on_joined true (bytes ++ more) ≡ true) →
+        (goes_on_joined false bytes ≡ true → goes_on_joined false (bytes ++ more) ≡ true) →
+        (if w then goes_on_joined true (bytes ++ more) else (s && goes_on_joined false (bytes ++ more))) ≡ true
+    at true s h word space = word h
+    at false true h word space = space h
+    at false false h word space = cc
+
+word_joined : (b : ℕ) → is_word_byte b ≡ true → goes_on_joined true (b ∷ []) ≡ true
+word_joined b e = ap (λ w. if w then true else ((is_plain_space b && true) && false)) e
+
+-- one more byte of a word
+pub joined_push : (bytes : List ℕ) (n b : ℕ) → take (n + 1) bytes ≡ take n bytes ++ b ∷ [] → is_word_byte b ≡ true → (0 < n → AreJoined (take n bytes)) → AreJoined (take (n + 1) bytes)
+joined_push bytes zero b more e h = subst AreJoined (sym more) (ap (λ w. if w then true else ((is_plain_space b && false) && false)) e)
+joined_push bytes (suc n) b more e h = subst AreJoined (sym more) (joined_append false (take (suc n) bytes) (b ∷ []) (h (omega arith)) (word_joined b e))
+
+-- the first byte of another word, behind a single space
+pub joined_push_word : (bytes : List ℕ) (n b : ℕ) → take (n + 1 + 1) bytes ≡ take (n + 1) bytes ++ b ∷ [] → take (n + 1) bytes ≡ take n bytes ++ 32 ∷ [] → is_word_byte b ≡ true → AreJoined (take n bytes) →
+    AreJoined (take (n + 1 + 1) bytes)
+joined_push_word bytes n b more space e h =
+    subst AreJoined (sym (more ∙ ap (λ t. t ++ b ∷ []) space ∙ append_assoc (take n bytes) (32 ∷ []) (b ∷ [])))
+    (joined_append false (take n bytes) (32 ∷ b ∷ []) h (ap (λ w. if w then true else ((is_plain_space b && false) && false)) e))
+
+-- what stands up to the last byte of a word is joined, and a single space at most stands behind it
+pub record JoinedUpTo (bytes : List ℕ) (end place : ℕ) : Type 0 where
+  pub within : end ≤ place
+  pub joined : 0 < end → AreJoined (take end bytes)
+  pub behind : end < place → (0 < end) × (end + 1 ≡ place) × (get_or bytes end 0 ≡ 32)
+
+pub joined_next : (bytes : List ℕ) (end place : ℕ) → JoinedUpTo bytes end place → place < length bytes → is_word_byte (get_or bytes place 0) ≡ true → JoinedUpTo bytes (place + 1) (place + 1)
+joined_next bytes end place h short word = record {
+  within = omega arith;
+  joined = λ _. at (nat_lt end place) refl short word;
+  behind = λ more. absurd (omega (arith, more));
+}
+  where
+    Next : ℕ → Type 0
+    Next p = p < length bytes → is_word_byte (get_or bytes p 0) ≡ true → AreJoined (take (p + 1) bytes)
+
+    right_behind : Next end
+    right_behind l w = joined_push bytes end (get_or bytes end 0) (take_more bytes end 0 l) w h.joined
+
+    one_behind : (0 < end) × (end + 1 ≡ place) × (get_or bytes end 0 ≡ 32) → Next (end + 1)
+    one_behind s l w =
+        joined_push_word bytes end (get_or bytes (end + 1) 0) (take_more bytes (end + 1) 0 l)
+        (take_more bytes end 0 (omega arith) ∙ ap (λ b. take end bytes ++ b ∷ []) s.2) w (h.joined s.0)
+
+    is_behind : nat_lt end place ≡ true → end < place
+    is_behind e = grind (arith, nat_tests)
+
+    is_not_behind : nat_lt end place ≡ false → place ≤ end
+    is_not_behind e = grind (arith, nat_tests)
+
+    at : (t : Bool) → nat_lt end place ≡ t → Next place
+    at true e = let s = h.behind (is_behind e) in subst Next s.1 (one_behind s)
+    at false e = let same : end ≡ place = omega (arith, is_not_behind e, h.within) in subst Next same right_behind
+
+pub joined_blank : (bytes : List ℕ) (end place : ℕ) → JoinedUpTo bytes end place → get_or bytes place 0 ≡ 32 → place ≤ end → ¬ (end ≡ 0) → JoinedUpTo bytes end (place + 1)
+joined_blank bytes end place h space near some =
+    let same : place ≡ end = omega (arith, h.within) in
+    record {
+      within = omega arith;
+      joined = h.joined;
+      behind = λ _. (omega arith, omega arith, ap (λ p. get_or bytes p 0) (sym same) ∙ space);
+    }
+
+-- the same of the place where the last word starts
+pub record WordsUpTo (bytes : List ℕ) (start place : ℕ) : Type 0 where
+  pub low : start ≤ place
+  pub joined : JoinedUpTo bytes (end_of_words start place) place
+
+end_within : (start place : ℕ) → start ≤ place → end_of_words start (place + 1) ≡ place + 1
+end_within start place low = grind (arith, nat_tests)
+
+end_in_word : (start place : ℕ) → start < place → end_of_words start place ≡ place
+end_in_word start place low = grind (arith, nat_tests)
+
+end_before : (place : ℕ) → end_of_words (place + 1) (place + 1) ≡ place
+end_before place = grind (arith, nat_tests)
+
+pub words_next : (bytes : List ℕ) (start place : ℕ) → WordsUpTo bytes start place → place < length bytes → is_word_byte (get_or bytes place 0) ≡ true → WordsUpTo bytes start (place + 1)
+words_next bytes start place h short word = record {
+  low = omega (arith, h.low);
+  joined = subst (λ (e : ℕ). JoinedUpTo bytes e (place + 1)) (sym (end_within start place h.low)) (joined_next bytes (end_of_words start place) place h.joined short word);
+}
+
+pub words_blank : (bytes : List ℕ) (start place : ℕ) → WordsUpTo bytes start place → get_or bytes place 0 ≡ 32 → ¬ (place ≡ start) → WordsUpTo bytes (place + 1) (place + 1)
+words_blank bytes start place h space some =
+    let inside : start < place = omega (arith, h.low) in
+    let here = subst (λ (e : ℕ). JoinedUpTo bytes e place) (end_in_word start place inside) h.joined in
+    record {
+      low = omega arith;
+      joined = subst (λ (e : ℕ). JoinedUpTo bytes e (place + 1)) (sym (end_before place)) (joined_blank bytes place place here space (omega arith) (λ none. omega arith));
+    }
 
 -- the joined words of a text are the front of those of a longer one
 joined_grows : (text more : List ℕ) → (rest : List ℕ) × (single_spaced (text ++ more) ≡ single_spaced text ++ rest)

@@ -2,7 +2,7 @@ ghost use Rattle.std.specs.Prelude.{◌≡◌, ◌+◌, ◌<◌, ◌≤◌, ℕ,
 ghost use Rattle.std.specs.List.{list_all, list_any, prefix_len};
 ghost use Rattle.goref_lines.specs.Kept.{Kept, kept, is_control_byte, is_hash, printable, spaced};
 ghost use Rattle.goref_lines.specs.Words.{has_bytes, is_plain_space};
-ghost use Rattle.goref_lines.specs.inner.Front.{AreBetweenWords, AreOfWord, KeepsFront, is_gap_byte, is_word_byte, last_of, with_space};
+ghost use Rattle.goref_lines.specs.inner.Front.{AreBetweenWords, AreJoined, KeepsFront, end_of_words, is_gap_byte, is_word_byte, last_of, with_space};
 
 use arrayvec::ArrayVec;
 use memchr::memchr;
@@ -143,7 +143,7 @@ impl Line {
         }
     }
 
-    /// Takes the first of bytes, those of a word, those between words or a `#`, and tells how many.
+    /// Takes the first of bytes, those of words, those between words or a `#`, and tells how many.
     fn push_front(&mut self, bytes: &[u8]) -> usize
         requires { 0 < length bytes.now }
         ensures some { 0 < result }
@@ -151,9 +151,9 @@ impl Line {
         ensures front { (line : List ℕ) → self.old ≡ kept line
             → self.new ≡ kept (line ++ take result bytes.now) }
     {
-        let count = word_front(bytes);
+        let count = words_front(bytes);
         if count > 0 {
-            self.push_word(bytes.split_at(count).0);
+            self.push_words(bytes.split_at(count).0);
             return count;
         }
         let count = gap_front(bytes);
@@ -165,16 +165,15 @@ impl Line {
         1
     }
 
-    /// Takes bytes of a word.
-    fn push_word(&mut self, word: &[u8])
-        requires some { 0 < length word.now }
-        requires word { AreOfWord word.now }
-        ensures { (line : List ℕ) → self.old ≡ kept line → self.new ≡ kept (line ++ word.now) }
+    /// Takes words that are joined by single spaces, as the line keeps them.
+    fn push_words(&mut self, words: &[u8])
+        requires { AreJoined words.now }
+        ensures { (line : List ℕ) → self.old ≡ kept line → self.new ≡ kept (line ++ words.now) }
     {
         if self.has_comment {
             return;
         }
-        append_to_words(&mut self.text, &mut self.is_long, self.has_space, word);
+        append_to_words(&mut self.text, &mut self.is_long, self.has_space, words);
         self.has_space = false;
     }
 
@@ -251,12 +250,33 @@ fn is_of_gap(byte: u8) -> bool
     byte <= b' ' || byte == 127
 }
 
-/// How many bytes of a word stand first.
-fn word_front(bytes: &[u8]) -> usize
-    ensures value { result ≡ prefix_len is_word_byte bytes.now }
+/// How many bytes of words stand first that are joined by single spaces, up to the end of a word.
+fn words_front(bytes: &[u8]) -> usize
+    ensures joined { 0 < result → AreJoined (take result bytes.now) }
     ensures bound { result ≤ length bytes.now }
 {
-    bytes.iter().take_while(|byte| is_of_word(**byte)).count()
+    let mut start = 0;
+    for (place, byte) in bytes.iter().enumerate() {
+        if !is_of_word(*byte) {
+            if *byte != b' ' || place == start {
+                return words_end(start, place);
+            }
+            start = place + 1;
+        }
+    }
+    words_end(start, bytes.len())
+}
+
+/// Where words end that stand up to a place, the last of them from `start` on. Where that has no byte
+/// yet, they end before the blank in front of it.
+fn words_end(start: usize, place: usize) -> usize
+    ensures { result ≡ end_of_words start place }
+{
+    if start < place {
+        place
+    } else {
+        start.saturating_sub(1)
+    }
 }
 
 /// How many controls and white space stand first, up to [`BLOCK`] of them where there are so many.

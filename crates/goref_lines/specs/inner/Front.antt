@@ -1,5 +1,5 @@
 -- The words in which the private functions of a line say how it grows.
-use Rattle.std.specs.Prelude.{◌≡◌, ℕ, nat_lt, ◌&&◌, ◌||◌, not, Bool, true, if◌then◌else◌, List, [], ◌∷◌, Option, Some, None, take, length}
+use Rattle.std.specs.Prelude.{◌≡◌, ◌-◌, ℕ, nat_lt, ◌&&◌, ◌||◌, not, Bool, true, false, if◌then◌else◌, List, [], ◌∷◌, Option, Some, None, take, length}
 use Rattle.std.specs.List.{list_all}
 use Rattle.goref_lines.specs.Kept.{is_control_byte, is_hash, spaced}
 use Rattle.goref_lines.specs.Words.{is_plain_space}
@@ -18,8 +18,20 @@ with_space has_space word = if has_space then 32 ∷ word else word
 abbrev pub is_word_byte : ℕ → Bool
 is_word_byte b = not (is_control_byte b) && (not (is_hash b) && not (is_plain_space (spaced b)))
 
-abbrev pub AreOfWord : List ℕ → Type 0
-AreOfWord bytes = list_all is_word_byte bytes ≡ true
+-- the bytes go on with words that are joined by single spaces, behind a byte of a word or behind
+-- none, up to the end of a word
+abbrev pub goes_on_joined : Bool → List ℕ → Bool
+goes_on_joined behind [] = behind
+goes_on_joined behind (b ∷ bytes) = if is_word_byte b then goes_on_joined true bytes else ((is_plain_space b && behind) && goes_on_joined false bytes)
+
+-- one word or more, joined by single spaces
+abbrev pub AreJoined : List ℕ → Type 0
+AreJoined bytes = goes_on_joined false bytes ≡ true
+
+-- where words end that stand up to a place, the last of them from a start on: before the blank in
+-- front of it, where it has no byte yet
+abbrev pub end_of_words : ℕ → ℕ → ℕ
+end_of_words start place = if nat_lt start place then place else start - 1
 
 -- a byte between words: a control or white space
 abbrev pub is_gap_byte : ℕ → Bool

@@ -1,4 +1,4 @@
-use Rattle.std.proofs.Common.{ap, subst, sym, take}
+use Rattle.std.proofs.Common.{subst, sym, take}
 use Rattle.goref_lines.specs.inner.Front.{AreBetweenWords, is_gap_byte}
 use Rattle.goref_lines.proofs.Pieces.{taken_pass}
 use Rattle.goref_lines.proofs.line.gap_front.Goals as goal
