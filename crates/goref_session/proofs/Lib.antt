@@ -10,3 +10,4 @@ pub mod Facts
 pub mod RecordLine
 pub mod Ending
 pub mod Named
+pub mod Wanting

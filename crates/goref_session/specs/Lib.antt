@@ -12,3 +12,4 @@ pub mod Table
 pub mod Replies
 pub mod Answered
 pub mod Laws
+pub mod inner

@@ -1,5 +1,6 @@
 ghost use Rattle.std.specs.Prelude.{◌≡◌, option_copied};
 ghost use Rattle.goref_session.specs.Replies.{wanted};
+ghost use Rattle.goref_session.specs.inner.Wanting.{may_load};
 
 use crate::commands::record::{asks_to_load, load_asked};
 use goref_lines::{Line, Request};
@@ -28,7 +29,11 @@ pub fn wants(line: &Line) -> Option<&[u8]>
     if line.is_long() {
         return None;
     }
-    let request = Request::of(line.text());
+    let text = line.text();
+    if !may_ask_to_load(text) {
+        return None;
+    }
+    let request = Request::of(text);
     if !asks_to_load(&request) {
         return None;
     }
@@ -36,4 +41,17 @@ pub fn wants(line: &Line) -> Option<&[u8]>
         Some(load) => Some(load.name),
         None => None,
     }
+}
+
+/// Whether a text may ask for `loadsgf`: the first byte above the digits is the `l` of its name. An id
+/// and spaces have none, so most lines are told apart before they are cut into words.
+fn may_ask_to_load(text: &[u8]) -> bool
+    ensures { result ≡ may_load text.now }
+{
+    for byte in text {
+        if *byte > b'9' {
+            return *byte == b'l';
+        }
+    }
+    false
 }
