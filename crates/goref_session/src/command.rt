@@ -88,8 +88,18 @@ pub fn command_asked(request: &Request) -> Option<Command>
     }
 }
 
-/// The command of this name.
+/// The command of this name. The one that most lines ask for is compared first.
 pub fn command_named(name: &[u8]) -> Option<Command>
+    ensures { result ≡ command_of name.now }
+{
+    if name == b"play".as_slice() {
+        return Some(Command::Play);
+    }
+    command_listed(name)
+}
+
+/// The command that is listed by this name.
+fn command_listed(name: &[u8]) -> Option<Command>
     ensures { result ≡ command_of name.now }
 {
     for (known, command) in COMMANDS {

