@@ -7,16 +7,16 @@ use Rattle.std.proofs.lemmas.Bool.Decides.{nat_tests}
 use Rattle.std.proofs.lemmas.Int.{ints}
 use Rattle.go_board.specs.declared.colour.Colour.{Colour}
 use Rattle.go_board.specs.declared.point.Point.{Point}
-use Rattle.go_board.specs.declared.vertex.Move.{Move}
 use Rattle.go_board.specs.declared.vertex.Vertex.{Vertex}
 use Rattle.go_board.specs.declared.vertex.Vertex.TheVariants.{Pass, At}
+use Rattle.go_board.specs.Colours.{Colouring}
 use Rattle.go_board.specs.Points.{number_of, point_at}
 use Rattle.go_board.specs.Reaching.{moved}
 use Rattle.go_game.specs.declared.choice.Trial.{Trial}
 use Rattle.go_game.specs.Choices.{chosen, first_or_pass, is_better, lead_after, lead_of, lead_on, liberties_after, liberties_on, may_play, outranks, raises_margin}
 use Rattle.go_game.specs.Legal.{is_legal}
 use Rattle.go_game.specs.Standings.{Standing, board_of, with_move}
-use Rattle.go_game.specs.inner.Trials.{IsBestBelow, IsBestTrial, beats, better_of, trial_at, tried}
+use Rattle.go_game.specs.inner.Trials.{IsBestBelow, IsBestTrial, beats, better_of, trial_at, tried, tried_on}
 use Rattle.go_game.proofs.Played.{board_push}
 
 -- the order of leads and liberties
@@ -171,13 +171,11 @@ module _ (s : Standing) (c : Colour) (best : Option Trial) (t : Trial) (present 
 abbrev trial_of : Point → ℤ → ℕ → Trial
 trial_of p lead liberties = record { point = p; lead = lead; liberties = liberties }
 
--- what is read off the game after a legal play is its trial
-pub tried_is : (s after : Standing) (c : Colour) (n : ℕ) (p : Point) (k : ℕ) (legal : Bool) (lead' lead : ℤ) (liberties : ℕ) → n ≡ s.lines → p ≡ point_at n k → number_of n p ≡ k
-    → legal ≡ is_legal s c (At p) → legal ≡ true → after ≡ (if legal then with_move s (record { colour = c; vertex = At p }) else s)
-    → lead' ≡ lead → lead ≡ lead_of after c → liberties ≡ liberties_on after.lines (board_of after) (number_of after.lines p)
-    → Some (trial_of p lead' liberties) ≡ tried s c k
-tried_is s after c n p k legal lead' lead liberties size at number legal_is allowed played same lead_is liberties_is =
-    ap Some trial ∙ ap (λ b. cond b (Some (trial_at s c k)) None) (sym (ap (λ (q : Point). is_legal s c (At q)) (sym here) ∙ sym legal_is ∙ allowed))
+-- the trial of a play is that of its point's number
+pub tried_at : (s : Standing) (c : Colour) (n : ℕ) (p : Point) (k : ℕ) → n ≡ s.lines → p ≡ point_at n k → number_of n p ≡ k → tried_on s c p ≡ tried s c k
+tried_at s c n p k size at number =
+    ap (λ q. let t : Option Trial = if is_legal s c (At q) then Some (trial_of q (lead_after s c (number_of s.lines p)) (liberties_after s c (number_of s.lines p))) else None in t) here
+    ∙ ap (λ j. let t : Option Trial = if may_play s c k then Some (trial_of (point_at s.lines k) (lead_after s c j) (liberties_after s c j)) else None in t) numbered
   where
     here : p ≡ point_at s.lines k
     here = at ∙ ap (λ m. point_at m k) size
@@ -185,23 +183,30 @@ tried_is s after c n p k legal lead' lead liberties size at number legal_is allo
     numbered : number_of s.lines p ≡ k
     numbered = ap (λ m. number_of m p) (sym size) ∙ number
 
-    after_is : after ≡ with_move s (record { colour = c; vertex = At p })
-    after_is = played ∙ ap (λ b. if b then with_move s (let m : Move = record { colour = c; vertex = At p } in m) else s) allowed
+-- what isn't legal has none
+pub untried : (s : Standing) (c : Colour) (p : Point) → is_legal s c (At p) ≡ false → None ≡ tried_on s c p
+untried s c p closed = sym (ap (λ b. cond b (Some (trial_of p (lead_after s c (number_of s.lines p)) (liberties_after s c (number_of s.lines p)))) None) closed)
 
+-- what is told of the colouring that a legal play leaves is its trial
+pub tried_as : (s : Standing) (c : Colour) (p : Point) (g : Colouring) (lead : ℤ) (liberties : ℕ) → is_legal s c (At p) ≡ true → g ≡ moved s.lines (board_of s) c (number_of s.lines p)
+    → lead ≡ lead_on s.lines g c → liberties ≡ liberties_on s.lines g (number_of s.lines p) → Some (trial_of p lead liberties) ≡ tried_on s c p
+tried_as s c p g lead liberties allowed is lead_is liberties_is =
+    ap Some (ap₂ (trial_of p) (lead_is ∙ ap (λ h. lead_on s.lines h c) is) (liberties_is ∙ ap (λ h. liberties_on s.lines h (number_of s.lines p)) is))
+    ∙ sym (ap (λ b. cond b (Some (trial_of p (lead_after s c (number_of s.lines p)) (liberties_after s c (number_of s.lines p)))) None) allowed)
+
+-- what is read off the game after a legal play is its trial
+pub tried_is : (s after : Standing) (c : Colour) (p : Point) (lead' lead : ℤ) (liberties : ℕ) → is_legal s c (At p) ≡ true → after ≡ with_move s (record { colour = c; vertex = At p })
+    → lead' ≡ lead → lead ≡ lead_of after c → liberties ≡ liberties_on after.lines (board_of after) (number_of after.lines p)
+    → Some (trial_of p lead' liberties) ≡ tried_on s c p
+tried_is s after c p lead' lead liberties allowed after_is same lead_is liberties_is =
+    tried_as s c p (board_of after) lead' liberties allowed grid (same ∙ lead_is ∙ ap (λ m. lead_on m (board_of after) c) lines)
+    (liberties_is ∙ ap (λ m. liberties_on m (board_of after) (number_of m p)) lines)
+  where
     lines : after.lines ≡ s.lines
     lines = ap (λ (t : Standing). t.lines) after_is
 
-    grid : board_of after ≡ moved s.lines (board_of s) c k
-    grid =
-        ap board_of after_is
-        ∙ board_push s.lines s.start s.moves (record { colour = c; vertex = At p })
-        ∙ ap (moved s.lines (board_of s) c) numbered
-
-    trial : trial_of p lead' liberties ≡ trial_at s c k
-    trial =
-        ap (λ z. trial_of p z liberties) (same ∙ lead_is ∙ ap₂ (λ m g. lead_on m g c) lines grid)
-        ∙ ap (trial_of p (lead_after s c k)) (liberties_is ∙ ap₂ (λ m g. liberties_on m g (number_of m p)) lines grid ∙ ap (liberties_on s.lines (moved s.lines (board_of s) c k)) numbered)
-        ∙ ap (λ q. trial_of q (lead_after s c k) (liberties_after s c k)) here
+    grid : board_of after ≡ moved s.lines (board_of s) c (number_of s.lines p)
+    grid = ap board_of after_is ∙ board_push s.lines s.start s.moves (record { colour = c; vertex = At p })
 
 -- one point more
 below_more : (i q : ℕ) → q < i + 1 → (q < i) ⊎ (q ≡ i)

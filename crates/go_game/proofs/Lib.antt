@@ -5,6 +5,7 @@ pub mod Stones
 pub mod Vacant
 pub mod Apart
 pub mod HandicapPlaces
+pub mod Holding
 pub mod Legal
 pub mod Choosing
 pub mod ChoiceRule

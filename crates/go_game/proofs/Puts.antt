@@ -1,5 +1,5 @@
 -- What a play on the board of a game tells of the game's standing.
-use Rattle.std.specs.Prelude.{Result, Err, IsErrOf, slice_set}
+use Rattle.std.specs.Prelude.{Result, Err, IsErrOf, is_none, slice_set}
 use Rattle.go_chains.specs.declared.error.PlaceError.{PlaceError}
 use Rattle.go_chains.specs.declared.error.PlaceError.TheVariants.{Occupied}
 use Rattle.go_game.specs.declared.error.PlayError.{PlayError}
@@ -24,10 +24,12 @@ use Rattle.go_game.specs.declared.superko.Superko.{Superko}
 use Rattle.go_game.specs.declared.step.Step.{Step}
 use Rattle.go_game.specs.inner.Held.{IsKeeping, IsPlayable, IsPlayed, made_of, standing_of}
 use Rattle.go_game.specs.inner.Histories.{IsKeyOf}
+use Rattle.go_game.specs.Legal.{is_legal}
 use Rattle.go_game.specs.Prisoners.{taken_by, share_of}
 use Rattle.go_game.specs.Standings.{IsLegal, IsRepeat, board, mover_by, seen_after, stood_of}
 use Rattle.go_game.proofs.Played.{length-moved}
 use Rattle.go_game.proofs.Keeping.{seen_as}
+use Rattle.go_game.proofs.Legal.{legal_passes, repeat_fails}
 use Rattle.go_game.proofs.Remembered.{history_found, history_lacks}
 use Rattle.go_game.proofs.Turns.{placed}
 
@@ -53,6 +55,30 @@ module _ (rule : Superko) (start : GridValue) (komi : ℤ) (first : Colour) (ste
 
   pub most_is : most_of b.lines (grid_of b) c (number_of b.lines p) ≡ most_of start.lines now c (number_of start.lines p)
   most_is = let f : ℕ → Colouring → ℕ = λ m g. most_of m g c (number_of m p) in seen_as f rule start komi first steps b log history black white k
+
+  -- the key of a play that takes nothing
+  key_on : (key : Key) → bytes_of key.pack ≡ packed_of (slice_set (grid_of b) (number_of b.lines p) (Some c)) → key.mover ≡ mover_by rule (other c)
+      → moved start.lines now c (number_of start.lines p) ≡ slice_set now (number_of start.lines p) (Some c)
+      → IsKeyOf key (seen_after (standing_of rule start komi first steps) c (number_of start.lines p))
+  key_on key packs mover quiet =
+      let f : ℕ → Colouring → Colouring = λ m g. slice_set g (number_of m p) (Some c) in
+      (packs ∙ ap packed_of (seen_as f rule start komi first steps b log history black white k ∙ sym quiet), mover)
+
+  -- such a play is legal if the history has nothing at its key
+  pub new_on : (key : Key) → bytes_of key.pack ≡ packed_of (slice_set (grid_of b) (number_of b.lines p) (Some c)) → key.mover ≡ mover_by rule (other c)
+      → moved start.lines now c (number_of start.lines p) ≡ slice_set now (number_of start.lines p) (Some c)
+      → IsPlayable start.lines now (At p) → (known : Option ℕ) → known ≡ number_at history key → is_none known ≡ is_legal (standing_of rule start komi first steps) c (At p)
+  new_on key packs mover quiet playable None is =
+      sym (legal_passes (standing_of rule start komi first steps) c (At p) (
+        playable.0,
+        playable.1,
+        history_lacks (start.lines * start.lines) history (stood_of (standing_of rule start komi first steps)) key (seen_after (standing_of rule start komi first steps) c (number_of start.lines p))
+            k.told (key_on key packs mover quiet) (length-moved start.lines now c (number_of start.lines p)) (sym is),
+      ))
+  new_on key packs mover quiet playable (Some j) is =
+      sym (repeat_fails (standing_of rule start komi first steps) c (At p) j
+      (history_found (start.lines * start.lines) history (stood_of (standing_of rule start komi first steps)) key (seen_after (standing_of rule start komi first steps) c (number_of start.lines p)) j
+      k.told (key_on key packs mover quiet) (length-moved start.lines now c (number_of start.lines p)) (sym is)))
 
   module _ (b' : BoardValue) (moved_to : grid_of b' ≡ moved b.lines (grid_of b) c (number_of b.lines p)) where
     then_is : grid_of b' ≡ moved start.lines now c (number_of start.lines p)

@@ -1,8 +1,9 @@
 //! What is legal, and the plain choice of a play: by trials on the game itself, each of which is
 //! taken back.
-ghost use Rattle.std.specs.Prelude.{◌≡◌, ◌<◌, ◌≤◌, ◌+◌, ◌*◌, ◌↔◌, ◌-ℤ◌, pos, false, true, IfOk, IsTrue, OnErr, if◌then◌else◌};
+ghost use Rattle.std.specs.Prelude.{◌≡◌, ◌<◌, ◌≤◌, ◌+◌, ◌*◌, ◌↔◌, ◌-ℤ◌, pos, false, true, IfOk, IsTrue, OnErr, None, Some, if◌then◌else◌, slice_set};
 ghost use Rattle.go_game.specs.inner.Trials.{better_of};
 
+use crate::holdings::Holdings;
 use crate::{Game, PlayError};
 use go_board::{Colour, Move, Point, Vertex};
 use std::alloc::{AllocError, Allocator};
@@ -50,8 +51,10 @@ impl<A: Allocator + Copy> Game<A> {
     ghost use Rattle.go_game.specs.Choices.{chosen, lead_of};
     ghost use Rattle.go_game.specs.Counts.{IsAsBefore, IsLogged, most_for, most_on, most_on_all};
     ghost use Rattle.go_game.specs.Legal.{is_legal};
-    ghost use Rattle.go_game.specs.Standings.{IsLegal, IsOccupied, IsOffBoard, with_move};
-    ghost use Rattle.go_game.specs.inner.Trials.{IsBestTrial, tried};
+    ghost use Rattle.go_game.specs.Standings.{IsLegal, IsOccupied, IsOffBoard, after_vertex, board_of, present, with_move};
+    ghost use Rattle.go_game.specs.inner.Trials.{AreHoldings, IsBestTrial, tried, tried_on};
+    ghost use Rattle.go_board.specs.Grids.{stone_at};
+    ghost use Rattle.go_board.specs.Points.{IsOn, number_of};
 
     /// Whether the rules allow a move; one off the board isn't legal. The game is used for a trial,
     /// which is taken back also where there was no memory for it. That can't be so off the board or
@@ -59,6 +62,53 @@ impl<A: Allocator + Copy> Game<A> {
     pub fn legal(&mut self, made: Move) -> Result<bool, AllocError>
         ensures rules { IfOk result
             (λ legal. IsTrue legal ↔ IsLegal self.old.standing made.colour made.vertex) }
+        ensures test { IfOk result
+            (λ legal. legal ≡ is_legal self.old.standing made.colour made.vertex) }
+        ensures tried { OnErr result ((IsOffBoard self.old.standing made.vertex → ⊥)
+            × (IsOccupied self.old.standing made.vertex → ⊥)) }
+        ensures same { IsAsBefore self.old self.new }
+        ensures count { self.new.count
+            ≤ self.old.count + 4 * most_for self.old.standing made.colour made.vertex }
+    {
+        match made.vertex {
+            Vertex::At(p) if self.is_open(p) => self.legal_on(made.colour, p),
+            _ => self.legal_by_playing(made),
+        }
+    }
+
+    /// Whether a point is on the board and empty.
+    fn is_open(&self, p: Point) -> bool
+        ensures on { IsTrue result → IsOn self.now.standing.lines p }
+        ensures vacant { IsTrue result → stone_at (present self.now.standing) p ≡ None }
+    {
+        p.on(self.size()) && self.colour_at(p).is_none()
+    }
+
+    /// Whether the rules allow a play on an empty point. It is played, and taken back, where it may
+    /// take stones.
+    fn legal_on(&mut self, colour: Colour, p: Point) -> Result<bool, AllocError>
+        requires on { IsOn self.old.standing.lines p }
+        requires vacant { stone_at (present self.old.standing) p ≡ None }
+        ensures test { IfOk result
+            (λ legal. legal ≡ is_legal self.old.standing colour (Vertex.At p)) }
+        ensures same { IsAsBefore self.old self.new }
+        ensures count { self.new.count
+            ≤ self.old.count + 4 * most_for self.old.standing colour (Vertex.At p) }
+    {
+        if self.board.is_quiet(&mut self.meter, colour, p) {
+            return Ok(self.leaves_new(colour, p));
+        }
+        match self.put(colour, p) {
+            Ok(_) => {}
+            Err(PlayError::Repeats(_)) => return Ok(false),
+            Err(_) => return Err(AllocError),
+        }
+        let _ = self.undo();
+        Ok(true)
+    }
+
+    /// Whether the rules allow a move, which is played and taken back.
+    fn legal_by_playing(&mut self, made: Move) -> Result<bool, AllocError>
         ensures test { IfOk result
             (λ legal. legal ≡ is_legal self.old.standing made.colour made.vertex) }
         ensures tried { OnErr result ((IsOffBoard self.old.standing made.vertex → ⊥)
@@ -126,31 +176,84 @@ impl<A: Allocator + Copy> Game<A> {
             ≤ self.old.count + 4 * most_on_all self.old.standing colour }
     {
         let size = self.size();
+        let holdings = Holdings::new(&self.board, colour);
         let mut best = None;
         for number in 0..size.points() {
-            let trial = self.try_at(colour, number)?;
+            let trial = self.try_at(&holdings, colour, number)?;
             best = better_of(best, trial);
         }
         Ok(best)
     }
 
-    /// What the play on the point with this number comes to, or none where it isn't legal.
-    fn try_at(&mut self, colour: Colour, number: u16) -> Result<Option<Trial>, AllocError>
-        requires { number < self.old.standing.lines * self.old.standing.lines }
+    /// What the play on the point with this number comes to, or none where it isn't legal. It is
+    /// played only where what stands around the point doesn't tell that.
+    fn try_at(
+        &mut self,
+        holdings: &Holdings,
+        colour: Colour,
+        number: u16,
+    ) -> Result<Option<Trial>, AllocError>
+        requires number { number < self.old.standing.lines * self.old.standing.lines }
+        requires holdings { AreHoldings self.old.standing.lines (board_of self.old.standing) colour
+            holdings.now }
         ensures ok { IfOk result (λ trial. trial ≡ tried self.old.standing colour number) }
         ensures same { IsAsBefore self.old self.new }
         ensures count { self.new.count
             ≤ self.old.count + 4 * most_on self.old.standing colour number }
     {
         let point = Point::numbered(self.size(), number);
-        let vertex = Vertex::At(point);
-        if !self.try_play(Move { colour, vertex })? {
+        if self.colour_at(point).is_some() {
             return Ok(None);
         }
-        let trial = Trial {
+        let lead = holdings.lead_with(&self.board, &mut self.meter, colour, point);
+        let Some(lead) = lead else {
+            return self.try_by_playing(colour, point);
+        };
+        if !self.leaves_new(colour, point) {
+            return Ok(None);
+        }
+        let liberties = self.board.liberties_with(&mut self.meter, colour, point);
+        Ok(Some(Trial {
             point,
+            lead,
+            liberties,
+        }))
+    }
+
+    /// Whether a play on an empty point is legal, where it takes nothing: whether the superko rule
+    /// didn't see what it leaves.
+    fn leaves_new(&self, colour: Colour, p: Point) -> bool
+        requires on { IsOn self.now.standing.lines p }
+        requires vacant { stone_at (present self.now.standing) p ≡ None }
+        requires quiet { after_vertex self.now.standing.lines (board_of self.now.standing) colour
+            (Vertex.At p) ≡ slice_set (board_of self.now.standing)
+            (number_of self.now.standing.lines p) (Some colour) }
+        ensures { result ≡ is_legal self.now.standing colour (Vertex.At p) }
+    {
+        let pack = self.board.pack_with(colour, p);
+        let key = self.superko.key(pack, colour.other());
+        self.history.look_up(&key).is_none()
+    }
+
+    /// What the play on an empty point comes to, or none where it isn't legal: it is played, and
+    /// taken back.
+    fn try_by_playing(&mut self, colour: Colour, p: Point) -> Result<Option<Trial>, AllocError>
+        requires on { IsOn self.old.standing.lines p }
+        requires vacant { stone_at (present self.old.standing) p ≡ None }
+        ensures ok { IfOk result (λ trial. trial ≡ tried_on self.old.standing colour p) }
+        ensures same { IsAsBefore self.old self.new }
+        ensures count { self.new.count + 52
+            ≤ self.old.count + 4 * most_for self.old.standing colour (Vertex.At p) }
+    {
+        match self.put(colour, p) {
+            Ok(_) => {}
+            Err(PlayError::Repeats(_)) => return Ok(None),
+            Err(_) => return Err(AllocError),
+        }
+        let trial = Trial {
+            point: p,
             lead: self.lead(colour),
-            liberties: self.liberties_of(point),
+            liberties: self.liberties_of(p),
         };
         self.undo();
         Ok(Some(trial))

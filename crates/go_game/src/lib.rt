@@ -30,6 +30,7 @@ mod choice;
 mod error;
 mod game;
 mod handicap;
+mod holdings;
 pub mod laws;
 mod play;
 mod prisoners;

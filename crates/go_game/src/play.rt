@@ -90,7 +90,7 @@ impl<A: Allocator + Copy> Game<A> {
 
     /// Places a stone on an empty point where that is legal. The board is played on first, and the
     /// play taken back where it repeats or there is no memory to keep it.
-    fn put(&mut self, colour: Colour, p: Point) -> Result<Taken, PlayError>
+    pub(crate) fn put(&mut self, colour: Colour, p: Point) -> Result<Taken, PlayError>
         requires on { IsOn self.old.standing.lines p }
         requires vacant { stone_at (present self.old.standing) p ≡ None }
         ensures repeats { (k : ℕ) → result ≡ Err (PlayError.Repeats k)
@@ -105,9 +105,9 @@ impl<A: Allocator + Copy> Game<A> {
             ⊎ ((k : ℕ) × (e ≡ PlayError.Repeats k))) }
         ensures logged { OnOk result (IsLogged self.old self.new
             (most_for self.old.standing colour (Vertex.At p))) }
-        ensures count { OnOk result (self.new.count
+        ensures count { OnOk result (self.new.count + 52
             ≤ self.old.count + 3 * most_for self.old.standing colour (Vertex.At p)) }
-        ensures refused { OnErr result (self.new.count
+        ensures refused { OnErr result (self.new.count + 52
             ≤ self.old.count + 4 * most_for self.old.standing colour (Vertex.At p)) }
         ensures writes { OnErr result (length self.new.trace ≤ length self.old.trace
             + 2 * most_for self.old.standing colour (Vertex.At p)) }

@@ -1,9 +1,16 @@
 -- What trials of plays find. For the contracts of the choice's own parts.
-use Rattle.std.specs.Prelude.{◌≡◌, ◌<◌, ℕ, Bool, true, false, Option, Some, None, if◌then◌else◌}
+use Rattle.std.specs.Prelude.{◌≡◌, ◌<◌, ◌*◌, ℕ, Bool, true, false, Option, Some, None, if◌then◌else◌, length}
 use Rattle.go_board.specs.declared.colour.Colour.{Colour}
-use Rattle.go_board.specs.Points.{point_at}
+use Rattle.go_board.specs.declared.point.Point.{Point}
+use Rattle.go_board.specs.declared.vertex.Vertex.TheVariants.{At}
+use Rattle.go_board.specs.Colours.{Colouring, other}
+use Rattle.go_board.specs.Points.{number_of, point_at}
+use Rattle.go_board.specs.Reaching.{area}
+use Rattle.go_board.specs.Rows.{AreHeld, AreStones}
 use Rattle.go_game.specs.declared.choice.Trial.{Trial}
+use Rattle.go_game.specs.declared.holdings.Holdings.{Holdings}
 use Rattle.go_game.specs.Choices.{is_better, lead_after, liberties_after, may_play, outranks}
+use Rattle.go_game.specs.Legal.{is_legal}
 use Rattle.go_game.specs.Standings.{Standing}
 
 -- the trial of the play on p
@@ -35,3 +42,16 @@ pub record IsBestBelow (s : Standing) (c : Colour) (i p : ℕ) : Type 0 where
 abbrev pub IsBestTrial : Standing → Colour → ℕ → Option Trial → Type 0
 IsBestTrial s c i None = (p : ℕ) → p < i → may_play s c p ≡ false
 IsBestTrial s c i (Some t) = (p : ℕ) × IsBestBelow s c i p × (t ≡ trial_at s c p)
+
+-- the play on a point, as a trial of it, where it is legal
+abbrev pub tried_on : Standing → Colour → Point → Option Trial
+tried_on s c p = if is_legal s c (At p) then Some (record { point = p; lead = lead_after s c (number_of s.lines p); liberties = liberties_after s c (number_of s.lines p) }) else None
+
+-- the stones of c, and what it and the other colour hold
+pub record AreHoldings (n : ℕ) (g : Colouring) (c : Colour) (h : Holdings) : Type 0 where
+  pub whole : length g ≡ n * n
+  pub own : AreStones n g c h.own
+  pub own_held : AreHeld n g c h.own_held
+  pub theirs_held : AreHeld n g (other c) h.theirs_held
+  pub own_area : h.own_area ≡ area n g c
+  pub theirs_area : h.theirs_area ≡ area n g (other c)

@@ -1,0 +1,32 @@
+use Rattle.std.proofs.Common.{◌≡◌, ◌∙◌, Bool, true, false, not, refl, sym, ap, subst, Option, None, Some, slice_set}
+use Rattle.std.specs.Prelude.{is_none, is_some}
+use Rattle.go_board.specs.declared.colour.Colour.{Colour}
+use Rattle.go_board.specs.declared.point.Point.{Point}
+use Rattle.go_board.specs.PackBytes.{bytes_of}
+use Rattle.go_board.specs.declared.vertex.Vertex.TheVariants.{At}
+use Rattle.go_board.specs.Points.{number_of}
+use Rattle.go_board.specs.Reaching.{moved}
+use Rattle.go_game.specs.inner.Held.{IsPlayable}
+use Rattle.go_game.specs.Legal.{is_legal}
+use Rattle.go_game.specs.Standings.{GameValue, board_of, mover_by}
+use Rattle.go_game.proofs.Puts.{new_on}
+use Rattle.go_game.proofs.game.Game.leaves_new.Goals as goal
+
+none_is : {A : Type 0} (o : Option A) (b : Bool) → is_some o ≡ not b → b ≡ is_none o
+none_is None true e = refl
+none_is None false e = cc
+none_is (Some x) true e = cc
+none_is (Some x) false e = refl
+
+-- the play takes nothing
+abbrev IsStill : GameValue → Colour → Point → Type 0
+IsStill v d p = moved v.standing.lines (board_of v.standing) d (number_of v.standing.lines p) ≡ slice_set (board_of v.standing) (number_of v.standing.lines p) (Some d)
+
+pub returns : goal.returns
+returns g c =
+    let playable = subst (λ (v : GameValue). IsPlayable v.standing.lines (board_of v.standing) (At c.args.p)) (sym c.self.view_is) (c.requires.on, c.requires.vacant) in
+    let quiet = subst (λ (v : GameValue). IsStill v c.args.colour c.args.p) (sym c.self.view_is) c.requires.quiet in
+    let known = new_on c.self.inside.superko c.self.inside.start c.self.inside.komi c.self.inside.first c.self.inside.steps.items c.self.inside.board c.self.inside.log c.self.inside.history c.self.inside.prisoners.black c.self.inside.prisoners.white c.self.invariant c.args.colour c.args.p
+    c.key-key.result (ap bytes_of c.key-key.ensures.pack ∙ c.pack_with-pack.ensures) (c.key-key.ensures.mover ∙ ap (mover_by c.self.inside.superko) c.other.ensures)
+    quiet playable c.look_up.result c.look_up.ensures in
+    none_is c.look_up.result c.is_none.result c.is_none.ensures ∙ known ∙ ap (λ (v : GameValue). is_legal v.standing c.args.colour (At c.args.p)) c.self.view_is
