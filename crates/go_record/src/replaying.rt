@@ -71,7 +71,7 @@ fn bring<A: Allocator + Copy>(
 }
 
 /// Walks along a record whose root says this.
-fn walk_on<A: Allocator + Copy>(
+pub(crate) fn walk_on<A: Allocator + Copy>(
     game: &mut Game<A>,
     root: &Root,
     collection: &Collection<'_, A>,
