@@ -16,6 +16,8 @@ struct Play<'a> {
     line: Line,
     text: Vec<u8>,
     output: Output<&'a mut Digest>,
+    /// How many plays were refused since the last one that was not.
+    refused: u32,
     alloc: Global,
 }
 
@@ -38,6 +40,13 @@ impl From<WriteFault> for LongError {
     }
 }
 
+/// After more refused plays than these, one behind the other, some plays are taken back: a full board on
+/// which nearly any play would repeat is left that way.
+const REFUSED: u32 = 20;
+
+/// How many plays are taken back then.
+const BACK: usize = 60;
+
 /// Plays so many random moves, and takes all back.
 pub fn play_long(
     alloc: Global,
@@ -50,15 +59,15 @@ pub fn play_long(
         line: Line::new(),
         text: Vec::new(alloc),
         output: Output::new(digest),
+        refused: 0,
         alloc,
     };
     for number in 0..moves {
         play.put_any(number, random)?;
     }
     play.say(b"showboard")?;
-    for _ in 0..moves {
-        play.say(b"undo")?;
-    }
+    let left = play.session.game().move_count();
+    play.take_back(left)?;
     play.say(b"showboard")
 }
 
@@ -80,7 +89,30 @@ impl Play<'_> {
         };
         let mut text = Vec::new(self.alloc);
         put_play(&mut text, colour_of(number), at)?;
-        self.say(text.as_slice())
+        let before = self.session.game().move_count();
+        self.say(text.as_slice())?;
+        if self.session.game().move_count() > before {
+            self.refused = 0;
+            return Ok(());
+        }
+        self.bear_refusal()
+    }
+
+    /// Counts a refused play, and takes some back where there were many.
+    fn bear_refusal(&mut self) -> Result<(), LongError> {
+        if self.refused < REFUSED {
+            self.refused += 1;
+            return Ok(());
+        }
+        self.refused = 0;
+        self.take_back(BACK)
+    }
+
+    fn take_back(&mut self, plays: usize) -> Result<(), LongError> {
+        for _ in 0..plays {
+            self.say(b"undo")?;
+        }
+        Ok(())
     }
 }
 
