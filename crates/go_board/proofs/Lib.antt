@@ -11,6 +11,7 @@ pub mod Alone
 pub mod Seeding
 pub mod Clearing
 pub mod Counted
+pub mod Empty
 pub mod Equal
 pub mod Packing
 pub mod Leaving

@@ -8,6 +8,7 @@
 //! - [`plain`]: what a play leaves and who holds which points, told by floods of a whole grid. The
 //!   faster bodies above have to agree with it.
 //! - [`rows`], [`Packed`]: stones in words of rows, and a colouring in two bits a point.
+//! - [`gains`]: what a stone that takes nothing gains, told from the points around it.
 //! - [`Source`], [`Sink`], [`Pen`]: where bytes come from and go to, and a text that is written in
 //!   pieces.
 //! - [`read_int`]: a number in decimal digits.
@@ -22,8 +23,9 @@
 //!
 //! What is promised is in the clauses of each file. Their words are in `specs/`: `Colours` and
 //! `Points` say what a colouring and a point are, `Paths` and `Reaching` what reaches what and what
-//! a play leaves, `Vertices` how a vertex is spelled, and `Device` and `Pens` what a device was
-//! given. `Laws` says how these words belong together. What `specs/inner/` defines serves private
+//! a play leaves, `Rows` which rows stand for stones and for what they hold, `Gains` what a stone
+//! gains, `Vertices` how a vertex is spelled, and `Device` and `Pens` what a device was given.
+//! `Laws` says how these words belong together. What `specs/inner/` defines serves private
 //! functions alone.
 #![tactic(auto)]
 

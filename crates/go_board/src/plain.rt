@@ -194,6 +194,9 @@ pub fn first_dead(grid: &Grid) -> Option<Point>
     ensures found { IfSome result (IsFirstDead grid.now.lines grid.now.colours) }
     ensures none { IfNone result (AreAlive grid.now.lines grid.now.colours) }
 {
+    if grid.is_vacant() {
+        return None;
+    }
     let black = reaching(grid, Some(Colour::Black), None);
     let white = reaching(grid, Some(Colour::White), None);
     let size = grid.size();

@@ -151,8 +151,9 @@ fn count_in_row(own: u32, theirs: u32) -> u16
     (own & !theirs).count_ones() as u16
 }
 
-/// How many points a colour holds alone.
-fn count_alone(own: &Rows, theirs: &Rows, lines: usize) -> u16
+/// How many points count for a colour, those that it holds alone, from what it and the other colour
+/// hold.
+pub fn count_alone(own: &Rows, theirs: &Rows, lines: usize) -> u16
     requires { lines ≤ ROWS }
     ensures { (g : Colouring) (c : Colour) → AreHeld lines g c own.now
         → AreHeld lines g (other c) theirs.now → result ≡ area lines g c }
