@@ -97,7 +97,25 @@ pub(crate) fn reserve_play<A: Allocator + Copy>(
     ensures play { OnOk result (vec_len lengths.new < vec_capacity lengths.new) }
 {
     lengths.reserve(1)?;
-    changes.reserve(most)
+    if changes.capacity() == most && !changes.is_empty() {
+        widen(changes, most)
+    } else {
+        changes.reserve(most)
+    }
+}
+
+/// Gives changes room for twice as many as a play makes at most. A list that grows is moved with all
+/// its room, of which a game's first play uses next to nothing; this moves the changes alone.
+fn widen<A: Allocator + Copy>(changes: &mut Vec<Change, A>, most: usize) -> Result<(), AllocError>
+    requires few { vec_len changes.old ≤ most }
+    ensures changes { changes.new.items ≡ changes.old.items }
+    ensures room { OnOk result (vec_len changes.new + most ≤ vec_capacity changes.new) }
+{
+    let mut wider = Vec::new(*changes.allocator());
+    wider.reserve(most.saturating_mul(2))?;
+    wider.extend_from_slice(changes.as_slice())?;
+    *changes = wider;
+    Ok(())
 }
 
 /// Closes a play of so many changes, for which there is room.
