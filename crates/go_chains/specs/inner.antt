@@ -7,6 +7,6 @@ pub mod CellSteps
 pub mod Beside
 pub mod Traces
 pub mod Words
-pub mod Parts
+pub mod Marked
 pub mod Codes
 pub mod Quiet

@@ -12,7 +12,6 @@ ghost use Rattle.go_board.specs.declared.size.TheConstants.{MAX_LINES, MAX_POINT
 ghost use Rattle.go_chains.specs.declared.cells.TheConstants.{COUNT, WORDS};
 ghost use Rattle.go_chains.specs.declared.change.Change.{Change};
 ghost use Rattle.go_chains.specs.Cells.{code_at, label_of, lib_of};
-ghost use Rattle.go_chains.specs.inner.Parts.{has_label, is_in_part, points_left};
 ghost use Rattle.go_chains.specs.Playing.{most_at, played, went};
 ghost use Rattle.go_chains.specs.Rewound.{ForLast, IsRewound, NamesCells, PlayLogged, rewound};
 ghost use Rattle.go_chains.specs.Sound.{IsKept};
@@ -22,9 +21,10 @@ ghost use Rattle.go_board.specs.Grids.{are_joined, chain_liberties, chain_stones
 
 use crate::beside::beside;
 use crate::cells::{Cells, LABELS, SIZES, with_code, word_place};
-use crate::chain_points::{ChainPoints, Part};
+use crate::chain_points::ChainPoints;
 use crate::error::PlaceError;
 use crate::log::{Log, reserve_play, seal};
+use crate::marks::{liberties_of, ring_of};
 use crate::masks::mask_of;
 use crate::place::{ROOM, place};
 use crate::quiet::{count_points, is_quiet, lent_to};
@@ -276,58 +276,6 @@ impl Board {
         word >> (point % 64) & 1 == 1
     }
 
-    /// The first point of a part of the chain with this label, from a number on.
-    pub(crate) fn next_in_part(&self, part: Part, label: usize, first: u16) -> Option<u16>
-        requires { label < MAX_POINTS }
-        ensures none { IfNone result (points_left self.now part label first ≡ []) }
-        ensures some { IfSome result (λ q. points_left self.now part label first
-            ≡ point_at self.now.lines q ∷ points_left self.now part label (q + 1)) }
-        ensures on { IfSome result (λ q. q < self.now.lines * self.now.lines) }
-        ensures few { IfSome result (λ q. q < MAX_POINTS) }
-    {
-        for number in first..self.size().points() {
-            if self.has_in_part(part, label, number) {
-                return Some(number);
-            }
-        }
-        None
-    }
-
-    /// Whether a point is in this part of the chain with this label.
-    fn has_in_part(&self, part: Part, label: usize, number: u16) -> bool
-        requires label { label < MAX_POINTS }
-        requires number { number < MAX_POINTS }
-        ensures { result ≡ is_in_part self.now.cells part label number }
-    {
-        match part {
-            Part::Stones => self.has_label(usize::from(number), label),
-            Part::Liberties => self.has_liberty(label, usize::from(number)),
-        }
-    }
-
-    /// Whether a point holds a stone with this label.
-    fn has_label(&self, number: usize, label: usize) -> bool
-        requires { number < MAX_POINTS }
-        ensures { result ≡ has_label self.now.cells label number }
-    {
-        let mut meter = Meter::new();
-        match Colour::coded(self.cells.get(number, &mut meter)) {
-            Some(_) => label == self.cells.get(LABELS + number, &mut meter) as usize,
-            None => false,
-        }
-    }
-
-    /// Whether a label's liberties have a point.
-    fn has_liberty(&self, label: usize, number: usize) -> bool
-        requires label { label < MAX_POINTS }
-        requires number { number < MAX_POINTS }
-        ensures { result ≡ nat_eq (lib_of self.now.cells label number) 1 }
-    {
-        let place = word_place(label, number / 64);
-        let word = self.cells.get(place, &mut Meter::new());
-        word >> (number % 64) & 1 == 1
-    }
-
     /// The stones of the chain of a stone, in point order.
     pub fn chain_points(&self, p: Point) -> ChainPoints<'_>
         requires on { IsOn self.now.lines p }
@@ -336,8 +284,11 @@ impl Board {
     {
         points_by_number();
         joined_by_a_path();
-        let label = self.label_at(p, &mut Meter::new());
-        ChainPoints::new(self, Part::Stones, label)
+        let mut meter = Meter::new();
+        let label = self.label_at(p, &mut meter);
+        let stones = self.cells.get(SIZES + label, &mut meter) as usize;
+        let first = usize::from(p.index(self.size));
+        ChainPoints::new(self, ring_of(&self.cells, first, stones))
     }
 
     /// The liberties of the chain of a stone, in point order.
@@ -349,7 +300,7 @@ impl Board {
         points_by_number();
         liberty_by_a_path();
         let label = self.label_at(p, &mut Meter::new());
-        ChainPoints::new(self, Part::Liberties, label)
+        ChainPoints::new(self, liberties_of(&self.cells, self.size(), label))
     }
 
     /// How many stones the chain of a stone has.

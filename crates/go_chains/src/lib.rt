@@ -1,7 +1,8 @@
 //! A board that keeps its chains and their liberties in fixed tables. A play changes them in place,
 //! and a log of those changes takes it back cell by cell.
 //!
-//! - [`Board`]: the stones, and what a caller may ask of them and of their chains.
+//! - [`Board`]: the stones, and what a caller may ask of them, of their chains, and of a stone that
+//!   would take nothing.
 //! - [`Log`]: the changes of the plays, from which [`Board::rewind`] takes the last play back.
 //! - [`Taken`], [`PlaceError`]: what a play took, and why a stone can't be placed.
 //! - [`ChainPoints`]: the stones of a chain, or its liberties, one after another.
@@ -39,6 +40,7 @@ mod join;
 pub mod laws;
 mod lift;
 mod log;
+mod marks;
 mod masks;
 mod numbers;
 mod occupy;

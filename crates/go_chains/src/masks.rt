@@ -8,7 +8,6 @@ use go_board::MAX_POINTS;
 
 /// The bits of a word of liberties that stand for one of the first so many points.
 pub(crate) fn mask_of(points: usize, word: usize) -> u64
-    requires points { points ≤ MAX_POINTS }
     requires word { word < WORDS }
     ensures inside { (i : ℕ) → i < 64 → 64 * word + i < points → bit_at result i ≡ 1 }
     ensures outside { (i : ℕ) → i < 64 → points ≤ 64 * word + i → bit_at result i ≡ 0 }

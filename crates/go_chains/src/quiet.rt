@@ -46,7 +46,7 @@ fn has_other_in(
 }
 
 /// Whether a label has a liberty but this point. Liberties are mostly close by, so the word with the
-/// bit of the point is looked at first. It may overlook none.
+/// bit of the point is looked at first. Its contract speaks of yes alone: a no promises nothing.
 fn has_other(cells: &Cells, meter: &mut Meter, size: Size, label: usize, point: usize) -> bool
     requires label { label < MAX_POINTS }
     requires point { point < size * size }
@@ -132,7 +132,13 @@ pub(crate) fn is_quiet(
 }
 
 /// Adds a label's liberties to words.
-fn add_liberties(cells: &Cells, meter: &mut Meter, size: Size, label: usize, words: &mut Words)
+pub(crate) fn add_liberties(
+    cells: &Cells,
+    meter: &mut Meter,
+    size: Size,
+    label: usize,
+    words: &mut Words,
+)
     requires label { label < MAX_POINTS }
     requires words { length words.old ≡ WORDS }
     ensures added { (q : ℕ) → q < size * size → (mask_bit words.new q ≡ 1)

@@ -1,12 +1,14 @@
--- The points of a part of a chain that are still to come.
-use Rattle.std.proofs.Common.{ℕ, zero, suc, ◌+◌, ◌-◌, ◌*◌, ◌<◌, ◌≤◌, ◌≡◌, ◌∙◌, ◌∷◌, [], refl, sym, ap, arith, Bool, true, false, cond, List, map}
-use Rattle.std.specs.Prelude.{filter}
+-- The points in words that are still to come.
+use Rattle.std.specs.Int.{bit_at, trailing_zeros}
+use Rattle.std.specs.Prelude.{◌↔◌, filter}
+use Rattle.std.proofs.Common.{ℕ, zero, suc, ◌+◌, ◌-◌, ◌*◌, ◌/◌, ◌%◌, ◌^◌, ◌<◌, ◌≤◌, ◌≡◌, ◌∙◌, ◌∷◌, [], refl, sym, ap, subst, arith, inl, inr, Bool, true, false, cond, List, map, nat_eq, slice_index, w64}
+use Rattle.std.proofs.lemmas.Bool.{cases_lt, eq-eqb, eqb-true, false_from_ne_true}
+use Rattle.std.proofs.lemmas.Nat.Bits.{bit_at-trailing_zeros}
 use Rattle.std.specs.List.{range_with_len}
 use Rattle.go_board.specs.Points.{point_at}
 use Rattle.go_board.specs.Reaching.{points}
-use Rattle.go_chains.specs.inner.Parts.{is_in_part, points_left}
-use Rattle.go_chains.specs.Boards.{BoardValue}
-use Rattle.go_chains.specs.declared.chain_points.Part.{Part}
+use Rattle.go_chains.specs.inner.Marked.{is_marked, points_left}
+use Rattle.go_chains.specs.inner.Writes.{mask_bit}
 
 module _ (test : ℕ → Bool) where
   -- the numbers from k to below count that pass
@@ -30,21 +32,91 @@ module _ (test : ℕ → Bool) where
   pub passing-end : (count k : ℕ) → count ≤ k → passing count k ≡ []
   passing-end count k past = let none : count - k ≡ 0 = omega arith in ap (λ m. filter test (range_with_len k m)) none
 
-module _ (b : BoardValue) (part : Part) (l : ℕ) where
+module _ (n : ℕ) (words : List ℕ) where
   abbrev all : ℕ
-  all = b.lines * b.lines
+  all = n * n
 
-  pub left-over : (k : ℕ) → k < all → is_in_part b.cells part l k ≡ false → points_left b part l (k + 1) ≡ points_left b part l k
+  pub left-over : (k : ℕ) → k < all → is_marked words k ≡ false → points_left n words (k + 1) ≡ points_left n words k
   unfolding points_left
-  left-over k low e = ap (map (point_at b.lines)) (passing-over (is_in_part b.cells part l) all k low e)
+  left-over k low e = ap (map (point_at n)) (passing-over (is_marked words) all k low e)
 
-  pub left-first : (k : ℕ) → k < all → is_in_part b.cells part l k ≡ true → points_left b part l k ≡ point_at b.lines k ∷ points_left b part l (k + 1)
+  pub left-first : (k : ℕ) → k < all → is_marked words k ≡ true → points_left n words k ≡ point_at n k ∷ points_left n words (k + 1)
   unfolding points_left
-  left-first k low e = ap (map (point_at b.lines)) (passing-first (is_in_part b.cells part l) all k low e)
+  left-first k low e = ap (map (point_at n)) (passing-first (is_marked words) all k low e)
 
-  pub left-end : (k : ℕ) → all ≤ k → points_left b part l k ≡ []
+  pub left-end : (k : ℕ) → all ≤ k → points_left n words k ≡ []
   unfolding points_left
-  left-end k past = ap (map (point_at b.lines)) (passing-end (is_in_part b.cells part l) all k past)
+  left-end k past = ap (map (point_at n)) (passing-end (is_marked words) all k past)
+
+  left-one : (k : ℕ) → is_marked words k ≡ false → points_left n words (k + 1) ≡ points_left n words k
+  left-one k out = elim (cases_lt k all) [ inl below ↦ left-over k below out | inr past ↦ left-end (k + 1) (omega arith) ∙ sym (left-end k past) ]
+
+  -- numbers that aren't in the words are passed over
+  pub left-past : (k d : ℕ) → ((q : ℕ) → k ≤ q → q < k + d → is_marked words q ≡ false) → points_left n words (k + d) ≡ points_left n words k
+  left-past k zero out = let e : k + zero ≡ k = omega arith in ap (points_left n words) e
+  left-past k (suc d) out =
+      let e : k + suc d ≡ k + d + 1 = omega arith in
+      ap (points_left n words) e ∙ left-one (k + d) (out (k + d) (omega arith) (omega arith)) ∙ left-past k d (λ q low high. out q low (omega arith))
+
+-- the bit of a point in one of the words
+pub bit_in : (words : List ℕ) (word i : ℕ) → i < 64 → mask_bit words (64 * word + i) ≡ bit_at (slice_index words word) i
+bit_in words word i low =
+    let point : ℕ = 64 * word + i in
+    let at : point / 64 ≡ word = omega (arith, low) in
+    let bit : point % 64 ≡ i = omega (arith, low) in
+    ap (λ w. bit_at (slice_index words w) (point % 64)) at ∙ ap (bit_at (slice_index words word)) bit
+
+-- one of the words without the points before a number, where earlier words have none from there on
+module _ (n : ℕ) (words : List ℕ) (first word bits : ℕ) (small : bits < 2 ^ 64) (is : (i : ℕ) → i < 64 → (bit_at bits i ≡ 1) ↔ ((first ≤ 64 * word + i) × (mask_bit words (64 * word + i) ≡ 1)))
+    (none : (q : ℕ) → first ≤ q → q < 64 * word → mask_bit words q ≡ 1 → ⊥) where
+  abbrev lowest : ℕ
+  lowest = 64 * word + trailing_zeros w64 bits
+
+  -- none of its points before a place without a bit is in the words
+  none_before : (m : ℕ) → m ≤ 64 → ((i : ℕ) → i < m → bit_at bits i ≡ 0) → (q : ℕ) → first ≤ q → q < 64 * word + m → mask_bit words q ≡ 1 → ⊥
+  none_before m low clear q past before free = elim (cases_lt q (64 * word)) [
+    | inl earlier ↦ none q past earlier free
+    | inr here ↦
+        let i = q - 64 * word in
+        let e : q ≡ 64 * word + i = omega arith in
+        let set : bit_at bits i ≡ 1 = (is i (omega arith)).1 (subst (λ (k : ℕ). first ≤ k) e past, subst (λ (k : ℕ). mask_bit words k ≡ 1) e free) in
+        let zero_bit : bit_at bits i ≡ 0 = clear i (omega arith) in
+        absurd (omega (arith, set, zero_bit))
+  ]
+
+  module _ (some : 0 < bits) where
+    found : (first ≤ lowest) × (mask_bit words lowest ≡ 1) × (trailing_zeros w64 bits < 64)
+    found =
+        let t = bit_at-trailing_zeros w64 bits some small in
+        let here = (is (trailing_zeros w64 bits) t.0).0 t.1 in
+        (here.0, here.1, t.0)
+
+    skipped : points_left n words lowest ≡ points_left n words first
+    skipped =
+        let t = bit_at-trailing_zeros w64 bits some small in
+        let d = lowest - first in
+        let past = found.0 in
+        let e : lowest ≡ first + d = omega (arith, past) in
+        ap (points_left n words) e
+        ∙ left-past n words first d (λ q low high. false_from_ne_true (nat_eq (mask_bit words q) 1)
+        (λ yes. none_before (trailing_zeros w64 bits) (omega (arith, t.0)) t.2 q low (omega (arith, high, e)) (eqb-true (mask_bit words q) 1 yes)))
+
+    pub lowest-next : lowest < n * n → points_left n words first ≡ point_at n lowest ∷ points_left n words (lowest + 1)
+    lowest-next inside = sym skipped ∙ left-first n words lowest inside (eq-eqb (mask_bit words lowest) 1 found.1)
+
+    pub lowest-past : n * n ≤ lowest → points_left n words first ≡ []
+    lowest-past past = sym skipped ∙ left-end n words lowest past
+
+-- where no word of the board has one, none is to come
+pub none-left : (n : ℕ) (words : List ℕ) (first : ℕ) → ((q : ℕ) → first ≤ q → q < n * n → mask_bit words q ≡ 1 → ⊥) → points_left n words first ≡ []
+none-left n words first none = elim (cases_lt first (n * n)) [
+  | inl inside ↦
+      let d = n * n - first in
+      let e : n * n ≤ first + d = omega arith in
+      sym (left-past n words first d (λ q low high. false_from_ne_true (nat_eq (mask_bit words q) 1) (λ yes. none q low (omega (arith, high, inside)) (eqb-true (mask_bit words q) 1 yes))))
+      ∙ left-end n words (first + d) e
+  | inr past ↦ left-end n words first past
+]
 
 -- tests that agree on the numbers of a range pass the same
 alike : (f g : ℕ → Bool) (k m : ℕ) → ((q : ℕ) → k ≤ q → q < k + m → f q ≡ g q) → filter f (range_with_len k m) ≡ filter g (range_with_len k m)
@@ -55,11 +127,11 @@ alike f g k (suc m) same =
     ap (λ c. cond c (k ∷ filter f (range_with_len (k + 1) m)) (filter f (range_with_len (k + 1) m))) here
     ∙ ap (λ rest. cond (g k) (k ∷ rest) rest) more
 
--- what is to come of a part at first is what a test of the points tells
-pub left-all : (b : BoardValue) (part : Part) (l : ℕ) (test : ℕ → Bool) → ((q : ℕ) → q < b.lines * b.lines → is_in_part b.cells part l q ≡ test q)
-    → points_left b part l 0 ≡ map (point_at b.lines) (filter test (points b.lines))
+-- what is to come at first is what a test of the points tells
+pub left-all : (n : ℕ) (words : List ℕ) (test : ℕ → Bool) → ((q : ℕ) → q < n * n → is_marked words q ≡ test q)
+    → points_left n words 0 ≡ map (point_at n) (filter test (points n))
 unfolding points_left
-left-all b part l test same =
-    let len : b.lines * b.lines - 0 ≡ b.lines * b.lines = omega arith in
-    ap (λ m. map (point_at b.lines) (filter (is_in_part b.cells part l) (range_with_len 0 m))) len
-    ∙ ap (map (point_at b.lines)) (alike (is_in_part b.cells part l) test 0 (b.lines * b.lines) (λ q low high. same q (omega arith)))
+left-all n words test same =
+    let len : n * n - 0 ≡ n * n = omega arith in
+    ap (λ m. map (point_at n) (filter (is_marked words) (range_with_len 0 m))) len
+    ∙ ap (map (point_at n)) (alike (is_marked words) test 0 (n * n) (λ q low high. same q (omega arith)))

@@ -1,9 +1,9 @@
 -- What the cells of a kept board answer.
-use Rattle.std.specs.Prelude.{Option, None, Some, replicate}
+use Rattle.std.specs.Prelude.{◌↔◌, Option, None, Some, replicate}
 use Rattle.go_board.specs.Laws.{JoinedByPath, LibertyByPath}
 use Rattle.go_board.specs.lemmas.Squares.{square-le}
 use Rattle.std.specs.Int.{bit_at}
-use Rattle.std.proofs.Common.{ℕ, ◌+◌, ◌*◌, ◌/◌, ◌%◌, ◌^◌, ◌<◌, ◌≤◌, ◌≡◌, ◌++◌, ◌∷◌, [], refl, sym, ap, ◌∙◌, arith, inl, inr, Bool, true, false, List, length, nat_eq, bit_and, get_or}
+use Rattle.std.proofs.Common.{ℕ, ◌+◌, ◌*◌, ◌/◌, ◌%◌, ◌^◌, ◌<◌, ◌≤◌, ◌≡◌, ◌++◌, ◌∷◌, [], refl, sym, ap, subst, ◌∙◌, arith, inl, inr, Bool, true, false, List, length, nat_eq, bit_and, get_or}
 use Rattle.std.proofs.lemmas.Bool.{cases_lt, eq-eqb, eqb-true, false_from_ne_true}
 use Rattle.std.proofs.lemmas.List.{ext_get_or, get_or-replicate, get_or_past, length-replicate}
 use Rattle.std.proofs.lemmas.List.FromFn.{length-range_with_len}
@@ -17,12 +17,12 @@ use Rattle.go_board.specs.Packs.{byte_of, code_of, colour_coded}
 use Rattle.go_board.specs.Paths.{Joined}
 use Rattle.go_board.specs.Reaching.{is_liberty_of, joined, points}
 use Rattle.go_chains.specs.Cells.{code_at, label_of, lib_of, next_of, size_of, word_of}
-use Rattle.go_chains.specs.inner.Parts.{is_labelled}
-use Rattle.go_chains.specs.Rings.{ring_from}
+use Rattle.go_chains.specs.inner.Writes.{mask_bit}
+use Rattle.go_chains.specs.Rings.{IsOnRing, ring_from, steps}
 use Rattle.go_chains.specs.Sound.{IsKept}
 use Rattle.go_chains.specs.Boards.{IsStoneOf, colouring_of}
 use Rattle.go_chains.specs.inner.Tables.{IsStone, tables_of}
-use Rattle.go_chains.proofs.rules.Sound.{IsKept-tidy, colouring-at, far_stone, length-colouring, length-ring_from, of_stone, stone-kept, tidy-kept, colouring-inside}
+use Rattle.go_chains.proofs.rules.Sound.{Contains-IsOn, IsKept-tidy, IsOn-Contains, colouring-at, far_stone, length-colouring, length-ring_from, stone-kept, tidy-kept, colouring-inside}
 use Rattle.go_chains.proofs.rules.Counting.{counted}
 
 -- two tests that hold together have one answer
@@ -58,21 +58,28 @@ module _ (n : ℕ) (cells : List ℕ) (kept : IsKept n cells) where
       (λ e. path.1 (same.0 (sym a_is ∙ eqb-true a b e ∙ b_is)))
       (λ t. eq-eqb a b (a_is ∙ same.1 (path.0 t) ∙ sym b_is))
 
-  labelled : JoinedByPath → (p q l : ℕ) → IsStoneOf (colouring_of n cells) p → q < n * n → l ≡ label_of cells p
-      → (v : Option Colour) → colour_coded (code_at cells q) ≡ v → is_labelled v (label_of cells q) l ≡ joined n (colouring_of n cells) p q
-  labelled by p q l stone q_in l_is None e =
-      sym (false_from_ne_true (joined n (colouring_of n cells) p q) (λ t. (
-      let j = (by n (colouring_of n cells) p q (stone-kept n cells kept p stone).0).0 t in
-      let far = far_stone n (colouring_of n cells) cells (colouring-inside n cells) kept.sound.colours kept.sound.coded p q (stone-kept n cells kept p stone) j in
-      let held = of_stone n (colouring_of n cells) cells (colouring-inside n cells) kept.sound.colours kept.sound.coded q far.0 in
-      none-some (colour_coded (code_at cells q)) held.0 e (sym (colouring-at n cells q q_in) ∙ held.1))))
-  labelled by p q l stone q_in l_is (Some c) e =
-      labels_joined by p q l (label_of cells q) stone (c, colouring-at n cells q q_in ∙ e) l_is refl
+  -- how many steps along the ring of a stone lead to points
+  pub ring_in : (p l i : ℕ) → IsStoneOf (colouring_of n cells) p → l ≡ label_of cells p → i < size_of cells l → steps (next_of cells) i p < MAX_POINTS
+  ring_in p l i stone l_is low =
+      let m = size_of cells (label_of cells p) in
+      let q = steps (next_of cells) i p in
+      let e = ap (size_of cells) l_is in
+      let j = ((kept.sound.rings p stone).1 q).0 (Contains-IsOn (next_of cells) m p q (i, omega (arith, low, e), refl)) in
+      let far = far-kept p q stone j in
+      omega (arith, far, points-kept)
 
-  -- a point with the label of a stone is in its chain
-  pub stone_answers : JoinedByPath → (p q l : ℕ) → IsStoneOf (colouring_of n cells) p → q < n * n → l ≡ label_of cells p
-      → is_labelled (colour_coded (code_at cells q)) (label_of cells q) l ≡ joined n (colouring_of n cells) p q
-  stone_answers by p q l stone q_in l_is = labelled by p q l stone q_in l_is (colour_coded (code_at cells q)) refl
+  -- a point on the ring of a stone is in its chain
+  pub ring_answers : JoinedByPath → (p q l : ℕ) (words : List ℕ) → IsStoneOf (colouring_of n cells) p → l ≡ label_of cells p
+      → (mask_bit words q ≡ 1) ↔ IsOnRing (next_of cells) (size_of cells l) p q
+      → nat_eq (mask_bit words q) 1 ≡ joined n (colouring_of n cells) p q
+  ring_answers by p q l words stone l_is marked =
+      let m = size_of cells (label_of cells p) in
+      let list = (kept.sound.rings p stone).1 q in
+      let path = by n (colouring_of n cells) p q (stone-kept n cells kept p stone).0 in
+      let e = ap (size_of cells) l_is in
+      same_answer (nat_eq (mask_bit words q) 1) (joined n (colouring_of n cells) p q)
+      (λ t. path.1 (list.0 (Contains-IsOn (next_of cells) m p q (subst (λ k. IsOnRing (next_of cells) k p q) e (marked.0 (eqb-true (mask_bit words q) 1 t))))))
+      (λ t. eq-eqb (mask_bit words q) 1 (marked.1 (subst (λ k. IsOnRing (next_of cells) k p q) (sym e) (IsOn-Contains (next_of cells) m p q (list.1 (path.0 t))))))
 
   pub size_counts : JoinedByPath → (p l : ℕ) → IsStoneOf (colouring_of n cells) p → l ≡ label_of cells p
       → size_of cells l ≡ length (members n (colouring_of n cells) p)
