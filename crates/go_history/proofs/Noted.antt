@@ -5,8 +5,9 @@ use Rattle.std.proofs.Common.{◌≡◌, ◌<◌, ◌+◌, ◌∙◌, ℕ, zero,
 use Rattle.std.proofs.lemmas.List.{get_or-set_same, get_or-take, length-take-le, take_all, take_more}
 use Rattle.go_history.specs.declared.key.Key.{Key}
 use Rattle.go_history.specs.declared.key_tree.Entry.{Entry}
+use Rattle.go_history.specs.declared.ranked.Ranked.{Ranked}
 use Rattle.go_history.specs.Keys.{key_eq}
-use Rattle.go_history.specs.inner.Trees.{IsOwn, IsTree, Leads, StandsAt, StandsNowhere, key_at, noted, noted_by, ranked}
+use Rattle.go_history.specs.inner.Trees.{IsOwn, IsTree, Leads, StandsAt, StandsNowhere, key_at, link_to, noted, noted_by, ranked}
 use Rattle.go_history.proofs.Noting.{lookup-append, same_key}
 
 abbrev at_key : Key → List Entry → Option ℕ
@@ -86,14 +87,24 @@ written (e ∷ entries) zero x d same (suc j) f lt = refl
 written (e ∷ entries) (suc i) x d same zero f lt = refl
 written (e ∷ entries) (suc i) x d same (suc j) f lt = written entries i x d same j f (omega (arith, lt))
 
-pub tree_written : (entries : List Entry) (links : List ℕ) (i : ℕ) (x d : Entry) → i < length entries → x.ranked ≡ (slice_index_or entries i d).ranked → IsTree entries links → IsTree (slice_set entries i x) links
-tree_written entries links i x d lt same tree =
+written_link : (entries : List Entry) (i : ℕ) (x d : Entry) → x.link ≡ (slice_index_or entries i d).link → (j : ℕ) (f : Entry) → i < length entries → (slice_index_or (slice_set entries i x) j f).link ≡ (slice_index_or entries j f).link
+written_link [] i x d same j f lt = absurd (omega (arith, lt))
+written_link (e ∷ entries) zero x d same zero f lt = same
+written_link (e ∷ entries) zero x d same (suc j) f lt = refl
+written_link (e ∷ entries) (suc i) x d same zero f lt = refl
+written_link (e ∷ entries) (suc i) x d same (suc j) f lt = written_link entries i x d same j f (omega (arith, lt))
+
+pub tree_written : (entries : List Entry) (links : List ℕ) (i : ℕ) (x d : Entry) → i < length entries → x.ranked ≡ (slice_index_or entries i d).ranked → x.link ≡ (slice_index_or entries i d).link → IsTree entries links → IsTree (slice_set entries i x) links
+tree_written entries links i x d lt same linked tree =
     let long : length (slice_set entries i x) ≡ length entries = length-set entries i x in
     let at : (j : ℕ) (f : Entry) → (slice_index_or (slice_set entries i x) j f).ranked ≡ (slice_index_or entries j f).ranked = λ j f. written entries i x d same j f lt in
     record {
       sized = omega (arith, long, tree.sized);
+      ranks = λ j f low. tree.ranks j f (omega (arith, low, long)) ∙ ap (λ (r : Ranked). r.rank) (sym (at j f));
       own = λ j f low. subst IsOwn (sym (at j f)) (tree.own j f (omega (arith, low, long)));
-      led = λ j f low. subst (λ r. (m : ℕ) × Leads links (ranked r.key) m j) (sym (at j f)) (tree.led j f (omega (arith, low, long)));
+      led = λ j f low. let led = tree.led j f (omega (arith, low, long)) in
+          subst (λ r. (m : ℕ) × (Leads links (ranked r.key) m j × ((slice_index_or (slice_set entries i x) j f).link ≡ link_to links (ranked r.key) m))) (sym (at j f))
+          (led.0, (led.1.0, written_link entries i x d linked j f lt ∙ led.1.1));
       apart = λ j k f low low' alike. tree.apart j k f (omega (arith, low, long)) (omega (arith, low', long)) (ap₂ (λ r s. key_eq r.key s.key) (sym (at j f)) (sym (at k f)) ∙ alike);
     }
 
@@ -103,9 +114,9 @@ at_other q (e ∷ entries) zero x d lt same other = past q x entries other ∙ s
 at_other q (e ∷ entries) (suc i) x d lt same other =
     at_first q e (slice_set entries i x) ∙ ap (option_or (cond (key_eq q e.ranked.key) e.number None)) (at_other q entries i x d (omega (arith, lt)) same other) ∙ sym (at_first q e entries)
 
-pub noted_written : (entries : List Entry) (links : List ℕ) (p : Key) (i : ℕ) (x d : Entry) → IsTree entries links → i < length entries → x.ranked ≡ (slice_index_or entries i d).ranked → key_eq p x.ranked.key ≡ true
-    → (q : Key) → at_key q (slice_set entries i x) ≡ cond (key_eq p q) x.number (at_key q entries)
-noted_written entries links p i x d tree lt same alike q = here (key_eq p q) refl
+pub noted_written : (entries : List Entry) (links : List ℕ) (p : Key) (i : ℕ) (x d : Entry) → IsTree entries links → i < length entries → x.ranked ≡ (slice_index_or entries i d).ranked → x.link ≡ (slice_index_or entries i d).link
+    → key_eq p x.ranked.key ≡ true → (q : Key) → at_key q (slice_set entries i x) ≡ cond (key_eq p q) x.number (at_key q entries)
+noted_written entries links p i x d tree lt same linked alike q = here (key_eq p q) refl
   where
     key : p ≡ x.ranked.key
     key = same_key p x.ranked.key alike
@@ -117,7 +128,7 @@ noted_written entries links p i x d tree lt same alike q = here (key_eq p q) ref
     here : (b : Bool) → key_eq p q ≡ b → at_key q (slice_set entries i x) ≡ cond b x.number (at_key q entries)
     here true e =
         let long : length (slice_set entries i x) ≡ length entries = length-set entries i x in
-        let tree' = tree_written entries links i x d lt same tree in
+        let tree' = tree_written entries links i x d lt same linked tree in
         let low : i < length (slice_set entries i x) = omega (arith, long, lt) in
         let read : slice_index_or (slice_set entries i x) i d ≡ x = get_or-set_same entries i x d lt in
         let own : q ≡ (slice_index_or (slice_set entries i x) i d).ranked.key = sym (same_key p q e) ∙ key ∙ ap (λ (f : Entry). f.ranked.key) (sym read) in

@@ -3,17 +3,28 @@ use Rattle.std.proofs.Common.{◌≡◌, ◌≢◌, ◌<◌, ◌≤◌, ◌+◌,
 use Rattle.std.proofs.Math.Nat.{mod-lt}
 use Rattle.std.proofs.Math.Seq.{get_or-append_seam}
 use Rattle.std.proofs.lemmas.Bool.Decides.{nat_tests}
-use Rattle.std.proofs.lemmas.List.{get_or_append_left, get_or-take, length-take-le}
+use Rattle.std.proofs.lemmas.List.{get_or_append_left, get_or_default, get_or-take, length-take-le}
 use Rattle.go_history.specs.declared.key.Key.{Key}
 use Rattle.go_history.specs.declared.key_tree.Entry.{Entry}
 use Rattle.go_history.specs.declared.ranked.Ranked.{Ranked}
 use Rattle.go_history.specs.Keys.{key_eq}
-use Rattle.go_history.specs.inner.Trees.{EndsAt, IsLinkTo, IsOwn, IsTree, Leads, StandsAt, StandsNowhere, at_depth, digit_of, key_at, link_to, ranked, ranked_eq, way}
+use Rattle.go_history.specs.inner.Trees.{EndsAt, IsLinkTo, IsOwn, IsTree, Leads, StandsAt, StandsNowhere, at_depth, digit_of, key_at, link_to, rank_place, ranked, ranked_eq, way}
 use Rattle.go_history.proofs.Noting.{ranked_alike, same_key}
 
 pub digit_few : (r : Ranked) (d : ℕ) → digit_of r d < 4
 unfolding digit_of
 digit_few r d = mod-lt _ (omega arith)
+
+some_same : (a b : ℕ) → let at : Option ℕ = Some a in at ≡ Some b → a ≡ b
+some_same a b e = cc
+
+-- the link of a way stands apart from the ranks
+no_rank : (links : List ℕ) (r : Ranked) (n : ℕ) (link : Option ℕ) → link ≡ link_to links r n → (j : ℕ) → link ≢ Some (rank_place j)
+no_rank links r zero link by j is = let bad = sym by ∙ is in cc
+no_rank links r (suc n) link by j is =
+    let same = some_same (way (at_depth links r n) (digit_of r n)) (rank_place j) (sym by ∙ is) in
+    let few = digit_few r n in
+    omega (arith, same, few)
 
 -- so many steps lead on
 abbrev Onward : List ℕ → Ranked → ℕ → Type 0
@@ -31,7 +42,7 @@ up_to links r (suc d) on e le = here (nat_lt e (suc d)) refl (λ lt. up_to links
     here false is to = let last : suc d ≡ e = grind (arith, nat_tests, is, le) in subst (λ k. at_depth links r k ≤ at_depth links r (suc d)) last (omega arith)
 
 -- a path that no written link is part of
-agrees : (links links' : List ℕ) (r : Ranked) (d n : ℕ) (link : Option ℕ) → ((k : ℕ) → k < 4 * n → link ≢ Some k → slice_index links' k ≡ slice_index links k)
+agrees : (links links' : List ℕ) (r : Ranked) (d n : ℕ) (link : Option ℕ) → ((k : ℕ) → k < 5 * n → link ≢ Some k → slice_index links' k ≡ slice_index links k)
     → ((e : ℕ) → e < d → at_depth links r e < n) → ((e : ℕ) → e < d → link ≢ Some (way (at_depth links r e) (digit_of r e)))
     → (e : ℕ) → e ≤ d → at_depth links' r e ≡ at_depth links r e
 agrees links links' r d n link same low other zero le = refl
@@ -42,7 +53,7 @@ agrees links links' r d n link same low other (suc e) le =
     let few = digit_few r e in
     ap (λ x. slice_index links' (way x (digit_of r e))) at ∙ same (way (at_depth links r e) (digit_of r e)) (omega (arith, from, few)) (other e lt)
 
-still_leads : (links links' : List ℕ) (r : Ranked) (d i n : ℕ) (link : Option ℕ) → ((k : ℕ) → k < 4 * n → link ≢ Some k → slice_index links' k ≡ slice_index links k)
+still_leads : (links links' : List ℕ) (r : Ranked) (d i n : ℕ) (link : Option ℕ) → ((k : ℕ) → k < 5 * n → link ≢ Some k → slice_index links' k ≡ slice_index links k)
     → i < n → ((e : ℕ) → e < d → link ≢ Some (way (at_depth links r e) (digit_of r e))) → Leads links r d i → Leads links' r d i
 still_leads links links' r d i n link same lt other leads =
     let low : (e : ℕ) → e < d → at_depth links r e < n = λ e le. let up = up_to links r d leads.onward e (omega (arith, le)) in omega (arith, up, leads.there, lt) in
@@ -51,6 +62,14 @@ still_leads links links' r d i n link same lt other leads =
       there = at d (omega arith) ∙ leads.there;
       onward = λ e le. let a = at e (omega (arith, le)) in let b = at (suc e) (omega (arith, le)) in let on = leads.onward e le in omega (arith, a, b, on);
     }
+
+-- the link of its last step is the same one
+still_linked : (links links' : List ℕ) (r : Ranked) (d i n : ℕ) (link : Option ℕ) → ((k : ℕ) → k < 5 * n → link ≢ Some k → slice_index links' k ≡ slice_index links k)
+    → i < n → ((e : ℕ) → e < d → link ≢ Some (way (at_depth links r e) (digit_of r e))) → Leads links r d i → link_to links r d ≡ link_to links' r d
+still_linked links links' r zero i n link same lt other leads = refl
+still_linked links links' r (suc d) i n link same lt other leads =
+    let low : (e : ℕ) → e < suc d → at_depth links r e < n = λ e le. let up = up_to links r (suc d) leads.onward e (omega (arith, le)) in omega (arith, up, leads.there, lt) in
+    ap (λ x. let it : Option ℕ = Some (way x (digit_of r d)) in it) (sym (agrees links links' r (suc d) n link same low other d (omega arith)))
 
 -- what holds of each entry and of one more
 each_and : (P : ℕ → Entry → Type 0) (entries : List Entry) (x d : Entry) → ((i : ℕ) → i < length entries → P i (slice_index_or entries i d)) → P (length entries) x
@@ -65,9 +84,6 @@ each_and P entries x d each one i lt = here (nat_lt i (length entries)) refl
         let long = length-append entries (x ∷ []) in
         let last : length entries ≡ i = grind (arith, nat_tests, e, lt, long) in
         subst (λ k. P k (slice_index_or (entries ++ x ∷ []) k d)) last (subst (P (length entries)) (sym (get_or-append_seam entries x [] d)) one)
-
-some_same : (a b : ℕ) → let at : Option ℕ = Some a in at ≡ Some b → a ≡ b
-some_same a b e = cc
 
 -- a path to an entry doesn't go by the link where another ends
 barred : (links : List ℕ) (count : ℕ) (p : Ranked) (n : ℕ) (link : Option ℕ) → EndsAt links count p n → link ≡ link_to links p n
@@ -84,9 +100,24 @@ barred links count p (suc n) link ends by r d i low leads e lt is =
     let out = ends.out n refl (omega (arith, from, to, step)) in
     omega (arith, out, bound, leads.there, low, to)
 
+-- the digits of a hash that led to no entry lead to the same link
+new_link : (links links' : List ℕ) (count : ℕ) (p : Ranked) (n : ℕ) (link : Option ℕ) → EndsAt links count p n → link ≡ link_to links p n
+    → ((k : ℕ) → k < 5 * count → link ≢ Some k → slice_index links' k ≡ slice_index links k) → link_to links p n ≡ link_to links' p n
+new_link links links' count p zero link ends by same = refl
+new_link links links' count p (suc n) link ends by same =
+    let on : Onward links p n = λ e lt. ends.onward e (omega (arith, lt)) in
+    let other : (e : ℕ) → e < n → link ≢ Some (way (at_depth links p e) (digit_of p e)) = λ e lt is.
+    let alike : way (at_depth links p n) (digit_of p n) ≡ way (at_depth links p e) (digit_of p e) = some_same (way (at_depth links p n) (digit_of p n)) (way (at_depth links p e) (digit_of p e)) (sym by ∙ is) in
+    let few = digit_few p e in
+    let few' = digit_few p n in
+    let step = on e lt in
+    let bound = up_to links p n on (suc e) (omega (arith, lt)) in
+    omega (arith, alike, few, few', step, bound) in
+    ap (λ x. let it : Option ℕ = Some (way x (digit_of p n)) in it) (sym (agrees links links' p n count link same (λ e lt. ends.inside e (omega (arith, lt))) other n (omega arith)))
+
 -- where the digits of a hash led to no entry they lead to the new one
 new_leads : (links links' : List ℕ) (count : ℕ) (p : Ranked) (n : ℕ) (link : Option ℕ) → EndsAt links count p n → link ≡ link_to links p n
-    → ((k : ℕ) → k < 4 * count → link ≢ Some k → slice_index links' k ≡ slice_index links k) → ((k : ℕ) → link ≡ Some k → slice_index links' k ≡ count) → Leads links' p n count
+    → ((k : ℕ) → k < 5 * count → link ≢ Some k → slice_index links' k ≡ slice_index links k) → ((k : ℕ) → link ≡ Some k → slice_index links' k ≡ count) → Leads links' p n count
 new_leads links links' count p zero link ends by same to = record { there = sym (ends.bare refl); onward = λ e lt. absurd (omega (arith, lt)) }
 new_leads links links' count p (suc n) link ends by same to =
     let on : Onward links p n = λ e lt. ends.onward e (omega (arith, lt)) in
@@ -119,19 +150,27 @@ new_leads links links' count p (suc n) link ends by same to =
 
 -- a tree with one entry more
 pub hung : (entries : List Entry) (links links' : List ℕ) (x : Entry) (link : Option ℕ) → IsTree entries links → IsOwn x.ranked → StandsNowhere entries links x.ranked.key link
-    → length links' ≡ 4 * (length entries + 1) → ((k : ℕ) → k < 4 * length entries → link ≢ Some k → slice_index links' k ≡ slice_index links k)
-    → ((k : ℕ) → link ≡ Some k → slice_index links' k ≡ length entries) → IsTree (entries ++ x ∷ []) links'
-hung entries links links' x link tree own nowhere sized same to =
+    → length links' ≡ 5 * (length entries + 1) → ((k : ℕ) → k < 5 * length entries → link ≢ Some k → slice_index links' k ≡ slice_index links k)
+    → ((k : ℕ) → link ≡ Some k → slice_index links' k ≡ length entries) → slice_index links' (rank_place (length entries)) ≡ x.ranked.rank → x.link ≡ link → IsTree (entries ++ x ∷ []) links'
+hung entries links links' x link tree own nowhere sized same to rank linked =
     let n = nowhere.by.0 in
     let ends = nowhere.by.1.0 in
     let by = nowhere.by.1.1 in
     record {
       sized = let long = length-append entries (x ∷ []) in grind (arith, sized, long);
+      ranks = λ i d. each_and (λ i e. slice_index links' (rank_place i) ≡ e.ranked.rank) entries x d
+          (λ i lt. same (rank_place i) (omega (arith, lt)) (no_rank links (ranked x.ranked.key) n link by i) ∙ tree.ranks i d lt) rank i;
       own = λ i d. each_and (λ i e. IsOwn e.ranked) entries x d (λ i lt. tree.own i d lt) own i;
-      led = λ i d. each_and (λ i e. (m : ℕ) × Leads links' (ranked e.ranked.key) m i) entries x d
+      led = λ i d. each_and (λ i e. (m : ℕ) × (Leads links' (ranked e.ranked.key) m i × (e.link ≡ link_to links' (ranked e.ranked.key) m))) entries x d
           (λ i lt. let led = tree.led i d lt in
-          (led.0, still_leads links links' (ranked (key_at entries i d)) led.0 i (length entries) link same lt (barred links (length entries) (ranked x.ranked.key) n link ends by (ranked (key_at entries i d)) led.0 i lt led.1) led.1))
-          (n, new_leads links links' (length entries) (ranked x.ranked.key) n link ends by same to) i;
+          let other = barred links (length entries) (ranked x.ranked.key) n link ends by (ranked (key_at entries i d)) led.0 i lt led.1.0 in (
+            led.0,
+            (
+              still_leads links links' (ranked (key_at entries i d)) led.0 i (length entries) link same lt other led.1.0,
+              led.1.1 ∙ still_linked links links' (ranked (key_at entries i d)) led.0 i (length entries) link same lt other led.1.0,
+            ),
+          ))
+          (n, (new_leads links links' (length entries) (ranked x.ranked.key) n link ends by same to, linked ∙ by ∙ new_link links links' (length entries) (ranked x.ranked.key) n link ends by same)) i;
       apart = λ i j d low. each_and (λ i e. (j : ℕ) → j < length (entries ++ x ∷ []) → key_eq e.ranked.key (key_at (entries ++ x ∷ []) j d) ≡ true → i ≡ j) entries x d
           (λ i lt. each_and (λ j f. key_eq (key_at entries i d) f.ranked.key ≡ true → i ≡ j) entries x d (λ j lt'. tree.apart i j d lt lt') (λ alike. absurd
           (let is = same_key (key_at entries i d) x.ranked.key alike in
@@ -141,21 +180,33 @@ hung entries links links' x link tree own nowhere sized same to =
 
 -- a tree without its last entry
 pub pruned : (entries : List Entry) (links links' : List ℕ) (link : Option ℕ) → IsTree entries links → 0 < length entries → IfSome link (λ p. IsLinkTo links p (length entries - 1))
-    → length links' ≡ 4 * (length entries - 1) → length (take (length entries - 1) entries) ≡ length entries - 1
-    → ((k : ℕ) → k < 4 * (length entries - 1) → link ≢ Some k → slice_index links' k ≡ slice_index links k) → IsTree (take (length entries - 1) entries) links'
+    → length links' ≡ 5 * (length entries - 1) → length (take (length entries - 1) entries) ≡ length entries - 1
+    → ((k : ℕ) → k < 5 * (length entries - 1) → link ≢ Some k → slice_index links' k ≡ slice_index links k) → IsTree (take (length entries - 1) entries) links'
 pruned entries links links' link tree some leads sized long same =
     let n = length entries - 1 in
     let at : (i : ℕ) (d : Entry) → i < length (take n entries) → slice_index_or (take n entries) i d ≡ slice_index_or entries i d = λ i d lt. get_or-take n entries i d (omega (arith, lt, long)) in
     let low : (i : ℕ) → i < length (take n entries) → i < length entries = λ i lt. omega (arith, lt, long) in
     record {
       sized = omega (arith, sized, long);
+      ranks = λ i d lt. same (rank_place i) (omega (arith, lt, long)) (apart_of i link leads) ∙ tree.ranks i d (low i lt) ∙ ap (λ (e : Entry). e.ranked.rank) (sym (at i d lt));
       own = λ i d lt. subst (λ (e : Entry). IsOwn e.ranked) (sym (at i d lt)) (tree.own i d (low i lt));
       led = λ i d lt. let led = tree.led i d (low i lt) in
-          subst (λ (e : Entry). (m : ℕ) × Leads links' (ranked e.ranked.key) m i) (sym (at i d lt))
-          (led.0, still_leads links links' (ranked (key_at entries i d)) led.0 i n link same (omega (arith, lt, long)) (λ e le is. apart_from i d (omega (arith, lt, long)) led.0 led.1 e le link is leads) led.1);
+          let other : (e : ℕ) → e < led.0 → link ≢ Some (way (at_depth links (ranked (key_at entries i d)) e) (digit_of (ranked (key_at entries i d)) e)) =
+          λ e le is. apart_from i d (omega (arith, lt, long)) led.0 led.1.0 e le link is leads in
+          subst (λ (e : Entry). (m : ℕ) × (Leads links' (ranked e.ranked.key) m i × (e.link ≡ link_to links' (ranked e.ranked.key) m))) (sym (at i d lt)) (
+            led.0,
+            (
+              still_leads links links' (ranked (key_at entries i d)) led.0 i n link same (omega (arith, lt, long)) other led.1.0,
+              led.1.1 ∙ still_linked links links' (ranked (key_at entries i d)) led.0 i n link same (omega (arith, lt, long)) other led.1.0,
+            ),
+          );
       apart = λ i j d lt lt' alike. tree.apart i j d (low i lt) (low j lt') (ap₂ (λ (e f : Entry). key_eq e.ranked.key f.ranked.key) (sym (at i d lt)) (sym (at j d lt')) ∙ alike);
     }
   where
+    apart_of : (i : ℕ) (link : Option ℕ) → IfSome link (λ p. IsLinkTo links p (length entries - 1)) → link ≢ Some (rank_place i)
+    apart_of i None leads is = let bad = is in cc
+    apart_of i (Some p) leads is = leads.no_rank i (some_same p (rank_place i) is)
+
     apart_from : (i : ℕ) (d : Entry) → i < length entries - 1 → (m : ℕ) → Leads links (ranked (key_at entries i d)) m i → (e : ℕ) → e < m → (link : Option ℕ)
         → link ≡ Some (way (at_depth links (ranked (key_at entries i d)) e) (digit_of (ranked (key_at entries i d)) e)) → IfSome link (λ p. IsLinkTo links p (length entries - 1)) → ⊥
     apart_from i d lt m led e le None is leads = let bad = is in cc
@@ -182,7 +233,7 @@ stands_nowhere entries links k n tree passed stop i d lt = here (key_eq k (key_a
 
     here : (b : Bool) → key_eq k (key_at entries i d) ≡ b → b ≡ false
     here false e = refl
-    here true e = absurd (let led = tree.led i d lt in at_path led.0 (subst (λ key. Leads links (ranked key) led.0 i) (sym (same_key k (key_at entries i d) e)) led.1) e (nat_lt led.0 n) refl)
+    here true e = absurd (let led = tree.led i d lt in at_path led.0 (subst (λ key. Leads links (ranked key) led.0 i) (sym (same_key k (key_at entries i d) e)) led.1.0) e (nat_lt led.0 n) refl)
 
 -- so many steps were gone to entry `at`, by this link, and none of the entries before it has the key
 pub record Went (entries : List Entry) (links : List ℕ) (r : Ranked) (d at : ℕ) (link : Option ℕ) : Type 0 where
@@ -261,12 +312,15 @@ runs_out entries links r d at link own tree went out =
 
 -- the same, as it is made
 pub hung_by : (entries : List Entry) (links longer links' : List ℕ) (x : Entry) (link : Option ℕ) → IsTree entries links → IsOwn x.ranked → StandsNowhere entries links x.ranked.key link
-    → longer ≡ links ++ 0 ∷ 0 ∷ 0 ∷ 0 ∷ [] → length links' ≡ length longer → ((k : ℕ) → link ≢ Some k → slice_index links' k ≡ slice_index longer k)
-    → ((k : ℕ) → link ≡ Some k → slice_index links' k ≡ length entries) → IsTree (entries ++ x ∷ []) links'
-hung_by entries links longer links' x link tree own nowhere is long others to =
-    let more = ap length is ∙ length-append links (0 ∷ 0 ∷ 0 ∷ 0 ∷ []) in
+    → longer ≡ links ++ x.ranked.rank ∷ 0 ∷ 0 ∷ 0 ∷ 0 ∷ [] → length links' ≡ length longer → ((k : ℕ) → link ≢ Some k → slice_index links' k ≡ slice_index longer k)
+    → ((k : ℕ) → link ≡ Some k → slice_index links' k ≡ length entries) → x.link ≡ link → IsTree (entries ++ x ∷ []) links'
+hung_by entries links longer links' x link tree own nowhere is long others to linked =
+    let more = ap length is ∙ length-append links (x.ranked.rank ∷ 0 ∷ 0 ∷ 0 ∷ 0 ∷ []) in
+    let seam : slice_index longer (length links) ≡ x.ranked.rank = ap (λ (ls : List ℕ). slice_index ls (length links)) is ∙ get_or-append_seam links x.ranked.rank (0 ∷ 0 ∷ 0 ∷ 0 ∷ []) 0 in
+    let place : rank_place (length entries) ≡ length links = omega (arith, tree.sized) in
+    let rank = others (rank_place (length entries)) (no_rank links (ranked x.ranked.key) nowhere.by.0 link nowhere.by.1.1 (length entries)) ∙ ap (slice_index longer) place ∙ seam in
     hung entries links links' x link tree own nowhere (omega (arith, long, more, tree.sized))
-    (λ k lt other. others k other ∙ ap (λ (ls : List ℕ). slice_index ls k) is ∙ get_or_append_left links (0 ∷ 0 ∷ 0 ∷ 0 ∷ []) 0 k (omega (arith, lt, tree.sized))) to
+    (λ k lt other. others k other ∙ ap (λ (ls : List ℕ). slice_index ls k) is ∙ get_or_append_left links (x.ranked.rank ∷ 0 ∷ 0 ∷ 0 ∷ 0 ∷ []) 0 k (omega (arith, lt, tree.sized))) to rank linked
 
 -- the link that is to lead to a new entry is one of the old ones
 pub link_within : (entries : List Entry) (links : List ℕ) (k : Key) (link : Option ℕ) (count : ℕ) → length links ≤ count → IsTree entries links → StandsNowhere entries links k link → IfSome link (λ way. way < count)
@@ -295,13 +349,27 @@ link_to_last entries links k i link last stands = here stands.by.0 stands.by.1.0
         let to : slice_index links w ≡ at_depth links (ranked k) (suc n) = ap (slice_index links) is in
         let up = leads.onward n (omega arith) in
         let few = digit_few (ranked k) n in
-        record { before = omega (arith, is, up, few, leads.there, last); to = omega (arith, to, leads.there, last) }
+        record { before = omega (arith, is, up, few, leads.there, last); no_rank = λ j same. omega (arith, is, few, same); to = omega (arith, to, leads.there, last) }
 
 -- the tree without its last entry, as it is made
 pub pruned_by : (entries : List Entry) (links led links' : List ℕ) (link : Option ℕ) → IsTree entries links → 0 < length entries → IfSome link (λ p. IsLinkTo links p (length entries - 1))
-    → length led ≡ length links → ((k : ℕ) → link ≢ Some k → slice_index led k ≡ slice_index links k) → links' ≡ take (4 * (length entries - 1)) led → IsTree (take (length entries - 1) entries) links'
+    → length led ≡ length links → ((k : ℕ) → link ≢ Some k → slice_index led k ≡ slice_index links k) → links' ≡ take (5 * (length entries - 1)) led → IsTree (take (length entries - 1) entries) links'
 pruned_by entries links led links' link tree some leads long others is =
-    let short : length (take (4 * (length entries - 1)) led) ≡ 4 * (length entries - 1) = length-take-le (4 * (length entries - 1)) led (omega (arith, long, tree.sized, some)) in
+    let short : length (take (5 * (length entries - 1)) led) ≡ 5 * (length entries - 1) = length-take-le (5 * (length entries - 1)) led (omega (arith, long, tree.sized, some)) in
     let short' = ap length is in
     pruned entries links links' link tree some leads (omega (arith, short, short')) (length-take-le (length entries - 1) entries (omega (arith, some)))
-    (λ k lt other. ap (λ (ls : List ℕ). slice_index ls k) is ∙ get_or-take (4 * (length entries - 1)) led k 0 lt ∙ others k other)
+    (λ k lt other. ap (λ (ls : List ℕ). slice_index ls k) is ∙ get_or-take (5 * (length entries - 1)) led k 0 lt ∙ others k other)
+
+-- where the last entry stands, by its own link
+pub stands_last : (entries : List Entry) (links : List ℕ) (k : Key) (d : Entry) → IsTree entries links → 0 < length entries → key_eq k (key_at entries (length entries - 1) d) ≡ true
+    → StandsAt entries links k (length entries - 1) (slice_index_or entries (length entries - 1) d).link
+stands_last entries links k d tree some same =
+    let i = length entries - 1 in
+    let low : i < length entries = omega (arith, some) in
+    let led = tree.led i d low in
+    let key = same_key k (key_at entries i d) same in
+    record {
+      within = low;
+      same = λ f. ap (λ (e : Entry). key_eq k e.ranked.key) (get_or_default entries i f d low) ∙ same;
+      by = subst (λ r. (n : ℕ) × (Leads links (ranked r) n i × ((slice_index_or entries i d).link ≡ link_to links (ranked r) n))) (sym key) led;
+    }

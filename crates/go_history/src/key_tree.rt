@@ -1,19 +1,25 @@
-ghost use Rattle.std.specs.Prelude.{◌≡◌, ◌≢◌, ◌<◌, ◌-◌, ◌++◌, ◌∷◌, [], ℕ, cond, IfNone, IfOk, IfSome, None, Ok, OnErr, OnOk, Some, length, slice_index, take};
+ghost use Rattle.std.specs.Prelude.{◌≡◌, ◌≢◌, ◌<◌, ◌-◌, ◌++◌, ◌∷◌, [], ℕ, cond, IfNone, IfOk, IfSome, None, Ok, OnErr, OnOk, Some, length, slice_index, slice_index_or, take, true};
 ghost use Rattle.std.specs.Map.{lookup};
 ghost use Rattle.go_history.specs.Keys.{key_eq};
 ghost use Rattle.go_history.specs.declared.key.Key.{Key};
-ghost use Rattle.go_history.specs.inner.Trees.{IsLinkTo, IsOwn, IsTree, StandsAt, StandsNowhere};
+ghost use Rattle.go_history.specs.declared.key_tree.Entry.{Entry};
+ghost use Rattle.go_history.specs.inner.Trees.{IsLinkTo, IsOwn, IsTree, StandsAt, StandsNowhere, ranked_eq};
 
 use crate::Key;
 use crate::ranked::{Ranked, WAYS};
 use std::alloc::{AllocError, Allocator};
 use std::marker::Model;
 
+/// How many numbers an entry has among the links: its rank, and the link of each way.
+const CELLS: usize = WAYS + 1;
+
 /// A key, and the number that it was noted with, or none once it was taken out.
 #[derive(Clone, Copy)]
 pub struct Entry {
     pub ranked: Ranked,
     pub number: Option<usize>,
+    /// The link that leads to it. None leads to the first.
+    pub link: Option<usize>,
 }
 
 /// Where a key stands in a tree, or is to stand.
@@ -32,7 +38,8 @@ struct Place {
 pub struct KeyTree<A: Allocator + Copy> {
     /// In the order in which they were noted.
     entries: Vec<Entry, A>,
-    /// To which entry each way from each entry leads. One that isn't behind it is none.
+    /// For each entry its rank, by which most are told apart without a look at them, and then to which
+    /// entry each way from it leads. One that isn't behind it is none.
     links: Vec<usize, A>,
 }
 
@@ -98,8 +105,13 @@ impl<A: Allocator + Copy> KeyTree<A> {
                 Ok(known)
             }
             None => {
-                let entry = Entry { ranked, number };
-                hang(&mut self.entries, &mut self.links, place.link, entry)?;
+                let link = place.link;
+                let entry = Entry {
+                    ranked,
+                    number,
+                    link,
+                };
+                hang(&mut self.entries, &mut self.links, entry)?;
                 Ok(None)
             }
         }
@@ -111,13 +123,13 @@ impl<A: Allocator + Copy> KeyTree<A> {
         ensures { (q : Key) → lookup (key_eq q) self.new
             ≡ cond (key_eq key.now q) None (lookup (key_eq q) self.old) }
     {
-        let place = find(&self.entries, &self.links, &Ranked::new(key));
-        match place.entry {
-            Some(at) if at + 1 == self.entries.len() => {
-                cut(&mut self.entries, &mut self.links, place.link);
-            }
-            Some(at) => self.entries[at].number = None,
-            None => {}
+        let ranked = Ranked::new(key);
+        if let Some(link) = link_to_last(&self.entries, &ranked) {
+            cut(&mut self.entries, &mut self.links, link);
+            return;
+        }
+        if let Some(at) = find(&self.entries, &self.links, &ranked).entry {
+            self.entries[at].number = None;
         }
     }
 }
@@ -135,13 +147,13 @@ fn find(entries: &[Entry], links: &[usize], ranked: &Ranked) -> Place
     let mut depth = 0;
     let mut link = None;
     while let Some(entry) = entries.get(at) {
-        if *ranked == entry.ranked {
+        if is_entry(entry, links[CELLS * at], ranked) {
             return Place {
                 entry: Some(at),
                 link,
             };
         }
-        let way = WAYS * at + ranked.digit(depth);
+        let way = CELLS * at + 1 + ranked.digit(depth);
         link = Some(way);
         if links[way] <= at {
             break;
@@ -152,23 +164,48 @@ fn find(entries: &[Entry], links: &[usize], ranked: &Ranked) -> Place
     Place { entry: None, link }
 }
 
-/// Puts an entry behind the others, and has a link lead to it.
+/// Whether an entry that has this rank has a key.
+fn is_entry(entry: &Entry, rank: usize, ranked: &Ranked) -> bool
+    requires { rank ≡ entry.now.ranked.rank }
+    ensures { result ≡ ranked_eq ranked.now entry.now.ranked }
+{
+    rank == ranked.rank as usize && *ranked == entry.ranked
+}
+
+/// The link that leads to the last entry, if that has this key: moves are mostly taken back in the
+/// opposite order.
+fn link_to_last(entries: &[Entry], ranked: &Ranked) -> Option<Option<usize>>
+    ensures some { IfSome result (λ link. 0 < length entries.now) }
+    ensures key { IfSome result (λ link. (d : Entry) → ranked_eq ranked.now
+        (slice_index_or entries.now (length entries.now - 1) d).ranked ≡ true) }
+    ensures link { IfSome result (λ link. (d : Entry)
+        → link ≡ (slice_index_or entries.now (length entries.now - 1) d).link) }
+{
+    let last = &entries[entries.len().checked_sub(1)?];
+    if *ranked == last.ranked {
+        Some(last.link)
+    } else {
+        None
+    }
+}
+
+/// Puts an entry behind the others, and has its link lead to it.
 fn hang<A: Allocator + Copy>(
     entries: &mut Vec<Entry, A>,
     links: &mut Vec<usize, A>,
-    link: Option<usize>,
     entry: Entry,
 ) -> Result<(), AllocError>
     requires tree { IsTree entries.old.items links.old.items }
     requires own { IsOwn entry.ranked }
-    requires none { StandsNowhere entries.old.items links.old.items entry.ranked.key link }
+    requires none { StandsNowhere entries.old.items links.old.items entry.ranked.key entry.link }
     ensures added { OnOk result (entries.new.items ≡ entries.old.items ++ entry ∷ []) }
     ensures tree { IsTree entries.new.items links.new.items }
     ensures err { OnErr result (entries.new.items ≡ entries.old.items) }
 {
     entries.reserve(1)?;
-    links.extend_from_slice(&[0; WAYS])?;
-    lead(links, link, entries.len());
+    // `CELLS` numbers: the rank, and ways that lead nowhere yet.
+    links.extend_from_slice(&[entry.ranked.rank as usize, 0, 0, 0, 0])?;
+    lead(links, entry.link, entries.len());
     entries.push(entry)?;
     Ok(())
 }
@@ -200,5 +237,5 @@ fn cut<A: Allocator + Copy>(
 {
     lead(links, link, 0);
     entries.pop();
-    links.truncate(WAYS * entries.len());
+    links.truncate(CELLS * entries.len());
 }

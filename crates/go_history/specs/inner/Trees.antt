@@ -1,5 +1,5 @@
 -- A tree of keys: entries in a list, and the links between them.
-use Rattle.std.specs.Prelude.{◌≡◌, ◌<◌, ◌≤◌, ◌+◌, ◌++◌, ◌*◌, ◌/◌, ◌%◌, ◌^◌, ◌&&◌, ℕ, zero, suc, nat_eq, Bool, true, false, List, [], ◌∷◌, Option, Some, None, length, slice_index, slice_index_or}
+use Rattle.std.specs.Prelude.{◌≡◌, ◌≢◌, ◌<◌, ◌≤◌, ◌+◌, ◌++◌, ◌*◌, ◌/◌, ◌%◌, ◌^◌, ◌&&◌, ℕ, zero, suc, nat_eq, Bool, true, false, List, [], ◌∷◌, Option, Some, None, length, slice_index, slice_index_or}
 use Rattle.std.specs.Hash.FoldHasher.{initial, write, finish}
 use Rattle.go_board.specs.PackBytes.{bytes_of}
 use Rattle.go_history.specs.declared.key.Key.{Key}
@@ -22,9 +22,13 @@ IsOwn r = r ≡ ranked r.key
 unfoldable pub digit_of : Ranked → ℕ → ℕ
 digit_of r depth = r.rank / 2 ^ (2 * (depth % 32)) % 4
 
+-- where an entry's rank stands among the links, before those of its ways
+abbrev pub rank_place : ℕ → ℕ
+rank_place i = 5 * i
+
 -- the link of an entry's way
 abbrev pub way : ℕ → ℕ → ℕ
-way i digit = 4 * i + digit
+way i digit = 5 * i + 1 + digit
 
 -- where the digits of a hash lead in so many steps
 abbrev pub at_depth : List ℕ → Ranked → ℕ → ℕ
@@ -38,7 +42,8 @@ link_to links r (suc d) = Some (way (at_depth links r d) (digit_of r d))
 
 -- a link of an entry before i leads to i
 pub record IsLinkTo (links : List ℕ) (place i : ℕ) : Type 0 where
-  pub before : place < 4 * i
+  pub before : place < 5 * i
+  pub no_rank : (j : ℕ) → place ≢ rank_place j
   pub to : slice_index links place ≡ i
 
 -- so many steps lead to entry i, each to an entry behind the one before
@@ -50,11 +55,14 @@ pub record Leads (links : List ℕ) (r : Ranked) (d i : ℕ) : Type 0 where
 abbrev pub key_at : List Entry → ℕ → Entry → Key
 key_at entries i d = (slice_index_or entries i d).ranked.key
 
--- each key stands once, behind its own hash, where the digits of that lead
+-- each key stands once, behind its own hash, where the digits of that lead, with the link of the last step; its hash is
+-- among the links too
 pub record IsTree (entries : List Entry) (links : List ℕ) : Type 0 where
-  pub sized : length links ≡ 4 * length entries
+  pub sized : length links ≡ 5 * length entries
+  pub ranks : (i : ℕ) (d : Entry) → i < length entries → slice_index links (rank_place i) ≡ (slice_index_or entries i d).ranked.rank
   pub own : (i : ℕ) (d : Entry) → i < length entries → IsOwn (slice_index_or entries i d).ranked
-  pub led : (i : ℕ) (d : Entry) → i < length entries → (n : ℕ) × Leads links (ranked (key_at entries i d)) n i
+  pub led : (i : ℕ) (d : Entry) → i < length entries
+      → (n : ℕ) × (Leads links (ranked (key_at entries i d)) n i × ((slice_index_or entries i d).link ≡ link_to links (ranked (key_at entries i d)) n))
   pub apart : (i j : ℕ) (d : Entry) → i < length entries → j < length entries → key_eq (key_at entries i d) (key_at entries j d) ≡ true → i ≡ j
 
 -- what an entry notes: nothing once its key was taken out
