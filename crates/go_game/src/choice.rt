@@ -1,5 +1,5 @@
-//! What is legal, and the plain choice of a play: by trials on the game itself, each of which is
-//! taken back.
+//! What is legal, and the plain choice of a play. Plays that take nothing are judged by what stands
+//! around them; others are tried on the game itself, and taken back.
 ghost use Rattle.std.specs.Prelude.{◌≡◌, ◌<◌, ◌≤◌, ◌+◌, ◌*◌, ◌↔◌, ◌-ℤ◌, pos, false, true, IfOk, IsTrue, OnErr, None, Some, if◌then◌else◌, slice_set};
 ghost use Rattle.go_game.specs.inner.Trials.{better_of};
 
@@ -56,9 +56,9 @@ impl<A: Allocator + Copy> Game<A> {
     ghost use Rattle.go_board.specs.Grids.{stone_at};
     ghost use Rattle.go_board.specs.Points.{IsOn, number_of};
 
-    /// Whether the rules allow a move; one off the board isn't legal. The game is used for a trial,
-    /// which is taken back also where there was no memory for it. That can't be so off the board or
-    /// on a stone, where nothing is tried.
+    /// Whether the rules allow a move; one off the board isn't legal. A move that may take stones is
+    /// tried on the game, and taken back also where there was no memory for it. That can't be so off
+    /// the board or on a stone, where nothing is tried.
     pub fn legal(&mut self, made: Move) -> Result<bool, AllocError>
         ensures rules { IfOk result
             (λ legal. IsTrue legal ↔ IsLegal self.old.standing made.colour made.vertex) }
@@ -98,7 +98,7 @@ impl<A: Allocator + Copy> Game<A> {
         if self.board.is_quiet(&mut self.meter, colour, p) {
             return Ok(self.leaves_new(colour, p));
         }
-        match self.put(colour, p) {
+        match self.put_sparing(colour, p) {
             Ok(_) => {}
             Err(PlayError::Repeats(_)) => return Ok(false),
             Err(_) => return Err(AllocError),
@@ -152,23 +152,38 @@ impl<A: Allocator + Copy> Game<A> {
 
     /// The plain choice for a colour, whoever is to move: among its legal plays the one after which
     /// it is ahead by most points, then with most liberties of the placed stone's chain, then the
-    /// first in point order; or a pass where no play puts it further ahead than it is. Each play is
-    /// tried on the game, and taken back also where there was no memory for it.
+    /// first in point order; or a pass where no play puts it further ahead than it is. A play whose
+    /// neighbours don't tell what it comes to is tried on the game, and taken back also where there
+    /// was no memory for it.
     pub fn choose(&mut self, colour: Colour) -> Result<Vertex, AllocError>
         ensures ok { IfOk result (λ vertex. vertex ≡ chosen self.old.standing colour) }
         ensures same { IsAsBefore self.old self.new }
         ensures count { self.new.count
             ≤ self.old.count + 4 * most_on_all self.old.standing colour }
     {
-        let present = self.lead(colour);
-        match self.best_trial(colour)? {
+        let holdings = self.holdings(colour);
+        let present = holdings.lead();
+        match self.best_trial(&holdings, colour)? {
             Some(best) if best.lead > present => Ok(Vertex::At(best.point)),
             _ => Ok(Vertex::Pass),
         }
     }
 
+    /// What both colours hold now, for this one.
+    fn holdings(&self, colour: Colour) -> Holdings
+        ensures { AreHoldings self.now.standing.lines (board_of self.now.standing) colour result }
+    {
+        Holdings::new(&self.board, colour)
+    }
+
     /// The first of the best among a colour's legal plays, or none where it has none.
-    fn best_trial(&mut self, colour: Colour) -> Result<Option<Trial>, AllocError>
+    fn best_trial(
+        &mut self,
+        holdings: &Holdings,
+        colour: Colour,
+    ) -> Result<Option<Trial>, AllocError>
+        requires holdings { AreHoldings self.old.standing.lines (board_of self.old.standing) colour
+            holdings.now }
         ensures ok { IfOk result (IsBestTrial self.old.standing colour
             (self.old.standing.lines * self.old.standing.lines)) }
         ensures same { IsAsBefore self.old self.new }
@@ -176,10 +191,9 @@ impl<A: Allocator + Copy> Game<A> {
             ≤ self.old.count + 4 * most_on_all self.old.standing colour }
     {
         let size = self.size();
-        let holdings = Holdings::new(&self.board, colour);
         let mut best = None;
         for number in 0..size.points() {
-            let trial = self.try_at(&holdings, colour, number)?;
+            let trial = self.try_at(holdings, colour, number)?;
             best = better_of(best, trial);
         }
         Ok(best)
@@ -245,7 +259,7 @@ impl<A: Allocator + Copy> Game<A> {
         ensures count { self.new.count + 52
             ≤ self.old.count + 4 * most_for self.old.standing colour (Vertex.At p) }
     {
-        match self.put(colour, p) {
+        match self.put_sparing(colour, p) {
             Ok(_) => {}
             Err(PlayError::Repeats(_)) => return Ok(None),
             Err(_) => return Err(AllocError),

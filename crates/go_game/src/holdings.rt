@@ -1,13 +1,15 @@
 //! What the colours of a board hold, from which plays that take nothing are judged.
-ghost use Rattle.std.specs.Prelude.{◌≡◌, ◌≤◌, ◌+◌, ◌-ℤ◌, pos, IfSome, Some, slice_set};
+ghost use Rattle.std.specs.Prelude.{◌≡◌, ◌≤◌, ◌+◌, ◌-ℤ◌, pos, ℕ, IfSome, Some, slice_set};
+ghost use Rattle.go_board.specs.Colours.{Colouring};
 ghost use Rattle.go_board.specs.Points.{IsOn, number_of};
+ghost use Rattle.go_board.specs.declared.colour.Colour.{Colour};
 ghost use Rattle.go_chains.specs.Boards.{HoldsStone, grid_of};
 ghost use Rattle.go_chains.specs.Playing.{played};
 ghost use Rattle.go_game.specs.Choices.{lead_on};
 ghost use Rattle.go_game.specs.inner.Trials.{AreHoldings};
 
 use go_board::gains::gain_of;
-use go_board::rows::{Rows, areas_of, held};
+use go_board::rows::{Rows, count_alone, held};
 use go_board::{Colour, Meter, Point};
 use go_chains::Board;
 
@@ -29,25 +31,34 @@ impl Holdings {
     {
         let lines = usize::from(board.size().lines());
         let stones = board.stones();
-        let area = areas_of(&stones.black, &stones.white, lines);
         let black_held = held(&stones.black, &stones.white, lines);
         let white_held = held(&stones.white, &stones.black, lines);
+        let black_area = count_alone(&black_held, &white_held, lines);
+        let white_area = count_alone(&white_held, &black_held, lines);
         match colour {
             Colour::Black => Holdings {
                 own: stones.black,
                 own_held: black_held,
                 theirs_held: white_held,
-                own_area: area.black,
-                theirs_area: area.white,
+                own_area: black_area,
+                theirs_area: white_area,
             },
             Colour::White => Holdings {
                 own: stones.white,
                 own_held: white_held,
                 theirs_held: black_held,
-                own_area: area.white,
-                theirs_area: area.black,
+                own_area: white_area,
+                theirs_area: black_area,
             },
         }
+    }
+
+    /// By how many points the colour is ahead, komi aside.
+    pub(crate) fn lead(&self) -> i32
+        ensures { (n : ℕ) (g : Colouring) (c : Colour) → AreHoldings n g c self.now
+            → result ≡ lead_on n g c }
+    {
+        i32::from(self.own_area) - i32::from(self.theirs_area)
     }
 
     /// By how many points the colour is ahead after a play on an empty point, komi aside, where the

@@ -88,9 +88,37 @@ impl<A: Allocator + Copy> Game<A> {
         Ok(taken)
     }
 
-    /// Places a stone on an empty point where that is legal. The board is played on first, and the
-    /// play taken back where it repeats or there is no memory to keep it.
-    pub(crate) fn put(&mut self, colour: Colour, p: Point) -> Result<Taken, PlayError>
+    /// Places a stone on an empty point where that is legal, in as many reads and writes as a play may
+    /// take.
+    fn put(&mut self, colour: Colour, p: Point) -> Result<Taken, PlayError>
+        requires on { IsOn self.old.standing.lines p }
+        requires vacant { stone_at (present self.old.standing) p ≡ None }
+        ensures repeats { (k : ℕ) → result ≡ Err (PlayError.Repeats k)
+            → IsRepeat self.old.standing colour (Vertex.At p) k }
+        ensures legal { OnOk result (IsLegal self.old.standing colour (Vertex.At p)) }
+        ensures played { OnOk result (self.new.standing
+            ≡ with_move self.old.standing (record { colour = colour; vertex = Vertex.At p })) }
+        ensures taken { IfOk result (λ taken. (of : Colour) → share_of colour taken of
+            ≡ stones_taken self.old.standing colour (Vertex.At p) of) }
+        ensures err { OnErr result (IsAsBefore self.old self.new) }
+        ensures others { IfErr result (λ e. (e ≡ PlayError.Memory)
+            ⊎ ((k : ℕ) × (e ≡ PlayError.Repeats k))) }
+        ensures logged { OnOk result (IsLogged self.old self.new
+            (most_for self.old.standing colour (Vertex.At p))) }
+        ensures count { OnOk result (self.new.count
+            ≤ self.old.count + 3 * most_for self.old.standing colour (Vertex.At p)) }
+        ensures refused { OnErr result (self.new.count
+            ≤ self.old.count + 4 * most_for self.old.standing colour (Vertex.At p)) }
+        ensures writes { OnErr result (length self.new.trace ≤ length self.old.trace
+            + 2 * most_for self.old.standing colour (Vertex.At p)) }
+    {
+        self.put_sparing(colour, p)
+    }
+
+    /// Places a stone on an empty point where that is legal, with 52 reads to spare for what looked
+    /// around the point before. The board is played on first, and the play taken back where it
+    /// repeats or there is no memory to keep it.
+    pub(crate) fn put_sparing(&mut self, colour: Colour, p: Point) -> Result<Taken, PlayError>
         requires on { IsOn self.old.standing.lines p }
         requires vacant { stone_at (present self.old.standing) p ≡ None }
         ensures repeats { (k : ℕ) → result ≡ Err (PlayError.Repeats k)

@@ -17,5 +17,5 @@ pub returns-clause-ok : goal.returns-clause-ok
 returns-clause-ok g c =
     let kept : to_z w32 (of_z w32 c.lead.result) ≡ c.lead.result = omega (arith, ints) in
     let s = c.args.self.now.standing in
-    tried_is s c.put.new.self.standing c.args.colour c.args.p (to_z w32 (of_z w32 c.lead.result)) c.lead.result c.liberties_of.result
+    tried_is s c.put_sparing.new.self.standing c.args.colour c.args.p (to_z w32 (of_z w32 c.lead.result)) c.lead.result c.liberties_of.result
     (legal_passes s c.args.colour (At c.args.p) c.in-Ok.ensures.legal) c.in-Ok.ensures.played kept c.lead.ensures c.liberties_of.ensures

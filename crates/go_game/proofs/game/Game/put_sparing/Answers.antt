@@ -13,7 +13,7 @@ use Rattle.go_game.proofs.Counting.{logged_put, seen, twice}
 use Rattle.go_game.proofs.Played.{room_held}
 use Rattle.go_game.proofs.Puts.{legal_put, most_is, no_stone, occupied_stone, played_put, repeats_put, same_error, taken_put}
 use Rattle.go_game.proofs.Turns.{keep_put, placed, rewinds}
-use Rattle.go_game.proofs.game.Game.put.Goals as goal
+use Rattle.go_game.proofs.game.Game.put_sparing.Goals as goal
 
 pub returns-in-Err-Occupied-clause-others : goal.returns-in-Err-Occupied-clause-others
 returns-in-Err-Occupied-clause-others g c =
