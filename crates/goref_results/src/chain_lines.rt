@@ -1,15 +1,16 @@
-ghost use Rattle.std.specs.Prelude.{◌≡◌, ◌∷◌, [], IsSome, if◌then◌else◌};
+ghost use Rattle.std.specs.Prelude.{◌≡◌, ◌<◌, ◌∷◌, [], IsSome, IsTrue, Some, if◌then◌else◌};
 ghost use Rattle.std.specs.List.{flat_map};
 ghost use Rattle.go_board.specs.Grids.{is_first_stone, stone_at};
 ghost use Rattle.go_board.specs.Pens.{Writes};
-ghost use Rattle.go_board.specs.Points.{IsOn};
+ghost use Rattle.go_board.specs.Points.{IsOn, are_beside, number_of};
+ghost use Rattle.go_board.specs.declared.point.Point.{Point};
 ghost use Rattle.go_game.specs.Standings.{board_of, present};
 ghost use Rattle.goref_results.specs.Results.{result_text};
 ghost use Rattle.goref_results.specs.ChainLines.{chain_lines, line_of_chain, stone_text};
 ghost use Rattle.goref_results.specs.Places.{spaced_point};
 
 use go_board::laws::{joined_by_a_path, points_by_number};
-use go_board::{Pen, Point, Sink, Vertex, vertex_text};
+use go_board::{Colour, Pen, Point, Sink, Vertex, vertex_text};
 use go_game::{ChainPoints, Game};
 use std::alloc::Allocator;
 
@@ -55,7 +56,32 @@ fn is_first<A: Allocator + Copy>(game: &Game<A>, at: Point) -> bool
     points_by_number();
     joined_by_a_path();
     match game.colour_at(at) {
+        Some(colour) if follows_own(game, at, colour) => false,
         Some(_) => game.chain_points(at).next() == Some(at),
+        None => false,
+    }
+}
+
+/// Whether a stone of this colour has another one to its left or below: of its chain, and before it.
+fn follows_own<A: Allocator + Copy>(game: &Game<A>, at: Point, colour: Colour) -> bool
+    requires { IsOn game.now.standing.lines at }
+    ensures { IsTrue result → (q : Point) × IsOn game.now.standing.lines q
+        × (number_of game.now.standing.lines q < number_of game.now.standing.lines at)
+        × IsTrue (are_beside at q) × (stone_at (present game.now.standing) q ≡ Some colour) }
+{
+    let (col, row) = (at.col, at.row);
+    if col > 0 && has_stone(game, Point { col: col - 1, row }, colour) {
+        return true;
+    }
+    row > 0 && has_stone(game, Point { col, row: row - 1 }, colour)
+}
+
+fn has_stone<A: Allocator + Copy>(game: &Game<A>, at: Point, colour: Colour) -> bool
+    requires { IsOn game.now.standing.lines at }
+    ensures { IsTrue result → stone_at (present game.now.standing) at ≡ Some colour }
+{
+    match game.colour_at(at) {
+        Some(stone) => stone == colour,
         None => false,
     }
 }

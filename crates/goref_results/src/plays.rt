@@ -10,8 +10,8 @@ use go_board::{Colour, Move, Pen, Point, Sink, Size, Vertex, vertex_text};
 use go_game::Game;
 use std::alloc::{AllocError, Allocator};
 
-/// The legal plays of a colour. Each point is tried on the game, which holds afterwards what it
-/// held, also where there was no memory for a trial.
+/// The legal plays of a colour. Where what stands around a point doesn't tell, its play is tried on
+/// the game, which holds afterwards what it held, also where there was no memory for a trial.
 pub fn legal_plays<A: Allocator + Copy>(
     game: &mut Game<A>,
     colour: Colour,
