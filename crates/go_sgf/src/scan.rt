@@ -78,7 +78,7 @@ pub(crate) fn after_space(bytes: &[u8]) -> &[u8]
     rest
 }
 
-/// The same, where a `[` is likely to be first.
+/// The bytes behind the white space at the front, of which there is mostly none before a `[`.
 #[inline]
 pub(crate) fn to_bracket(bytes: &[u8]) -> &[u8]
     ensures { result.now ≡ without_space bytes.now }

@@ -32,8 +32,8 @@ pub(crate) fn verbatim(text: &[u8], depth: usize) -> Option<(&[u8], &[u8], usize
     Some((front, rest, there))
 }
 
-/// What follows a byte that is written, or a whole value and the letter before it, and how many trees
-/// are open there.
+/// What follows a byte that is written, or a whole value with the capital letter before it where there
+/// is one, and how many trees are open there.
 #[inline]
 fn behind_next(text: &[u8], depth: usize) -> Option<(&[u8], usize)>
     requires { depth + length text.now ≤ 2 ^ 63 }

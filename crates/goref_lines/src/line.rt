@@ -324,7 +324,7 @@ fn last_printable(bytes: &[u8]) -> Option<u8>
     None
 }
 
-/// Appends bytes of a word, behind a space where one is due.
+/// Appends bytes of words that single spaces join, behind a space where one is due.
 fn append_to_words(
     text: &mut ArrayVec<u8, LINE_LIMIT>,
     is_long: &mut bool,
