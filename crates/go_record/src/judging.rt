@@ -5,17 +5,16 @@ ghost use Rattle.go_record.specs.Games.{IsGameOf};
 ghost use Rattle.go_record.specs.Verdicts.{IsStated, IsVerdict, is_number_first, margin_spelled, margin_by, size_spelled};
 
 use crate::error::RecordError;
-use crate::replaying::walk_on;
-use crate::root::{root_of, root_value};
+use crate::replaying::replay;
+use crate::root::root_value;
 use crate::verdict::{Stated, Verdict};
-use go_game::Game;
 use go_sgf::{Collection, cook_simple, hundredths_of, trim};
 use std::alloc::{AllocError, Allocator};
 
 /// The verdict on a record: its game's moves and margin, and whether that is the margin that its RE
 /// states. `0` and `Draw` state an even score, `B+` and `W+` before a number with at most two
-/// decimals that margin, and anything else states none. It refuses what
-/// [`replay`](crate::replay) without a number refuses.
+/// decimals that margin, and anything else states none. It refuses what [`replay`] without a number
+/// refuses.
 pub fn judge<A: Allocator + Copy>(
     alloc: A,
     collection: &Collection<'_, A>,
@@ -25,9 +24,7 @@ pub fn judge<A: Allocator + Copy>(
         (λ e. e ≢ Memory → IsGameOf collection.now None (Err e)) }
 {
     let stated = margin_stated(alloc, collection)?;
-    let root = root_of(collection)?;
-    let mut game = Game::new(alloc, root.size);
-    walk_on(&mut game, &root, collection, None)?;
+    let game = replay(alloc, collection, None)?;
     let margin = game.margin();
     Ok(Verdict {
         moves: game.move_count(),

@@ -71,7 +71,7 @@ fn bring<A: Allocator + Copy>(
 }
 
 /// Walks along a record whose root says this.
-pub(crate) fn walk_on<A: Allocator + Copy>(
+fn walk_on<A: Allocator + Copy>(
     game: &mut Game<A>,
     root: &Root,
     collection: &Collection<'_, A>,
