@@ -3,6 +3,7 @@ pub mod Rewinding
 pub mod Editing
 pub mod Bounds
 pub mod Neighbours
+pub mod Sides
 pub mod Marking
 pub mod Depriving
 pub mod Occupying

@@ -1,9 +1,10 @@
+ghost use Rattle.std.specs.Prelude.{◌≡◌, ◌<◌, ◌++◌, ◌∷◌, [], if◌then◌else◌, length};
 ghost use Rattle.go_board.specs.Points.{IsOn, number_of};
 ghost use Rattle.go_chains.specs.inner.Beside.{AreBeside};
 
 use arrayvec::ArrayVec;
 use go_board::laws::points_by_number;
-use go_board::{Point, Size, put_neighbours};
+use go_board::{Point, Size};
 
 /// The numbers of the points that share a side with this one.
 pub fn beside(size: Size, p: Point) -> ArrayVec<usize, 4>
@@ -11,11 +12,24 @@ pub fn beside(size: Size, p: Point) -> ArrayVec<usize, 4>
     ensures { AreBeside size (number_of size p) result.items }
 {
     points_by_number();
+    let lines = usize::from(size.lines());
+    let point = usize::from(p.index(size));
+    let (col, row) = (usize::from(p.col), usize::from(p.row));
     let mut numbers = ArrayVec::new();
-    let mut near = ArrayVec::new();
-    put_neighbours(p, size, &mut near);
-    for q in near.as_slice() {
-        numbers.push(usize::from(q.index(size)));
-    }
+    push_if(&mut numbers, row > 0, point.saturating_sub(lines));
+    push_if(&mut numbers, col > 0, point.saturating_sub(1));
+    push_if(&mut numbers, col + 1 < lines, point + 1);
+    push_if(&mut numbers, row + 1 < lines, point + lines);
     numbers
+}
+
+/// Adds a number, if it is that of a point.
+fn push_if(numbers: &mut ArrayVec<usize, 4>, there: bool, number: usize)
+    requires { length numbers.old.items < 4 }
+    ensures { numbers.new.items
+        ≡ numbers.old.items ++ (if there then number ∷ [] else []) }
+{
+    if there {
+        numbers.push(number);
+    }
 }
