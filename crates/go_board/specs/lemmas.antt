@@ -3,3 +3,4 @@ pub mod Writing
 pub mod Reading
 pub mod Numbers
 pub mod Squares
+pub mod Paths

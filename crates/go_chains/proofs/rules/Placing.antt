@@ -20,7 +20,8 @@ use Rattle.go_chains.proofs.rules.Sound.{IsKept-tidy, alive-kept, tidy-kept, who
 use Rattle.go_chains.proofs.tables.Capturing.{IsCapturing_none}
 use Rattle.go_chains.proofs.rules.Playing.{cleared_is, placed_is}
 use Rattle.go_chains.proofs.tables.Playing.{cleared_other, cleared_own, colours_joined, living, other_stays, own_stays, placed_joined, two_joined, whole_joined}
-use Rattle.go_chains.proofs.writes.Neighbours.{flip, inside}
+use Rattle.go_board.specs.lemmas.Paths.{flip}
+use Rattle.go_chains.proofs.writes.Neighbours.{inside}
 use Rattle.go_chains.proofs.rules.Taking.{ring-le, vanished_is}
 
 -- what a play begins with: a kept board, an empty point, and the numbers of the two colours

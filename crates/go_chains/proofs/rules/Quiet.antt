@@ -24,7 +24,8 @@ use Rattle.go_chains.specs.inner.Quiet.{HasOther, IsLent, IsQuiet}
 use Rattle.go_chains.proofs.answers.Queries.{label-small}
 use Rattle.go_chains.proofs.rules.Playing.{is_same-true}
 use Rattle.go_chains.proofs.rules.Sound.{colouring-at, colouring-inside, empty_of, length-colouring, of_stone, value-injective}
-use Rattle.go_chains.proofs.writes.Neighbours.{apart, flip}
+use Rattle.go_board.specs.lemmas.Paths.{flip}
+use Rattle.go_chains.proofs.writes.Neighbours.{apart}
 
 -- the label of a point with a stone names a point
 pub label_low : (n : ℕ) (cells : List ℕ) → IsKept n cells → (q : ℕ) → q < n * n → code_at cells q ≢ 0 → label_of cells q < MAX_POINTS

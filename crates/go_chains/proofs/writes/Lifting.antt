@@ -14,7 +14,8 @@ use Rattle.go_chains.specs.inner.Steps.{IsRemoved}
 use Rattle.go_chains.specs.inner.Tables.{IsStone, IsTidy, AreChainsWhole, tables_of}
 use Rattle.go_chains.specs.inner.Writes.{IsGiven, IsGivenBeside, IsLifted, IsRingLifted}
 use Rattle.go_chains.proofs.writes.Depriving.{word_apart}
-use Rattle.go_chains.proofs.writes.Neighbours.{apart, flip}
+use Rattle.go_board.specs.lemmas.Paths.{flip}
+use Rattle.go_chains.proofs.writes.Neighbours.{apart}
 
 module _ (old new : List ℕ) (label point word : ℕ) (label_in : label < MAX_POINTS) (point_in : point < MAX_POINTS) (word_is : word ≡ word_of old label (point / 64))
     (written : IsWritten old new (LIBERTIES + WORDS * label + point / 64) (bit_or word (1 * 2 ^ (point % 64) % 2 ^ 64))) where

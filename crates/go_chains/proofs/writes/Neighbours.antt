@@ -1,11 +1,9 @@
 -- Points beside each other, and a list of them.
-use Rattle.std.proofs.Common.{arith, ◌≡◌, ◌<◌, ◌≤◌, ◌+◌, ◌*◌, ◌∙◌, Bool, true, false, ℕ, List, IsTrue, All, Contains, get_or, length, map, sym, ap, subst, ◌==◌, ◌&&◌, ◌||◌, inl, inr}
+use Rattle.std.proofs.Common.{arith, ◌≡◌, ◌<◌, ◌≤◌, ◌+◌, ◌*◌, ◌∙◌, Bool, true, false, ℕ, List, IsTrue, All, Contains, get_or, length, map, sym, ap, subst, ◌==◌, ◌&&◌, inl, inr}
 use Rattle.go_board.specs.Laws.{PointsByNumber}
 use Rattle.std.proofs.lemmas.List.{get_or-map, length-map}
 use Rattle.go_board.specs.declared.point.Point.{Point}
-use Rattle.std.proofs.Math.Bool.{or_comm}
 use Rattle.std.proofs.lemmas.Bool.{or_cases, eqb-true, false_from_ne_true, false≢true}
-use Rattle.std.proofs.lemmas.Cmp.{nat_eq_equiv}
 use Rattle.go_board.specs.Points.{IsOn, are_beside, is_next, number_of, point_at}
 use Rattle.go_board.specs.Paths.{IsAdjacent}
 use Rattle.go_chains.specs.inner.Beside.{AreBeside}
@@ -42,17 +40,6 @@ is_next-self a = false_from_ne_true (is_next a a) (λ e. elim (or_cases (a + 1 =
   | inl up ↦ (let h = eqb-true (a + 1) a up in omega arith)
   | inr down ↦ (let h = eqb-true (a + 1) a down in omega arith)
 ])
-
--- points share a side both ways
-are_beside-flip : (p q : Point) → are_beside p q ≡ are_beside q p
-are_beside-flip p q =
-    ap (λ x. (x && is_next p.col q.col) || (p.col == q.col && is_next p.row q.row)) (nat_eq_equiv.symm p.row q.row)
-    ∙ ap (λ x. (q.row == p.row && x) || (p.col == q.col && is_next p.row q.row)) (or_comm (p.col + 1 == q.col) (q.col + 1 == p.col))
-    ∙ ap (λ x. (q.row == p.row && is_next q.col p.col) || (x && is_next p.row q.row)) (nat_eq_equiv.symm p.col q.col)
-    ∙ ap (λ x. (q.row == p.row && is_next q.col p.col) || (q.col == p.col && x)) (or_comm (p.row + 1 == q.row) (q.row + 1 == p.row))
-
-pub flip : (n p q : ℕ) → IsAdjacent n p q → IsAdjacent n q p
-flip n p q near = (near.1, near.0, are_beside-flip (point_at n q) (point_at n p) ∙ near.2)
 
 -- an adjacent point is on the board
 pub inside : (n p q : ℕ) → IsAdjacent n p q → q < n * n

@@ -11,7 +11,7 @@ use Rattle.go_chains.specs.inner.Steps.{IsPlaced}
 use Rattle.go_chains.specs.Cells.{IsWritten, code_at, label_of, lib_of, word_of}
 use Rattle.go_chains.specs.inner.Writes.{IsDeprived, IsFilled, IsStoneBeside, MarksEmpty, mask_bit}
 use Rattle.go_chains.proofs.writes.Depriving.{unset}
-use Rattle.go_chains.proofs.writes.Neighbours.{flip}
+use Rattle.go_board.specs.lemmas.Paths.{flip}
 
 module _ (n : ℕ) (small : n * n ≤ MAX_POINTS) (c0 c1 c2 c3 c4 c5 c6 words beside : List ℕ) (p colour : ℕ)
     (tidy : IsTidy (n * n) (IsAdjacent n) (tables_of c0)) (p_in : p < n * n) (empty : code_at c0 p ≡ 0) (some : 0 < colour) (near : AreBeside n p beside)

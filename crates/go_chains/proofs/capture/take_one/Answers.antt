@@ -5,7 +5,8 @@ use Rattle.go_chains.specs.inner.Steps.{CountsTaken}
 use Rattle.go_chains.specs.inner.Tables.{IsDead, IsStone, tables_of}
 use Rattle.go_chains.proofs.tables.Capturing.{IsCapturing_more}
 use Rattle.go_chains.proofs.writes.Editing.{Edited_none}
-use Rattle.go_chains.proofs.writes.Neighbours.{flip, inside}
+use Rattle.go_board.specs.lemmas.Paths.{flip}
+use Rattle.go_chains.proofs.writes.Neighbours.{inside}
 use Rattle.go_chains.proofs.writes.Bounds.{label_small, size_small}
 use Rattle.go_chains.proofs.tables.Taking.{counts_ring}
 use Rattle.go_chains.proofs.capture.take_one.Goals as goal

@@ -6,7 +6,8 @@ use Rattle.go_chains.specs.inner.Tables.{IsStone, IsTidy, tables_of}
 use Rattle.go_chains.proofs.tables.Connecting.{IsConnected-first, IsConnected-second, beside_stone, grown-second}
 use Rattle.go_chains.proofs.writes.Editing.{Edited_none, Edited_within}
 use Rattle.go_chains.proofs.tables.Joining.{IsTidy-join}
-use Rattle.go_chains.proofs.writes.Neighbours.{flip, inside}
+use Rattle.go_board.specs.lemmas.Paths.{flip}
+use Rattle.go_chains.proofs.writes.Neighbours.{inside}
 use Rattle.go_chains.proofs.writes.Bounds.{label_small, size_small}
 use Rattle.go_chains.proofs.connect.connect_one.Goals as goal
 
