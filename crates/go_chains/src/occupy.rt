@@ -14,7 +14,7 @@ use crate::edits::{put, replace};
 use go_board::{MAX_POINTS, Meter, Size};
 use std::alloc::Allocator;
 
-/// A bit for each point, as the words of a label's liberties have them.
+/// A set of points: a bit for each, as the words of a label's liberties have them.
 pub(crate) type Words = [u64; WORDS];
 
 /// Marks a point if it is empty.
