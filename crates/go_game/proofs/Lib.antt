@@ -12,6 +12,7 @@ pub mod ChoiceRule
 pub mod Trails
 pub mod Building
 pub mod Filling
+pub mod TrialNumbers
 pub mod Remembered
 pub mod Keeping
 pub mod Beginning

@@ -4,7 +4,9 @@ ghost use Rattle.std.specs.Prelude.{◌≡◌, ◌<◌, ◌≤◌, ◌+◌, ◌*
 ghost use Rattle.go_game.specs.inner.Trials.{better_of};
 
 use crate::holdings::Holdings;
+use crate::order::next_point;
 use crate::{Game, PlayError};
+use go_board::laws::points_by_number;
 use go_board::{Colour, Move, Point, Vertex};
 use std::alloc::{AllocError, Allocator};
 
@@ -49,10 +51,10 @@ fn ahead(own: u16, theirs: u16) -> i32
 
 impl<A: Allocator + Copy> Game<A> {
     ghost use Rattle.go_game.specs.Choices.{chosen, lead_of};
-    ghost use Rattle.go_game.specs.Counts.{IsAsBefore, IsLogged, most_for, most_on, most_on_all};
+    ghost use Rattle.go_game.specs.Counts.{IsAsBefore, IsLogged, most_for, most_on_all};
     ghost use Rattle.go_game.specs.Legal.{is_legal};
     ghost use Rattle.go_game.specs.Standings.{IsLegal, IsOccupied, IsOffBoard, after_vertex, board_of, present, with_move};
-    ghost use Rattle.go_game.specs.inner.Trials.{AreHoldings, IsBestTrial, tried, tried_on};
+    ghost use Rattle.go_game.specs.inner.Trials.{AreHoldings, IsBestTrial, tried_on};
     ghost use Rattle.go_board.specs.Grids.{stone_at};
     ghost use Rattle.go_board.specs.Points.{IsOn, number_of};
 
@@ -190,32 +192,35 @@ impl<A: Allocator + Copy> Game<A> {
         ensures count { self.new.count
             ≤ self.old.count + 4 * most_on_all self.old.standing colour }
     {
+        points_by_number();
         let size = self.size();
         let mut best = None;
-        for number in 0..size.points() {
-            let trial = self.try_at(holdings, colour, number)?;
+        let mut point = Point { col: 0, row: 0 };
+        for _ in 0..size.points() {
+            let trial = self.try_at(holdings, colour, point)?;
             best = better_of(best, trial);
+            point = next_point(point, size);
         }
         Ok(best)
     }
 
-    /// What the play on the point with this number comes to, or none where it isn't legal. It is
-    /// played only where what stands around the point doesn't tell that.
+    /// What the play on a point comes to, or none where it isn't legal. It is played only where what
+    /// stands around the point doesn't tell that.
     fn try_at(
         &mut self,
         holdings: &Holdings,
         colour: Colour,
-        number: u16,
+        point: Point,
     ) -> Result<Option<Trial>, AllocError>
-        requires number { number < self.old.standing.lines * self.old.standing.lines }
+        requires on { IsOn self.old.standing.lines point }
         requires holdings { AreHoldings self.old.standing.lines (board_of self.old.standing) colour
             holdings.now }
-        ensures ok { IfOk result (λ trial. trial ≡ tried self.old.standing colour number) }
+        ensures ok { IfOk result (λ trial. trial ≡ tried_on self.old.standing colour point) }
         ensures same { IsAsBefore self.old self.new }
         ensures count { self.new.count
-            ≤ self.old.count + 4 * most_on self.old.standing colour number }
+            ≤ self.old.count + 4 * most_for self.old.standing colour (Vertex.At point) }
     {
-        let point = Point::numbered(self.size(), number);
+        prove!(point.on(self.size()));
         if self.colour_at(point).is_some() {
             return Ok(None);
         }

@@ -32,6 +32,7 @@ mod game;
 mod handicap;
 mod holdings;
 pub mod laws;
+mod order;
 mod play;
 mod prisoners;
 mod score;

@@ -1,4 +1,4 @@
-use Rattle.std.proofs.Common.{◌≡◌, ◌∙◌, ℕ, ap, subst}
+use Rattle.std.proofs.Common.{◌∙◌, ℕ, ap, subst}
 use Rattle.go_board.specs.Colours.{Colouring}
 use Rattle.go_game.specs.inner.Trials.{AreHoldings}
 use Rattle.go_game.specs.Standings.{GameValue, board_of}
