@@ -107,3 +107,29 @@ none_in count row col set =
     ] in
     let same : bit_at (slice_index (replicate count 0) row) col ≡ bit_at 0 col = ap (λ w. bit_at w col) word in
     omega (arith, same, set, bit_at-zero col)
+
+-- a set with one place more
+module _ (old : List ℕ) (row col : ℕ) (long : row < length old) (low : col < 32) where
+  abbrev put : List ℕ
+  put = slice_set old row (bit_or (slice_index old row) (1 * 2 ^ col % 2 ^ 32))
+
+  same_row : slice_index put row ≡ bit_or (slice_index old row) (1 * 2 ^ col % 2 ^ 32)
+  same_row = get_or-set_same old row (bit_or (slice_index old row) (1 * 2 ^ col % 2 ^ 32)) 0 long
+
+  in_row : (k : ℕ) → (bit_at (slice_index put row) k ≡ 1) ↔ ((k ≡ col) ⊎ (bit_at (slice_index old row) k ≡ 1))
+  in_row k =
+      let same = ap (λ w. bit_at w k) same_row in
+      let one = column_put (slice_index old row) col k low in
+      (λ set. one.0 (sym same ∙ set), λ either. same ∙ one.1 either)
+
+  pub place_put : (r k : ℕ) → (bit_at (slice_index put r) k ≡ 1) ↔ (((r ≡ row) × (k ≡ col)) ⊎ (bit_at (slice_index old r) k ≡ 1))
+  place_put r k = elim (cases_eq r row) [
+    | inl at ↦ (
+      λ set. elim ((in_row k).0 (ap (λ (j : ℕ). bit_at (slice_index put j) k) (sym at) ∙ set)) [ inl is ↦ inl (at, is) | inr had ↦ inr (ap (λ (j : ℕ). bit_at (slice_index old j) k) at ∙ had) ],
+      λ either. ap (λ (j : ℕ). bit_at (slice_index put j) k) at ∙ (in_row k).1 (elim either [ inl is ↦ inl is.1 | inr had ↦ inr (ap (λ (j : ℕ). bit_at (slice_index old j) k) (sym at) ∙ had) ])
+    )
+    | inr off ↦ (
+      let same : bit_at (slice_index put r) k ≡ bit_at (slice_index old r) k = ap (λ w. bit_at w k) (get_or-set_other old row r (bit_or (slice_index old row) (1 * 2 ^ col % 2 ^ 32)) 0 off) in
+      (λ set. inr (sym same ∙ set), λ either. elim either [ inl is ↦ absurd (off is.0) | inr had ↦ same ∙ had ])
+    )
+  ]

@@ -8,16 +8,7 @@ ghost use Rattle.go_board.specs.Gains.{Gains};
 ghost use Rattle.go_board.specs.Rows.{AreHeld, AreStones, IsIn};
 ghost use Rattle.go_board.specs.inner.Around.{AreJoinedRound, IsOpen, gap};
 
-use crate::rows::{ROWS, Rows};
-
-/// Whether a set has a place.
-fn has_place(rows: &Rows, row: usize, col: usize) -> bool
-    requires row { row < ROWS }
-    requires col { col < ROWS }
-    ensures { IsTrue result ↔ IsIn rows.now row col }
-{
-    rows[row] >> col & 1 == 1
-}
+use crate::rows::{ROWS, Rows, has_place};
 
 /// Whether a place is on the board and not in a set. A row or column before the first is as one past
 /// the last.

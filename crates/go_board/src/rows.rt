@@ -1,6 +1,6 @@
 //! Areas from a word for each row of the board. From a colour's stones marks spread over the points
 //! that the other colour has not, all columns of a row at once.
-ghost use Rattle.std.specs.Prelude.{◌≡◌, ◌<◌, ◌≤◌, ◌⊎◌, ◌↔◌, ℕ, Some, true, false, count_by};
+ghost use Rattle.std.specs.Prelude.{◌≡◌, ◌<◌, ◌≤◌, ◌⊎◌, ◌↔◌, ℕ, IsTrue, Some, true, false, count_by};
 ghost use Rattle.std.specs.Int.{bit_at};
 ghost use Rattle.std.specs.List.{range_with_len};
 ghost use Rattle.go_board.specs.declared.colour.Colour.{Colour};
@@ -23,6 +23,25 @@ pub type Rows = [u32; ROWS];
 pub struct Stones {
     pub black: Rows,
     pub white: Rows,
+}
+
+/// Whether a set has a place.
+pub fn has_place(rows: &Rows, row: usize, col: usize) -> bool
+    requires row { row < ROWS }
+    requires col { col < ROWS }
+    ensures { IsTrue result ↔ IsIn rows.now row col }
+{
+    rows[row] >> col & 1 == 1
+}
+
+/// Puts a place into a set.
+pub fn put_place(rows: &mut Rows, row: usize, col: usize)
+    requires row { row < ROWS }
+    requires col { col < ROWS }
+    ensures { (r c : ℕ) → IsIn rows.new r c
+        ↔ (((r ≡ row) × (c ≡ col)) ⊎ IsIn rows.old r c) }
+{
+    rows[row] |= 1 << col;
 }
 
 /// A row with this column put in where a point's colour is the own one.
