@@ -1,6 +1,6 @@
 pub mod Listing
 pub mod Earlier
-pub mod Following
+pub mod Telling
 pub mod Marking
 pub mod Spaced
 pub mod MarkBits

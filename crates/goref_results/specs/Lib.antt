@@ -4,3 +4,4 @@ pub mod ChainLines
 pub mod Places
 pub mod Plays
 pub mod Marks
+pub mod inner

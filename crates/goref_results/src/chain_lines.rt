@@ -1,16 +1,21 @@
-ghost use Rattle.std.specs.Prelude.{◌≡◌, ◌<◌, ◌∷◌, [], IsSome, IsTrue, Some, if◌then◌else◌};
+ghost use Rattle.std.specs.Prelude.{◌≡◌, ◌<◌, ◌+◌, ◌⊎◌, ◌↔◌, ◌∷◌, [], All, IsSome, IsTrue, if◌then◌else◌};
 ghost use Rattle.std.specs.List.{flat_map};
 ghost use Rattle.go_board.specs.Grids.{is_first_stone, stone_at};
 ghost use Rattle.go_board.specs.Pens.{Writes};
-ghost use Rattle.go_board.specs.Points.{IsOn, are_beside, number_of};
+ghost use Rattle.go_board.specs.Points.{IsOn, number_of};
+ghost use Rattle.go_board.specs.Rows.{IsIn};
 ghost use Rattle.go_board.specs.declared.point.Point.{Point};
+ghost use Rattle.go_board.specs.declared.rows.TheConstants.{ROWS};
+ghost use Rattle.go_board.specs.declared.size.TheConstants.{MAX_LINES};
 ghost use Rattle.go_game.specs.Standings.{board_of, present};
 ghost use Rattle.goref_results.specs.Results.{result_text};
 ghost use Rattle.goref_results.specs.ChainLines.{chain_lines, line_of_chain, stone_text};
 ghost use Rattle.goref_results.specs.Places.{spaced_point};
+ghost use Rattle.goref_results.specs.inner.Told.{AreTold, TellsAll, TellsChain};
 
 use go_board::laws::{joined_by_a_path, points_by_number};
-use go_board::{Colour, Pen, Point, Sink, Vertex, vertex_text};
+use go_board::rows::{ROWS, Rows, has_place, put_place};
+use go_board::{Pen, Point, Sink, Vertex, vertex_text};
 use go_game::{ChainPoints, Game};
 use std::alloc::Allocator;
 
@@ -20,81 +25,80 @@ pub fn put_chains<A: Allocator + Copy, W: Sink>(game: &Game<A>, pen: &mut Pen<'_
         (result_text (chain_lines game.now.standing.lines (board_of game.now.standing))) }
 {
     let size = game.size();
+    let mut told = [0; ROWS];
     let mut before = b' ';
     for number in 0..size.points() {
-        before = put_if_first(game, Point::numbered(size, number), before, pen);
+        let at = Point::numbered(size, number);
+        before = put_if_first(game, at, before, &mut told, pen);
     }
 }
 
 /// Writes the chain of a stone that is its first, and gives the byte that stands before the next.
+/// Stones of chains that were written are told, so that each chain is looked up once.
 fn put_if_first<A: Allocator + Copy, W: Sink>(
     game: &Game<A>,
     at: Point,
     before: u8,
+    told: &mut Rows,
     pen: &mut Pen<'_, W>,
 ) -> u8
-    requires { IsOn game.now.standing.lines at }
+    requires on { IsOn game.now.standing.lines at }
+    requires told { AreTold game.now.standing.lines (board_of game.now.standing)
+        (number_of game.now.standing.lines at) told.old }
     ensures line { Writes W.Sink pen.old pen.new
         (if is_first_stone (present game.now.standing) at
         then before ∷ line_of_chain (present game.now.standing) at else []) }
     ensures next { result
         ≡ (if is_first_stone (present game.now.standing) at then 10 else before) }
+    ensures told { AreTold game.now.standing.lines (board_of game.now.standing)
+        (number_of game.now.standing.lines at + 1) told.new }
 {
-    if is_first(game, at) {
+    points_by_number();
+    joined_by_a_path();
+    if is_first(game, told, at) {
         pen.put(&[before]);
-        put_chain(game, at, pen);
+        put_chain(game, at, told, pen);
         return b'\n';
     }
     before
 }
 
 /// Whether a point holds a stone that is the first of its chain.
-fn is_first<A: Allocator + Copy>(game: &Game<A>, at: Point) -> bool
-    requires { IsOn game.now.standing.lines at }
+fn is_first<A: Allocator + Copy>(game: &Game<A>, told: &Rows, at: Point) -> bool
+    requires on { IsOn game.now.standing.lines at }
+    requires told { AreTold game.now.standing.lines (board_of game.now.standing)
+        (number_of game.now.standing.lines at) told.now }
     ensures { result ≡ is_first_stone (present game.now.standing) at }
 {
     points_by_number();
     joined_by_a_path();
+    prove!(at.on(game.size()));
+    let (row, col) = (usize::from(at.row), usize::from(at.col));
     match game.colour_at(at) {
-        Some(colour) if follows_own(game, at, colour) => false,
+        Some(_) if has_place(told, row, col) => false,
         Some(_) => game.chain_points(at).next() == Some(at),
         None => false,
     }
 }
 
-/// Whether a stone of this colour has another one to its left or below: of its chain, and before it.
-fn follows_own<A: Allocator + Copy>(game: &Game<A>, at: Point, colour: Colour) -> bool
-    requires { IsOn game.now.standing.lines at }
-    ensures { IsTrue result → (q : Point) × IsOn game.now.standing.lines q
-        × (number_of game.now.standing.lines q < number_of game.now.standing.lines at)
-        × IsTrue (are_beside at q) × (stone_at (present game.now.standing) q ≡ Some colour) }
-{
-    let (col, row) = (at.col, at.row);
-    if col > 0 && has_stone(game, Point { col: col - 1, row }, colour) {
-        return true;
-    }
-    row > 0 && has_stone(game, Point { col, row: row - 1 }, colour)
-}
-
-fn has_stone<A: Allocator + Copy>(game: &Game<A>, at: Point, colour: Colour) -> bool
-    requires { IsOn game.now.standing.lines at }
-    ensures { IsTrue result → stone_at (present game.now.standing) at ≡ Some colour }
-{
-    match game.colour_at(at) {
-        Some(stone) => stone == colour,
-        None => false,
-    }
-}
-
-/// Writes the chain of a stone: the letter of its colour, its stones and its liberties.
-fn put_chain<A: Allocator + Copy, W: Sink>(game: &Game<A>, at: Point, pen: &mut Pen<'_, W>)
+/// Writes the chain of a stone: the letter of its colour, its stones, which are told, and its
+/// liberties.
+fn put_chain<A: Allocator + Copy, W: Sink>(
+    game: &Game<A>,
+    at: Point,
+    told: &mut Rows,
+    pen: &mut Pen<'_, W>,
+)
     requires on { IsOn game.now.standing.lines at }
     requires stone { IsSome (stone_at (present game.now.standing) at) }
-    ensures { Writes W.Sink pen.old pen.new
-        (line_of_chain (present game.now.standing) at) }
+    ensures line { Writes W.Sink pen.old pen.new (line_of_chain (present game.now.standing) at) }
+    ensures told { TellsChain game.now.standing.lines (board_of game.now.standing)
+        (number_of game.now.standing.lines at) told.old told.new }
 {
+    points_by_number();
+    prove!(at.on(game.size()));
     put_stone(game, at, pen);
-    put_each(game.chain_points(at), pen);
+    put_stones(game.chain_points(at), told, pen);
     pen.put(b" :");
     put_each(game.liberty_points(at), pen);
 }
@@ -110,12 +114,32 @@ fn put_stone<A: Allocator + Copy, W: Sink>(game: &Game<A>, at: Point, pen: &mut 
     }
 }
 
+/// Writes stones, each behind a space, and tells them.
+fn put_stones<W: Sink>(stones: ChainPoints<'_>, told: &mut Rows, pen: &mut Pen<'_, W>)
+    requires { All (IsOn MAX_LINES) stones }
+    ensures written { Writes W.Sink pen.old pen.new (flat_map spaced_point stones.entry) }
+    ensures told { TellsAll stones.entry told.old told.new }
+{
+    for at in stones {
+        put_point(at, pen);
+        let (row, col) = (usize::from(at.row), usize::from(at.col));
+        put_place(told, row, col);
+    }
+}
+
 /// Writes points, each behind a space.
 fn put_each<W: Sink>(points: ChainPoints<'_>, pen: &mut Pen<'_, W>)
     ensures { Writes W.Sink pen.old pen.new (flat_map spaced_point points.entry) }
 {
     for point in points {
-        pen.put(b" ");
-        pen.put(vertex_text(Vertex::At(point)).as_bytes());
+        put_point(point, pen);
     }
+}
+
+/// Writes a point behind a space.
+fn put_point<W: Sink>(at: Point, pen: &mut Pen<'_, W>)
+    ensures { Writes W.Sink pen.old pen.new (spaced_point at) }
+{
+    pen.put(b" ");
+    pen.put(vertex_text(Vertex::At(at)).as_bytes());
 }

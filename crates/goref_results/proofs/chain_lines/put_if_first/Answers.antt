@@ -4,10 +4,22 @@ use Rattle.go_board.specs.lemmas.Writing.{writes_then}
 use Rattle.go_game.specs.Standings.{board_of}
 use Rattle.goref_results.specs.ChainLines.{chain_line}
 use Rattle.goref_results.proofs.Listing.{if_true}
+use Rattle.goref_results.proofs.Telling.{chain_told, told_later}
 use Rattle.goref_results.proofs.chain_lines.put_if_first.Goals as goal
 
 pub returns-then-is_first-clause-line : goal.returns-then-is_first-clause-line
 returns-then-is_first-clause-line g c =
     let s = c.args.game.now.standing in
     let line = chain_line s.lines (board_of s) (number_of s.lines c.args.at) in
-    writes_then _ c.put.ensures c.put_chain.ensures (sym (if_true (sym c.is_first.ensures ∙ c.if-is_first.true) (c.args.before ∷ line) []))
+    writes_then _ c.put.ensures c.put_chain.ensures.line (sym (if_true (sym c.is_first.ensures ∙ c.if-is_first.true) (c.args.before ∷ line) []))
+
+pub returns-then-is_first-clause-told : goal.returns-then-is_first-clause-told
+returns-then-is_first-clause-told g c =
+    let s = c.args.game.now.standing in
+    let k = number_of s.lines c.args.at in
+    chain_told c.joined_by_a_path.ensures c.points_by_number.ensures s.lines (board_of s) k c.args.told.now c.put_chain.new.told (c.points_by_number.ensures.number s.lines c.args.at c.requires.on) c.requires.told c.put_chain.ensures.told
+
+pub returns-clause-told : goal.returns-clause-told
+returns-clause-told g c =
+    let s = c.args.game.now.standing in
+    told_later s.lines (board_of s) (number_of s.lines c.args.at) c.args.told.now c.requires.told
