@@ -173,7 +173,7 @@ module _ (n : ℕ) (g : Colouring) (c : Colour) (p : ℕ) (whole : length g ≡ 
     pub theirs_but : (x : ℕ) → x < n * n → x ≢ p → is_held n (slice_set g p (Some c)) (other c) x ≡ is_held n g (other c) x
     theirs_but x x_low off = same_test (is_held n (slice_set g p (Some c)) (other c) x) (is_held n g (other c) x) (theirs_before x x_low) (theirs_left x x_low off)
 
-other_twice : (c : Colour) → other (other c) ≡ c
+pub other_twice : (c : Colour) → other (other c) ≡ c
 other_twice Black = refl
 other_twice White = refl
 

@@ -22,3 +22,4 @@ pub mod Holding
 pub mod RowCounts
 pub mod Rounding
 pub mod Gaining
+pub mod HeldSets

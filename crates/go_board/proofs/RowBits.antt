@@ -126,10 +126,10 @@ module _ (old : List ℕ) (row col : ℕ) (long : row < length old) (low : col <
   place_put r k = elim (cases_eq r row) [
     | inl at ↦ (
       λ set. elim ((in_row k).0 (ap (λ (j : ℕ). bit_at (slice_index put j) k) (sym at) ∙ set)) [ inl is ↦ inl (at, is) | inr had ↦ inr (ap (λ (j : ℕ). bit_at (slice_index old j) k) at ∙ had) ],
-      λ either. ap (λ (j : ℕ). bit_at (slice_index put j) k) at ∙ (in_row k).1 (elim either [ inl is ↦ inl is.1 | inr had ↦ inr (ap (λ (j : ℕ). bit_at (slice_index old j) k) (sym at) ∙ had) ])
+      λ either. ap (λ (j : ℕ). bit_at (slice_index put j) k) at ∙ (in_row k).1 (elim either [ inl is ↦ inl is.1 | inr had ↦ inr (ap (λ (j : ℕ). bit_at (slice_index old j) k) (sym at) ∙ had) ]),
     )
     | inr off ↦ (
-      let same : bit_at (slice_index put r) k ≡ bit_at (slice_index old r) k = ap (λ w. bit_at w k) (get_or-set_other old row r (bit_or (slice_index old row) (1 * 2 ^ col % 2 ^ 32)) 0 off) in
-      (λ set. inr (sym same ∙ set), λ either. elim either [ inl is ↦ absurd (off is.0) | inr had ↦ same ∙ had ])
-    )
+        let same : bit_at (slice_index put r) k ≡ bit_at (slice_index old r) k = ap (λ w. bit_at w k) (get_or-set_other old row r (bit_or (slice_index old row) (1 * 2 ^ col % 2 ^ 32)) 0 off) in
+        (λ set. inr (sym same ∙ set), λ either. elim either [ inl is ↦ absurd (off is.0) | inr had ↦ same ∙ had ])
+        )
   ]

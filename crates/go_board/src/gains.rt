@@ -1,6 +1,6 @@
 //! What a stone gains for its colour where it takes nothing, told from the points around it, so that
 //! the areas need not be counted anew.
-ghost use Rattle.std.specs.Prelude.{◌≡◌, ◌<◌, ◌≤◌, ◌+◌, ◌*◌, ◌↔◌, IfSome, IsTrue, None, Some, length};
+ghost use Rattle.std.specs.Prelude.{◌≡◌, ◌<◌, ◌≤◌, ◌+◌, ◌*◌, ◌↔◌, IfSome, IsTrue, None, Some, length, slice_set};
 ghost use Rattle.go_board.specs.declared.colour.Colour.{Colour};
 ghost use Rattle.go_board.specs.declared.rows.TheConstants.{ROWS};
 ghost use Rattle.go_board.specs.Colours.{Colouring, colour_at, other};
@@ -8,7 +8,7 @@ ghost use Rattle.go_board.specs.Gains.{Gains};
 ghost use Rattle.go_board.specs.Rows.{AreHeld, AreStones, IsIn};
 ghost use Rattle.go_board.specs.inner.Around.{AreJoinedRound, IsOpen, gap};
 
-use crate::rows::{ROWS, Rows, has_place};
+use crate::rows::{ROWS, Rows, has_place, held};
 
 /// Whether a place is on the board and not in a set. A row or column before the first is as one past
 /// the last.
@@ -90,4 +90,54 @@ pub fn gain_of(
     } else {
         None
     }
+}
+
+/// The points that a colour holds with a stone of its own on an empty point, from what it held
+/// without it: the same where it held the point. The stones are those with that one.
+pub fn own_held_with(
+    own: &Rows,
+    theirs: &Rows,
+    own_held: &Rows,
+    lines: usize,
+    row: usize,
+    col: usize,
+) -> Rows
+    requires lines { lines ≤ ROWS }
+    requires row { row < lines }
+    requires col { col < lines }
+    ensures { (g : Colouring) (c : Colour) → length g ≡ lines * lines
+        → colour_at g (row * lines + col) ≡ None → AreHeld lines g c own_held.now
+        → AreStones lines (slice_set g (row * lines + col) (Some c)) c own.now
+        → AreStones lines (slice_set g (row * lines + col) (Some c)) (other c) theirs.now
+        → AreHeld lines (slice_set g (row * lines + col) (Some c)) c result }
+{
+    if has_place(own_held, row, col) {
+        return *own_held;
+    }
+    held(own, theirs, lines)
+}
+
+/// The points that a colour holds with a stone of the other one on an empty point, from what it held
+/// without it: the same where it didn't hold the point. The stones are those with that one.
+pub fn theirs_held_with(
+    own: &Rows,
+    theirs: &Rows,
+    theirs_held: &Rows,
+    lines: usize,
+    row: usize,
+    col: usize,
+) -> Rows
+    requires lines { lines ≤ ROWS }
+    requires row { row < lines }
+    requires col { col < lines }
+    ensures { (g : Colouring) (c : Colour) → length g ≡ lines * lines
+        → colour_at g (row * lines + col) ≡ None → AreHeld lines g (other c) theirs_held.now
+        → AreStones lines (slice_set g (row * lines + col) (Some c)) c own.now
+        → AreStones lines (slice_set g (row * lines + col) (Some c)) (other c) theirs.now
+        → AreHeld lines (slice_set g (row * lines + col) (Some c)) (other c) result }
+{
+    if !has_place(theirs_held, row, col) {
+        return *theirs_held;
+    }
+    held(theirs, own, lines)
 }

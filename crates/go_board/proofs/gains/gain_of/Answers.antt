@@ -1,25 +1,8 @@
-use Rattle.std.proofs.Common.{◌≡◌, ◌<◌, ◌*◌, ◌+◌, ◌∙◌, inl, inr, true, false, true≢false, ℕ, List, sym}
-use Rattle.std.proofs.lemmas.Bool.{cases_Bool}
-use Rattle.go_board.specs.declared.colour.Colour.{Colour}
-use Rattle.go_board.specs.declared.point.Point.{Point}
-use Rattle.go_board.specs.Colours.{Colouring, other}
-use Rattle.go_board.specs.Rows.{AreHeld, IsIn, is_held}
+use Rattle.std.proofs.Common.{◌*◌, ◌+◌, ◌∙◌, true≢false, sym}
+use Rattle.go_board.specs.Colours.{other}
 use Rattle.go_board.proofs.Gaining.{gains_nothing, gains_point, held_round}
-use Rattle.go_board.proofs.Numbers.{number_of-lt}
+use Rattle.go_board.proofs.HeldSets.{held_in, held_out, point_low}
 use Rattle.go_board.proofs.gains.gain_of.Goals as goal
-
--- what a set of held points says of one of the board
-held_in : (n : ℕ) (g : Colouring) (c : Colour) (rows : List ℕ) (row col : ℕ) → AreHeld n g c rows → IsIn rows row col → is_held n g c (row * n + col) ≡ true
-held_in n g c rows row col held inside = ((held row col).0 inside).2
-
-held_out : (n : ℕ) (g : Colouring) (c : Colour) (rows : List ℕ) (row col : ℕ) → row < n → col < n → AreHeld n g c rows → (IsIn rows row col → ⊥) → is_held n g c (row * n + col) ≡ false
-held_out n g c rows row col row_low col_low held outside = elim (cases_Bool (is_held n g c (row * n + col))) [
-  | inl inside ↦ absurd (outside ((held row col).1 (row_low, col_low, inside)))
-  | inr not_held ↦ not_held
-]
-
-point_low : (n row col : ℕ) → row < n → col < n → row * n + col < n * n
-point_low n row col row_low col_low = let p : Point = record { col = col; row = row } in number_of-lt n p (col_low, row_low)
 
 pub returns-then-not-has_place-2-clause-gain : goal.returns-then-not-has_place-2-clause-gain
 returns-then-not-has_place-2-clause-gain c g colour whole empty stones own theirs =
