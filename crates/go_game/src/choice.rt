@@ -1,9 +1,9 @@
-//! What is legal, and the plain choice of a play. Plays that take nothing are judged by what stands
-//! around them; others are tried on the game itself, and taken back.
-ghost use Rattle.std.specs.Prelude.{◌≡◌, ◌<◌, ◌≤◌, ◌+◌, ◌*◌, ◌↔◌, ◌-ℤ◌, pos, false, true, IfOk, IsTrue, OnErr, None, Some, if◌then◌else◌, slice_set};
+//! What is legal, and the plain choice of a play. Plays that take nothing are judged without being
+//! played; others are tried on the game itself, and taken back.
+ghost use Rattle.std.specs.Prelude.{◌≡◌, ◌<◌, ◌≤◌, ◌+◌, ◌*◌, ◌↔◌, false, true, IfOk, IsTrue, OnErr, None, Some, if◌then◌else◌, slice_set};
 ghost use Rattle.go_game.specs.inner.Trials.{better_of};
 
-use crate::holdings::Holdings;
+use crate::holdings::{Holdings, ahead};
 use crate::order::next_point;
 use crate::{Game, PlayError};
 use go_board::laws::points_by_number;
@@ -40,13 +40,6 @@ fn better_of(earlier: Option<Trial>, later: Option<Trial>) -> Option<Trial>
         (Some(best), Some(next)) if next.beats(best) => later,
         _ => earlier,
     }
-}
-
-/// By how many points the one area is ahead of the other.
-fn ahead(own: u16, theirs: u16) -> i32
-    ensures { result ≡ pos own -ℤ pos theirs }
-{
-    i32::from(own) - i32::from(theirs)
 }
 
 impl<A: Allocator + Copy> Game<A> {
@@ -154,9 +147,8 @@ impl<A: Allocator + Copy> Game<A> {
 
     /// The plain choice for a colour, whoever is to move: among its legal plays the one after which
     /// it is ahead by most points, then with most liberties of the placed stone's chain, then the
-    /// first in point order; or a pass where no play puts it further ahead than it is. A play whose
-    /// neighbours don't tell what it comes to is tried on the game, and taken back also where there
-    /// was no memory for it.
+    /// first in point order; or a pass where no play puts it further ahead than it is. A play that
+    /// may take stones is tried on the game, and taken back also where there was no memory for it.
     pub fn choose(&mut self, colour: Colour) -> Result<Vertex, AllocError>
         ensures ok { IfOk result (λ vertex. vertex ≡ chosen self.old.standing colour) }
         ensures same { IsAsBefore self.old self.new }
@@ -204,8 +196,8 @@ impl<A: Allocator + Copy> Game<A> {
         Ok(best)
     }
 
-    /// What the play on a point comes to, or none where it isn't legal. It is played only where what
-    /// stands around the point doesn't tell that.
+    /// What the play on a point comes to, or none where it isn't legal. It is played only where it may
+    /// take stones.
     fn try_at(
         &mut self,
         holdings: &Holdings,
@@ -224,13 +216,13 @@ impl<A: Allocator + Copy> Game<A> {
         if self.colour_at(point).is_some() {
             return Ok(None);
         }
-        let lead = holdings.lead_with(&self.board, &mut self.meter, colour, point);
-        let Some(lead) = lead else {
+        if !self.board.is_quiet(&mut self.meter, colour, point) {
             return self.try_by_playing(colour, point);
-        };
+        }
         if !self.leaves_new(colour, point) {
             return Ok(None);
         }
+        let lead = holdings.lead_with(&self.board, colour, point);
         let liberties = self.board.liberties_with(&mut self.meter, colour, point);
         Ok(Some(Trial {
             point,

@@ -1,23 +1,33 @@
 //! What the colours of a board hold, from which plays that take nothing are judged.
-ghost use Rattle.std.specs.Prelude.{◌≡◌, ◌≤◌, ◌+◌, ◌-ℤ◌, pos, ℕ, IfSome, Some, slice_set};
-ghost use Rattle.go_board.specs.Colours.{Colouring};
+ghost use Rattle.std.specs.Prelude.{◌≡◌, ◌<◌, ◌≤◌, ◌+◌, ◌*◌, ◌-ℤ◌, pos, ℕ, Some, None, slice_set};
+ghost use Rattle.go_board.specs.Colours.{Colouring, colour_at};
 ghost use Rattle.go_board.specs.Points.{IsOn, number_of};
 ghost use Rattle.go_board.specs.declared.colour.Colour.{Colour};
+ghost use Rattle.go_board.specs.declared.rows.TheConstants.{ROWS};
 ghost use Rattle.go_chains.specs.Boards.{HoldsStone, grid_of};
 ghost use Rattle.go_chains.specs.Playing.{played};
 ghost use Rattle.go_game.specs.Choices.{lead_on};
 ghost use Rattle.go_game.specs.inner.Trials.{AreHoldings};
 
-use go_board::gains::gain_of;
-use go_board::rows::{Rows, count_alone, held};
-use go_board::{Colour, Meter, Point};
+use go_board::gains::{gain_of, own_held_with, theirs_held_with};
+use go_board::laws::points_by_number;
+use go_board::rows::{ROWS, Rows, count_alone, held, put_place};
+use go_board::{Colour, Point};
 use go_chains::Board;
 
-/// The stones of a colour, and what it and the other colour hold. Rows hold a point where a colour
-/// has a stone or an empty point reaches it, and areas what only one colour holds.
+/// By how many points the one area is ahead of the other.
+pub(crate) fn ahead(own: u16, theirs: u16) -> i32
+    ensures { result ≡ pos own -ℤ pos theirs }
+{
+    i32::from(own) - i32::from(theirs)
+}
+
+/// The stones of a colour and of the other, and what they hold. Rows hold a point where a colour has
+/// a stone or an empty point reaches it, and areas what only one colour holds.
 #[derive(Drop)]
 pub(crate) struct Holdings {
     pub(crate) own: Rows,
+    pub(crate) theirs: Rows,
     pub(crate) own_held: Rows,
     pub(crate) theirs_held: Rows,
     pub(crate) own_area: u16,
@@ -38,6 +48,7 @@ impl Holdings {
         match colour {
             Colour::Black => Holdings {
                 own: stones.black,
+                theirs: stones.white,
                 own_held: black_held,
                 theirs_held: white_held,
                 own_area: black_area,
@@ -45,6 +56,7 @@ impl Holdings {
             },
             Colour::White => Holdings {
                 own: stones.white,
+                theirs: stones.black,
                 own_held: white_held,
                 theirs_held: black_held,
                 own_area: white_area,
@@ -58,40 +70,67 @@ impl Holdings {
         ensures { (n : ℕ) (g : Colouring) (c : Colour) → AreHoldings n g c self.now
             → result ≡ lead_on n g c }
     {
-        i32::from(self.own_area) - i32::from(self.theirs_area)
+        ahead(self.own_area, self.theirs_area)
     }
 
-    /// By how many points the colour is ahead after a play on an empty point, komi aside, where the
-    /// neighbours show that the play takes nothing and the points around it what it gains. Else none.
-    pub(crate) fn lead_with(
-        &self,
-        board: &Board,
-        meter: &mut Meter,
-        colour: Colour,
-        p: Point,
-    ) -> Option<i32>
+    /// By how many points this colour is ahead after a play on an empty point that takes nothing, komi
+    /// aside.
+    pub(crate) fn lead_with(&self, board: &Board, colour: Colour, p: Point) -> i32
         requires holdings { AreHoldings board.now.lines (grid_of board.now) colour self.now }
         requires on { IsOn board.now.lines p }
         requires empty { HoldsStone board.now p → ⊥ }
-        ensures quiet { IfSome result (λ lead. played board.now colour p
-            ≡ slice_set (grid_of board.now) (number_of board.now.lines p) (Some colour)) }
-        ensures lead { IfSome result (λ lead. lead
-            ≡ lead_on board.now.lines (played board.now colour p) colour) }
-        ensures count { meter.new ≤ meter.old + 52 }
-        ensures onward { meter.old ≤ meter.new }
+        requires quiet { played board.now colour p
+            ≡ slice_set (grid_of board.now) (number_of board.now.lines p) (Some colour) }
+        ensures { result ≡ lead_on board.now.lines (played board.now colour p) colour }
     {
-        if !board.is_quiet(meter, colour, p) {
-            return None;
-        }
         let lines = usize::from(board.size().lines());
+        let (row, col) = (usize::from(p.row), usize::from(p.col));
+        self.lead_where(lines, row, col)
+    }
+
+    /// By how many points the colour is ahead with a stone on the empty point in this row and column,
+    /// komi aside: from what its neighbours tell of it, or by counting the areas anew.
+    fn lead_where(&self, lines: usize, row: usize, col: usize) -> i32
+        requires lines { lines ≤ ROWS }
+        requires row { row < lines }
+        requires col { col < lines }
+        ensures { (g : Colouring) (c : Colour) → AreHoldings lines g c self.now
+            → colour_at g (row * lines + col) ≡ None
+            → result ≡ lead_on lines (slice_set g (row * lines + col) (Some c)) c }
+    {
         let gain = gain_of(
             &self.own,
             &self.own_held,
             &self.theirs_held,
             lines,
-            usize::from(p.row),
-            usize::from(p.col),
-        )?;
-        Some(i32::from(self.own_area) + i32::from(gain) - i32::from(self.theirs_area))
+            row,
+            col,
+        );
+        match gain {
+            Some(gain) => {
+                i32::from(self.own_area) + i32::from(gain) - i32::from(self.theirs_area)
+            }
+            None => self.lead_counted(lines, row, col),
+        }
+    }
+
+    /// The same, by counting the areas anew.
+    fn lead_counted(&self, lines: usize, row: usize, col: usize) -> i32
+        requires lines { lines ≤ ROWS }
+        requires row { row < lines }
+        requires col { col < lines }
+        ensures { (g : Colouring) (c : Colour) → AreHoldings lines g c self.now
+            → colour_at g (row * lines + col) ≡ None
+            → result ≡ lead_on lines (slice_set g (row * lines + col) (Some c)) c }
+    {
+        points_by_number();
+        let mut own = self.own;
+        put_place(&mut own, row, col);
+        let own_held = own_held_with(&own, &self.theirs, &self.own_held, lines, row, col);
+        let theirs_held = theirs_held_with(&own, &self.theirs, &self.theirs_held, lines, row, col);
+        ahead(
+            count_alone(&own_held, &theirs_held, lines),
+            count_alone(&theirs_held, &own_held, lines),
+        )
     }
 }

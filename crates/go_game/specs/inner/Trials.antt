@@ -47,10 +47,11 @@ IsBestTrial s c i (Some t) = (p : ℕ) × IsBestBelow s c i p × (t ≡ trial_at
 abbrev pub tried_on : Standing → Colour → Point → Option Trial
 tried_on s c p = if is_legal s c (At p) then Some (record { point = p; lead = lead_after s c (number_of s.lines p); liberties = liberties_after s c (number_of s.lines p) }) else None
 
--- the stones of c, and what it and the other colour hold
+-- the stones of c and of the other colour, and what they hold
 pub record AreHoldings (n : ℕ) (g : Colouring) (c : Colour) (h : Holdings) : Type 0 where
   pub whole : length g ≡ n * n
   pub own : AreStones n g c h.own
+  pub theirs : AreStones n g (other c) h.theirs
   pub own_held : AreHeld n g c h.own_held
   pub theirs_held : AreHeld n g (other c) h.theirs_held
   pub own_area : h.own_area ≡ area n g c

@@ -21,7 +21,7 @@ loop-preserved g c =
     let on = inv.on low in
     let there = ap (λ (t : Standing). tried_on t c.args.colour c.loop.point) same ∙ tried_by_number c.points_by_number.ensures s c.args.colour c.loop.point i on inv.number ∙ ap (λ (t : Standing). tried t c.args.colour i) (sym same) in
     let tried = subst (λ (k : ℕ). let few : Type 0 = c.try_at.new.self.count ≤ c.loop.self.count + 4 * most_on s c.args.colour k in few) inv.number
-          (subst (λ (t : Standing). let few : Type 0 = c.try_at.new.self.count ≤ c.loop.self.count + 4 * most_on t c.args.colour (number_of t.lines c.loop.point) in few) same c.in_ok-trial.ensures.count) in
+    (subst (λ (t : Standing). let few : Type 0 = c.try_at.new.self.count ≤ c.loop.self.count + 4 * most_on t c.args.colour (number_of t.lines c.loop.point) in few) same c.in_ok-trial.ensures.count) in
     record {
       same = again_as_before c.args.self.now c.loop.self c.try_at.new.self inv.same c.in_ok-trial.ensures.same;
       best = best_more s c.loop.self.standing c.args.colour i c.loop.best c.in_ok-trial.trial c.better_of-best.result same inv.best
@@ -41,5 +41,5 @@ returns-in_err-trial-clause-count g c =
     let square : c.size-size.result * c.size-size.result ≡ n * n = ap (λ m. let k : ℕ = m * m in k) c.size-size.ensures.lines in
     let low : i < n * n = omega (arith, c.loop-test.true, c.points-end.ensures.value, square) in
     let tried = subst (λ (k : ℕ). let few : Type 0 = c.try_at.new.self.count ≤ c.loop.self.count + 4 * most_on s c.args.colour k in few) inv.number
-          (subst (λ (t : Standing). let few : Type 0 = c.try_at.new.self.count ≤ c.loop.self.count + 4 * most_on t c.args.colour (number_of t.lines c.loop.point) in few) same c.try_at.ensures.count) in
+    (subst (λ (t : Standing). let few : Type 0 = c.try_at.new.self.count ≤ c.loop.self.count + 4 * most_on t c.args.colour (number_of t.lines c.loop.point) in few) same c.try_at.ensures.count) in
     omega (arith, next_fourfold (most_on s c.args.colour) i (n * n) c.loop.self.count c.try_at.new.self.count (c.args.self.now.count + 4 * most_on_all s c.args.colour) low inv.count tried)

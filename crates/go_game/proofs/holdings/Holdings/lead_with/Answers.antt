@@ -1,16 +1,17 @@
-use Rattle.std.proofs.Common.{arith, ◌∙◌, refl}
+use Rattle.std.proofs.Common.{arith, ◌∙◌, ap, sym}
 use Rattle.std.proofs.lemmas.Int.{ints}
+use Rattle.go_board.specs.Colours.{Colouring}
 use Rattle.go_board.specs.Points.{number_of}
 use Rattle.go_chains.specs.Boards.{grid_of}
-use Rattle.go_chains.specs.Playing.{played}
-use Rattle.go_game.proofs.Holding.{lead_told, no_colour}
+use Rattle.go_game.specs.Choices.{lead_on}
+use Rattle.go_game.proofs.Holding.{lead_placed, no_colour}
 use Rattle.go_game.proofs.holdings.Holdings.lead_with.Goals as goal
 
-pub returns-clause-lead : goal.returns-clause-lead
-returns-clause-lead c =
-    let b = c.args.board.now in
-    let n = b.lines in
-    let told = lead_told n c.from-lines.result c.from.result c.from-2.result (grid_of b) (played b c.args.colour c.args.p) c.args.colour c.args.p c.args.self.now c.in_ok-gain.gain c.requires.holdings
-    (c.from-lines.ensures ∙ c.lines.ensures.value ∙ c.size.ensures.lines) c.from.ensures c.from-2.ensures (no_colour (grid_of b) (number_of n c.args.p) c.requires.empty)
-    (c.if-not-is_quiet.ensures.quiet refl) c.in_ok-gain.ensures.gain in
-    omega (arith, ints, told, c.from-3.ensures, c.from-4.ensures, c.from-5.ensures)
+pub returns : goal.returns
+returns c =
+    let n = c.args.board.now.lines in
+    let g = grid_of c.args.board.now in
+    let placed = lead_placed n c.from-lines.result c.from-row.result c.from-col.result g c.args.colour c.args.p c.args.self.now c.lead_where.result c.requires.holdings
+    (c.from-lines.ensures ∙ c.lines.ensures.value ∙ c.size.ensures.lines) c.from-row.ensures c.from-col.ensures (no_colour g (number_of n c.args.p) c.requires.empty) c.lead_where.ensures in
+    let told = placed ∙ ap (λ (k : Colouring). lead_on n k c.args.colour) (sym c.requires.quiet) in
+    omega (arith, ints, told, c.lead_where.type_inv)
