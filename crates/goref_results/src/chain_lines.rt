@@ -13,9 +13,10 @@ ghost use Rattle.goref_results.specs.ChainLines.{chain_lines, line_of_chain, sto
 ghost use Rattle.goref_results.specs.Places.{spaced_point};
 ghost use Rattle.goref_results.specs.inner.Told.{AreTold, TellsAll, TellsChain};
 
+use crate::point_text::put_spaced;
 use go_board::laws::{joined_by_a_path, points_by_number};
 use go_board::rows::{ROWS, Rows, has_place, put_place};
-use go_board::{Pen, Point, Sink, Vertex, vertex_text};
+use go_board::{Pen, Point, Sink};
 use go_game::{ChainPoints, Game};
 use std::alloc::Allocator;
 
@@ -121,7 +122,7 @@ fn put_stones<W: Sink>(stones: ChainPoints<'_>, told: &mut Rows, pen: &mut Pen<'
     ensures told { TellsAll stones.entry told.old told.new }
 {
     for at in stones {
-        put_point(at, pen);
+        put_spaced(at, pen);
         let (row, col) = (usize::from(at.row), usize::from(at.col));
         put_place(told, row, col);
     }
@@ -132,14 +133,6 @@ fn put_each<W: Sink>(points: ChainPoints<'_>, pen: &mut Pen<'_, W>)
     ensures { Writes W.Sink pen.old pen.new (flat_map spaced_point points.entry) }
 {
     for point in points {
-        put_point(point, pen);
+        put_spaced(point, pen);
     }
-}
-
-/// Writes a point behind a space.
-fn put_point<W: Sink>(at: Point, pen: &mut Pen<'_, W>)
-    ensures { Writes W.Sink pen.old pen.new (spaced_point at) }
-{
-    pen.put(b" ");
-    pen.put(vertex_text(Vertex::At(at)).as_bytes());
 }

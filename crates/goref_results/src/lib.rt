@@ -7,6 +7,7 @@ mod diagram;
 pub mod laws;
 mod marks;
 mod plays;
+mod point_text;
 mod results;
 
 pub use chain_lines::put_chains;

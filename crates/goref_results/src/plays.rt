@@ -6,7 +6,8 @@ ghost use Rattle.goref_results.specs.Plays.{marked_plays, plays_text};
 ghost use Rattle.goref_results.specs.Results.{result_text};
 
 use crate::Plays;
-use go_board::{Colour, Move, Pen, Point, Sink, Size, Vertex, vertex_text};
+use crate::point_text::put_spaced;
+use go_board::{Colour, Move, Pen, Point, Sink, Size, Vertex};
 use go_game::Game;
 use std::alloc::{AllocError, Allocator};
 
@@ -44,8 +45,6 @@ fn put_if_play<W: Sink>(size: Size, plays: &Plays, number: u16, pen: &mut Pen<'_
         then spaced_vertex size number else []) }
 {
     if plays.has(number) {
-        let at = Point::numbered(size, number);
-        pen.put(b" ");
-        pen.put(vertex_text(Vertex::At(at)).as_bytes());
+        put_spaced(Point::numbered(size, number), pen);
     }
 }

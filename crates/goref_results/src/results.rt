@@ -7,7 +7,8 @@ ghost use Rattle.goref_results.specs.Places.{places_text, spaced_point};
 ghost use Rattle.goref_results.specs.Results.{result_text};
 
 use crate::diagram::put_diagram;
-use go_board::{Pen, Point, Sink, Vertex, vertex_text};
+use crate::point_text::put_spaced;
+use go_board::{Pen, Point, Sink};
 use go_game::{Game, fixed_points, score_text};
 use std::alloc::Allocator;
 
@@ -44,7 +45,6 @@ fn put_points<W: Sink>(points: &[Point], pen: &mut Pen<'_, W>)
     ensures { Writes W.Sink pen.old pen.new (flat_map spaced_point points.now) }
 {
     for point in points {
-        pen.put(b" ");
-        pen.put(vertex_text(Vertex::At(*point)).as_bytes());
+        put_spaced(*point, pen);
     }
 }

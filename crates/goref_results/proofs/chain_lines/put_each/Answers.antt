@@ -9,6 +9,6 @@ loop-point-preserved g c =
     let i = c.loop-point.invariant in
     let text = spaced_point c.in-Some.point in (
       i.0 ++ text,
-      writes_writes i.1 c.put_point.ensures,
+      writes_writes i.1 c.put_spaced.ensures,
       append_assoc i.0 text (flat_map spaced_point c.next.new.self) ∙ ap (λ ps. i.0 ++ flat_map spaced_point ps) (sym c.in-Some.ensures.steps) ∙ i.2,
     )

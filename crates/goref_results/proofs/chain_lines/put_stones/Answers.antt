@@ -13,7 +13,7 @@ loop-at-preserved g c =
     let at = c.in-Some.at in (
       i.0 ++ at ∷ [],
       append_assoc i.0 (at ∷ []) c.next.new.self ∙ ap (λ ps. i.0 ++ ps) (sym c.in-Some.ensures.steps) ∙ i.1,
-      writes_then _ i.2 c.put_point.ensures (ap (λ t. flat_map spaced_point i.0 ++ t) (sym (append-nil (spaced_point at))) ∙ sym (flat_map-append spaced_point i.0 (at ∷ []))),
+      writes_then _ i.2 c.put_spaced.ensures (ap (λ t. flat_map spaced_point i.0 ++ t) (sym (append-nil (spaced_point at))) ∙ sym (flat_map-append spaced_point i.0 (at ∷ []))),
       told_more i.0 at c.from-row.result c.from-col.result c.args.told.now c.loop-at.told c.put_place.new.rows c.from-row.ensures c.from-col.ensures i.3 c.put_place.ensures,
     )
 

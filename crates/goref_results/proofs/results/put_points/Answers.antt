@@ -1,4 +1,4 @@
-use Rattle.go_board.specs.lemmas.Writing.{writes_writes, writes_then}
+use Rattle.go_board.specs.lemmas.Writing.{writes_then}
 use Rattle.go_board.specs.declared.point.Point.{Point}
 use Rattle.goref_results.specs.Places.{spaced_point}
 use Rattle.goref_results.proofs.Listing.{taken_more}
@@ -8,5 +8,5 @@ pub loop-point-preserved : goal.loop-point-preserved
 loop-point-preserved g c =
     let origin : Point = record { col = 0; row = 0 } in
     writes_then _ c.loop-point.invariant
-    (writes_writes c.put.ensures (rw (c.as_bytes.ensures.value, c.deref.ensures.0, c.vertex_text.ensures.text) at c.put-in-loop-point.ensures))
+    c.put_spaced.ensures
     (taken_more spaced_point c.args.points.now c.loop-point.point-index origin c.loop-point-test.true)

@@ -1,0 +1,61 @@
+//! Points behind spaces, each written as one piece.
+ghost use Rattle.std.specs.Prelude.{◌≡◌, ◌<◌, ◌≤◌, ◌+◌, ◌++◌, decimal, length};
+ghost use Rattle.go_board.specs.Pens.{Writes};
+ghost use Rattle.go_board.specs.Vertices.{letter_of_column};
+ghost use Rattle.goref_results.specs.Places.{spaced_point};
+
+use arrayvec::ArrayVec;
+use go_board::{COLUMN_LETTERS, Pen, Point, Sink};
+
+/// The most bytes of a point behind a space: no row has a number of more than three digits.
+const SPACED_LEN: usize = 5;
+
+/// Writes a point behind a space.
+pub(crate) fn put_spaced<W: Sink>(at: Point, pen: &mut Pen<'_, W>)
+    ensures { Writes W.Sink pen.old pen.new (spaced_point at) }
+{
+    pen.put(spaced(at).as_slice());
+}
+
+/// A space, the letter of the column and the number of the row from 1.
+fn spaced(at: Point) -> ArrayVec<u8, SPACED_LEN>
+    ensures { result.items ≡ spaced_point at }
+{
+    let mut text = ArrayVec::new();
+    text.push(b' ');
+    text.push(column_letter(at.col));
+    push_number(&mut text, u16::from(at.row) + 1);
+    text
+}
+
+/// The letter of a column, or a question mark past the last letter.
+fn column_letter(col: u8) -> u8
+    ensures { result ≡ letter_of_column col }
+{
+    match COLUMN_LETTERS.get(usize::from(col)) {
+        Some(letter) => *letter,
+        None => b'?',
+    }
+}
+
+/// Adds a row's number.
+fn push_number(text: &mut ArrayVec<u8, SPACED_LEN>, number: u16)
+    requires room { length text.old.items ≤ 2 }
+    requires small { number ≤ 256 }
+    ensures { text.new.items ≡ text.old.items ++ decimal number }
+{
+    if number >= 100 {
+        text.push(digit(number / 100));
+        text.push(digit(number / 10 % 10));
+    } else if number >= 10 {
+        text.push(digit(number / 10));
+    }
+    text.push(digit(number % 10));
+}
+
+fn digit(value: u16) -> u8
+    requires { value < 10 }
+    ensures { result ≡ 48 + value }
+{
+    b'0' + value as u8
+}
