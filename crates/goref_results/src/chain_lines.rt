@@ -1,11 +1,8 @@
-ghost use Rattle.std.specs.Prelude.{◌≡◌, ◌<◌, ◌+◌, ◌⊎◌, ◌↔◌, ◌∷◌, [], All, IsSome, IsTrue, if◌then◌else◌};
+ghost use Rattle.std.specs.Prelude.{◌≡◌, ◌+◌, ◌∷◌, [], All, IsSome, if◌then◌else◌};
 ghost use Rattle.std.specs.List.{flat_map};
 ghost use Rattle.go_board.specs.Grids.{is_first_stone, stone_at};
 ghost use Rattle.go_board.specs.Pens.{Writes};
 ghost use Rattle.go_board.specs.Points.{IsOn, number_of};
-ghost use Rattle.go_board.specs.Rows.{IsIn};
-ghost use Rattle.go_board.specs.declared.point.Point.{Point};
-ghost use Rattle.go_board.specs.declared.rows.TheConstants.{ROWS};
 ghost use Rattle.go_board.specs.declared.size.TheConstants.{MAX_LINES};
 ghost use Rattle.go_game.specs.Standings.{board_of, present};
 ghost use Rattle.goref_results.specs.Results.{result_text};
@@ -35,7 +32,7 @@ pub fn put_chains<A: Allocator + Copy, W: Sink>(game: &Game<A>, pen: &mut Pen<'_
 }
 
 /// Writes the chain of a stone that is its first, and gives the byte that stands before the next.
-/// Stones of chains that were written are told, so that each chain is looked up once.
+/// Stones of chains that were written are told, so that no chain is looked up for a later stone.
 fn put_if_first<A: Allocator + Copy, W: Sink>(
     game: &Game<A>,
     at: Point,
