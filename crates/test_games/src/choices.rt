@@ -212,3 +212,31 @@ fn each_request_of_a_choice_refused(rt: HostRuntime) {
 fn each_request_of_a_legal_refused(rt: HostRuntime) {
     refused_in_turn(&rt, rt.alloc(), false);
 }
+
+/// Whether a choice on one point comes to a request for memory with this number; that one alone is
+/// refused. The only play there may take a stone, its own, so it is tried.
+fn choice_meets_request(rt: &impl Abort, alloc: Global, number: u64) -> bool {
+    let failing = Failing::new(alloc, number);
+    let mut game = Game::new(&failing, size_of(rt, 1));
+    let mut twin = Game::new(alloc, size_of(rt, 1));
+    let pass = Move {
+        colour: Colour::Black,
+        vertex: Vertex::Pass,
+    };
+    let refused = asks_choice(rt, &mut game, &mut twin, pass);
+    let is_met = !failing.waits();
+    assert_eq!(rt; refused, u32::from(is_met), "request {number}");
+    is_met
+}
+
+#[test]
+fn each_request_of_a_tried_play_refused(rt: HostRuntime) {
+    let mut met = 0u32;
+    for number in 1..10u64 {
+        if !choice_meets_request(&rt, rt.alloc(), number) {
+            break;
+        }
+        met = met.wrapping_add(1);
+    }
+    assert!(rt; met > 0 && met < 9, "{met} requests");
+}
