@@ -1,5 +1,5 @@
 //! What a stone gains for its colour where it takes nothing, told from the points around it, so that
-//! the areas need not be counted anew.
+//! the areas need not be counted anew; and what both colours hold with it, for where they must be.
 ghost use Rattle.std.specs.Prelude.{◌≡◌, ◌<◌, ◌≤◌, ◌+◌, ◌*◌, ◌↔◌, IfSome, IsTrue, None, Some, length, slice_set};
 ghost use Rattle.go_board.specs.declared.colour.Colour.{Colour};
 ghost use Rattle.go_board.specs.declared.rows.TheConstants.{ROWS};

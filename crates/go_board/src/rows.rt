@@ -1,5 +1,6 @@
-//! Areas from a word for each row of the board. From a colour's stones marks spread over the points
-//! that the other colour has not, all columns of a row at once.
+//! Sets of points as a word for each row of the board, and areas from those of the stones. From a
+//! colour's stones marks spread over the points that the other colour has not, all columns of a row
+//! at once.
 ghost use Rattle.std.specs.Prelude.{◌≡◌, ◌<◌, ◌≤◌, ◌⊎◌, ◌↔◌, ℕ, IsTrue, Some, true, false, count_by};
 ghost use Rattle.std.specs.Int.{bit_at};
 ghost use Rattle.std.specs.List.{range_with_len};

@@ -16,6 +16,7 @@ pub fn beside(size: Size, p: Point) -> ArrayVec<usize, 4>
     let point = usize::from(p.index(size));
     let (col, row) = (usize::from(p.col), usize::from(p.row));
     let mut numbers = ArrayVec::new();
+    // Each number is reckoned also where the board ends, and isn't used then.
     push_if(&mut numbers, row > 0, point.saturating_sub(lines));
     push_if(&mut numbers, col > 0, point.saturating_sub(1));
     push_if(&mut numbers, col + 1 < lines, point + 1);

@@ -1,5 +1,5 @@
 //! Sets of points as words with a bit for each, and the way through them in point order.
-ghost use Rattle.std.specs.Prelude.{◌≡◌, ◌<◌, ◌≤◌, ◌+◌, ◌*◌, ◌⊎◌, ◌↔◌, ℕ, [], ◌∷◌, IfNone, IfSome, length, slice_index};
+ghost use Rattle.std.specs.Prelude.{◌≡◌, ◌<◌, ◌≤◌, ◌+◌, ◌*◌, ◌⊎◌, ◌↔◌, ℕ, [], ◌∷◌, IfNone, IfSome, length};
 ghost use Rattle.std.specs.Int.{bit_at};
 ghost use Rattle.go_board.specs.Points.{point_at};
 ghost use Rattle.go_board.specs.declared.size.TheConstants.{MAX_POINTS};
