@@ -3,12 +3,13 @@
 //!
 //! - [`Size`], [`Point`], [`Colour`], [`Grid`]: a board of some lines, a point of it, and the
 //!   colour of each point.
-//! - [`Vertex`], [`Move`]: a point or a pass, and who makes it; [`read_vertex`] and [`vertex_text`]
-//!   for their words.
+//! - [`Vertex`], [`Move`]: a point or a pass, and who makes it; [`read_vertex`], [`vertex_text`]
+//!   and [`column_letter`] for their words.
 //! - [`plain`]: what a play leaves and who holds which points, told by floods of a whole grid. The
 //!   faster bodies above have to agree with it.
-//! - [`rows`], [`Packed`]: stones in words of rows, and a colouring in two bits a point.
-//! - [`gains`]: what a stone that takes nothing gains, told from the points around it.
+//! - [`rows`], [`Packed`]: sets of points in words of rows, and a colouring in two bits a point.
+//! - [`gains`]: what a stone that takes nothing gains, told from the points around it, and what is
+//!   held with it.
 //! - [`Source`], [`Sink`], [`Pen`]: where bytes come from and go to, and a text that is written in
 //!   pieces.
 //! - [`read_int`]: a number in decimal digits.
@@ -60,5 +61,6 @@ pub use point::{Point, neighbours, put_neighbours};
 pub use size::{MAX_LINES, MAX_POINTS, Size};
 pub use taken::Taken;
 pub use vertex::{
-    COLUMN_LETTERS, MAX_ROW_NUMBER, Move, Vertex, VertexError, read_vertex, vertex_text,
+    COLUMN_LETTERS, MAX_ROW_NUMBER, Move, Vertex, VertexError, column_letter, read_vertex,
+    vertex_text,
 };

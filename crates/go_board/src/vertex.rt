@@ -144,8 +144,8 @@ fn push_point(text: &mut ArrayString<4>, point: Point)
     text.push_str(digits.format(u16::from(point.row) + 1));
 }
 
-/// The letter of a column, or a question mark past the last letter.
-fn column_letter(col: u8) -> char
+/// The upper-case letter of a column, or a question mark past the last letter.
+pub fn column_letter(col: u8) -> char
     ensures letter { result ≡ letter_of_column col }
     ensures ascii { result < 128 }
 {

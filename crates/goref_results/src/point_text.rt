@@ -1,11 +1,10 @@
 //! Points behind spaces, each written as one piece.
 ghost use Rattle.std.specs.Prelude.{◌≡◌, ◌<◌, ◌≤◌, ◌+◌, ◌++◌, decimal, length};
 ghost use Rattle.go_board.specs.Pens.{Writes};
-ghost use Rattle.go_board.specs.Vertices.{letter_of_column};
 ghost use Rattle.goref_results.specs.Places.{spaced_point};
 
 use arrayvec::ArrayVec;
-use go_board::{COLUMN_LETTERS, Pen, Point, Sink};
+use go_board::{Pen, Point, Sink, column_letter};
 
 /// The most bytes of a point behind a space: no row has a number of more than three digits.
 const SPACED_LEN: usize = 5;
@@ -23,19 +22,9 @@ fn spaced(at: Point) -> ArrayVec<u8, SPACED_LEN>
 {
     let mut text = ArrayVec::new();
     text.push(b' ');
-    text.push(column_letter(at.col));
+    text.push(column_letter(at.col) as u8);
     push_number(&mut text, u16::from(at.row) + 1);
     text
-}
-
-/// The letter of a column, or a question mark past the last letter.
-fn column_letter(col: u8) -> u8
-    ensures { result ≡ letter_of_column col }
-{
-    match COLUMN_LETTERS.get(usize::from(col)) {
-        Some(letter) => *letter,
-        None => b'?',
-    }
 }
 
 /// Adds a row's number.
