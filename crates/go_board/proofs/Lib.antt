@@ -20,6 +20,7 @@ pub mod RowsBeside
 pub mod Growing
 pub mod Holding
 pub mod RowCounts
+pub mod Around
 pub mod Rounding
 pub mod Gaining
 pub mod HeldSets
