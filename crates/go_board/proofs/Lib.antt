@@ -21,6 +21,7 @@ pub mod Growing
 pub mod Holding
 pub mod RowCounts
 pub mod Around
+pub mod Dividing
 pub mod Rounding
 pub mod Gaining
 pub mod HeldSets
