@@ -17,6 +17,7 @@ pub mod Remembered
 pub mod Keeping
 pub mod Beginning
 pub mod Turns
+pub mod Placing
 pub mod Puts
 pub mod Undoing
 pub mod Counting

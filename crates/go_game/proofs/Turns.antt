@@ -40,7 +40,7 @@ situations_push : (n : ℕ) (g : Colouring) (c : Colour) (moves : List Move) (m 
 situations_push n g c [] m = refl
 situations_push n g c (x ∷ moves) m = ap (λ (xs : List Situation). (g, c) ∷ xs) (situations_push n (after_move n g x) (other x.colour) moves m)
 
-stood_push : (rule : Superko) (n : ℕ) (g : Colouring) (c : Colour) (moves : List Move) (m : Move)
+pub stood_push : (rule : Superko) (n : ℕ) (g : Colouring) (c : Colour) (moves : List Move) (m : Move)
     → stood rule n g c (moves ++ m ∷ []) ≡ stood rule n g c moves ++ seen_by rule (after_move n (board n g moves) m, other m.colour) ∷ []
 stood_push rule n g c moves m =
     ap (λ (xs : List Situation). map (seen_by rule) xs) (situations_push n g c moves m) ∙ map-append (seen_by rule) (situations n g c moves) ((after_move n (board n g moves) m, other m.colour) ∷ [])

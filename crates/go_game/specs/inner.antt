@@ -6,3 +6,4 @@ pub mod Histories
 pub mod Building
 pub mod Trials
 pub mod Counters
+pub mod Placed

@@ -1,6 +1,6 @@
 //! What is legal, and the plain choice of a play. Plays that take nothing are judged without being
 //! played; others are tried on the game itself, and taken back.
-ghost use Rattle.std.specs.Prelude.{◌≡◌, ◌<◌, ◌≤◌, ◌+◌, ◌*◌, ◌↔◌, false, true, IfOk, IsTrue, OnErr, None, Some, if◌then◌else◌, slice_set};
+ghost use Rattle.std.specs.Prelude.{◌≡◌, ◌≢◌, ◌<◌, ◌≤◌, ◌+◌, ◌*◌, ◌↔◌, false, true, Contains, IfOk, IsTrue, OnErr, None, Some, if◌then◌else◌, slice_set};
 ghost use Rattle.go_game.specs.inner.Trials.{better_of};
 
 use crate::holdings::{Holdings, ahead};
@@ -46,7 +46,8 @@ impl<A: Allocator + Copy> Game<A> {
     ghost use Rattle.go_game.specs.Choices.{chosen, lead_of};
     ghost use Rattle.go_game.specs.Counts.{IsAsBefore, IsLogged, most_for, most_on_all};
     ghost use Rattle.go_game.specs.Legal.{is_legal};
-    ghost use Rattle.go_game.specs.Standings.{IsLegal, IsOccupied, IsOffBoard, after_vertex, board_of, present, with_move};
+    ghost use Rattle.go_game.specs.Standings.{IsLegal, IsOccupied, IsOffBoard, Seen, after_vertex, board_of, present, stood_of, with_move};
+    ghost use Rattle.go_board.specs.Colours.{colour_at};
     ghost use Rattle.go_game.specs.inner.Trials.{AreHoldings, IsBestTrial, tried_on};
     ghost use Rattle.go_board.specs.Grids.{stone_at};
     ghost use Rattle.go_board.specs.Points.{IsOn, number_of};
@@ -241,9 +242,24 @@ impl<A: Allocator + Copy> Game<A> {
             (number_of self.now.standing.lines p) (Some colour) }
         ensures { result ≡ is_legal self.now.standing colour (Vertex.At p) }
     {
+        points_by_number();
+        prove!(p.on(self.size()));
+        if self.is_first_there(colour, p) {
+            return true;
+        }
         let pack = self.board.pack_with(colour, p);
         let key = self.superko.key(pack, colour.other());
         self.history.look_up(&key).is_none()
+    }
+
+    /// Whether no stone of this colour stood on a point since the start. Its contract speaks of yes
+    /// alone: plays that were taken back count too.
+    fn is_first_there(&self, colour: Colour, p: Point) -> bool
+        requires { IsOn self.now.standing.lines p }
+        ensures { (x : Seen) → IsTrue result → Contains (stood_of self.now.standing) x
+            → colour_at x.0 (number_of self.now.standing.lines p) ≢ Some colour }
+    {
+        !self.placed.has(colour, p) && self.start_at(p) != Some(colour)
     }
 
     /// What the play on an empty point comes to, or none where it isn't legal: it is played, and

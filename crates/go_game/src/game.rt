@@ -1,6 +1,7 @@
 ghost use Rattle.std.specs.Prelude.{◌≡◌, ◌<◌, ◌+◌, ◌*◌, [], pos, false, IsSome, length, map, slice_get};
 
 use crate::Superko;
+use crate::placed::Placed;
 use crate::prisoners::Prisoners;
 use crate::step::Step;
 use go_board::laws::{joined_by_a_path, packs_tell_colourings_apart, points_by_number};
@@ -33,13 +34,17 @@ pub struct Game<A: Allocator + Copy> {
     pub(crate) history: History<A>,
     /// The stones of each colour that were taken.
     pub(crate) prisoners: Prisoners,
+    /// Where stones were put since the start, by plays that were taken back too: a stone where none of
+    /// its colour stood repeats nothing.
+    pub(crate) placed: Placed,
 }
 
 impl<A: Allocator + Copy> Model for Game<A> {
-    ghost use Rattle.go_game.specs.Standings.{GameValue};
     ghost use Rattle.std.specs.Prelude.{map};
     ghost use Rattle.go_game.specs.Changes.{changes_of};
     ghost use Rattle.go_game.specs.inner.Held.{IsKeeping, made_of, standing_of};
+    ghost use Rattle.go_game.specs.inner.Placed.{AreOfPlaced};
+    ghost use Rattle.go_game.specs.Standings.{GameValue, stood};
 
     ghost Value = { GameValue };
 
@@ -52,7 +57,9 @@ impl<A: Allocator + Copy> Model for Game<A> {
     } };
 
     ghost invariant = { λ a. IsKeeping a.superko a.start a.komi a.first a.steps.items a.board
-        a.log a.history a.prisoners.black a.prisoners.white };
+        a.log a.history a.prisoners.black a.prisoners.white
+        × AreOfPlaced a.start.lines a.start.colours a.placed
+        (stood a.superko a.start.lines a.start.colours a.first (map made_of a.steps.items)) };
 }
 
 impl<A: Allocator + Copy> Game<A> {
@@ -92,6 +99,7 @@ impl<A: Allocator + Copy> Game<A> {
             steps: Vec::new(alloc),
             history,
             prisoners: Prisoners { black: 0, white: 0 },
+            placed: Placed::none(),
         }
     }
 
@@ -212,6 +220,7 @@ impl<A: Allocator + Copy> Game<A> {
         let key = self.superko.key(self.start.pack(), self.first);
         self.history.restart(key);
         self.prisoners = Prisoners { black: 0, white: 0 };
+        self.placed = Placed::none();
     }
 
     /// The grid after the last move.

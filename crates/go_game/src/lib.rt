@@ -33,6 +33,7 @@ mod handicap;
 mod holdings;
 pub mod laws;
 mod order;
+mod placed;
 mod play;
 mod prisoners;
 mod score;

@@ -9,7 +9,7 @@ ghost use Rattle.go_game.specs.Standings.{IsLegal, IsOccupied, IsOffBoard, IsRep
 
 use crate::step::Step;
 use crate::{Game, PlayError};
-use go_board::laws::{packs_tell_colourings_apart, taken_and_left};
+use go_board::laws::{packs_tell_colourings_apart, points_by_number, taken_and_left};
 use go_board::{Colour, Move, Point, Taken, Vertex};
 use go_chains::PlaceError;
 use go_history::{History, Key};
@@ -142,6 +142,7 @@ impl<A: Allocator + Copy> Game<A> {
     {
         taken_and_left();
         packs_tell_colourings_apart();
+        points_by_number();
         let taken = match self.board.play(&mut self.log, &mut self.meter, colour, p) {
             Ok(taken) => taken,
             Err(PlaceError::Occupied) => return Err(PlayError::Occupied),
@@ -156,6 +157,7 @@ impl<A: Allocator + Copy> Game<A> {
         match note(&key, &mut self.history, &mut self.steps, step) {
             Ok(()) => {
                 self.prisoners.add(colour, taken);
+                self.placed.add(colour, p);
                 Ok(taken)
             }
             Err(error) => {

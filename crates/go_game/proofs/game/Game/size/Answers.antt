@@ -10,13 +10,13 @@ use Rattle.go_game.proofs.game.Game.size.Goals as goal
 
 pub returns-clause-kept : goal.returns-clause-kept
 returns-clause-kept g c =
-    let t = c.self.invariant.tracked in
+    let t = c.self.invariant.0.tracked in
     subst (λ (v : GameValue). IsKept v.standing.lines v.cells) c.self.view_is
     (went_kept c.self.inside.start.lines t.first (map made_of c.self.inside.steps.items) c.self.inside.log c.self.inside.board.cells t.kept t.went).0
 
 pub returns-clause-colours : goal.returns-clause-colours
 returns-clause-colours g c =
-    let t = c.self.invariant.tracked in
+    let t = c.self.invariant.0.tracked in
     subst (λ (v : GameValue). colouring_of v.standing.lines v.cells ≡ board_of v.standing) c.self.view_is
     (ap (λ n. colouring_of n c.self.inside.board.cells) (sym t.lines) ∙ grid_is c.self.inside.start (map made_of c.self.inside.steps.items) c.self.inside.board c.self.inside.log t)
 
