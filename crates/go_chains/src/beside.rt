@@ -6,22 +6,22 @@ use arrayvec::ArrayVec;
 use go_board::laws::points_by_number;
 use go_board::{Point, Size};
 
-/// The numbers of the points that share a side with this one.
-pub fn beside(size: Size, p: Point) -> ArrayVec<usize, 4>
-    requires { IsOn size p }
-    ensures { AreBeside size (number_of size p) result.items }
+/// Puts the numbers of the points that share a side with this one into an empty list. Each play and
+/// each question about one asks for them, and a list that was given back would be copied.
+pub fn put_beside(size: Size, p: Point, numbers: &mut ArrayVec<usize, 4>)
+    requires on { IsOn size p }
+    requires empty { numbers.old.items ≡ [] }
+    ensures { AreBeside size (number_of size p) numbers.new.items }
 {
     points_by_number();
     let lines = usize::from(size.lines());
     let point = usize::from(p.index(size));
     let (col, row) = (usize::from(p.col), usize::from(p.row));
-    let mut numbers = ArrayVec::new();
     // Each number is reckoned also where the board ends, and isn't used then.
-    push_if(&mut numbers, row > 0, point.saturating_sub(lines));
-    push_if(&mut numbers, col > 0, point.saturating_sub(1));
-    push_if(&mut numbers, col + 1 < lines, point + 1);
-    push_if(&mut numbers, row + 1 < lines, point + lines);
-    numbers
+    push_if(numbers, row > 0, point.saturating_sub(lines));
+    push_if(numbers, col > 0, point.saturating_sub(1));
+    push_if(numbers, col + 1 < lines, point + 1);
+    push_if(numbers, row + 1 < lines, point + lines);
 }
 
 /// Adds a number, if it is that of a point.

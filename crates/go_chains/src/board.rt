@@ -19,15 +19,16 @@ ghost use Rattle.go_chains.specs.Boards.{IsRowOfStones, HoldsStone, colouring_of
 ghost use Rattle.go_chains.specs.inner.Words.{free_in_word};
 ghost use Rattle.go_board.specs.Grids.{are_joined, chain_liberties, chain_stones, has_liberty, liberty_count, stone_at, stone_count};
 
-use crate::beside::beside;
-use crate::cells::{Cells, LABELS, SIZES, with_code, word_place};
+use crate::beside::put_beside;
+use crate::cells::{Cells, LABELS, SIZES, WORDS, with_code, word_place};
 use crate::chain_points::ChainPoints;
 use crate::error::PlaceError;
 use crate::log::{Log, reserve_play, seal};
 use crate::marks::{liberties_of, ring_of};
 use crate::masks::mask_of;
 use crate::place::{ROOM, place};
-use crate::quiet::{count_points, is_quiet, lent_to};
+use crate::quiet::{count_points, is_quiet, put_lent};
+use arrayvec::ArrayVec;
 use go_board::laws::{
     bytes_make_a_pack, joined_by_a_path, liberty_by_a_path, points_by_number, reaches_by_a_path,
 };
@@ -390,7 +391,8 @@ impl Board {
             return Err(PlaceError::Occupied);
         }
         reserve_play(&mut log.changes, &mut log.lengths, ROOM)?;
-        let near = beside(size, p);
+        let mut near = ArrayVec::new();
+        put_beside(size, p, &mut near);
         let before = log.changes.len();
         let taken = place(
             &mut self.cells,
@@ -419,7 +421,8 @@ impl Board {
         points_by_number();
         reaches_by_a_path();
         let size = self.size();
-        let near = beside(size, p);
+        let mut near = ArrayVec::new();
+        put_beside(size, p, &mut near);
         let point = usize::from(p.index(size));
         is_quiet(
             &self.cells,
@@ -444,15 +447,18 @@ impl Board {
         points_by_number();
         liberty_by_a_path();
         let size = self.size();
-        let near = beside(size, p);
+        let mut near = ArrayVec::new();
+        put_beside(size, p, &mut near);
         let point = usize::from(p.index(size));
-        let words = lent_to(
+        let mut words = [0; WORDS];
+        put_lent(
             &self.cells,
             meter,
             size,
             colour.code(),
             point,
             near.as_slice(),
+            &mut words,
         );
         count_points(&words, size)
     }

@@ -6,7 +6,8 @@ ghost use Rattle.go_chains.specs.inner.Edits.{Edited};
 ghost use Rattle.go_chains.specs.inner.Writes.{IsGiven, IsLifted};
 ghost use Rattle.go_chains.specs.inner.CellSteps.{AreTidy, AreWhole, FitsWith, GivesAll, GivesAt, HasStone, HasTwoColours, Removes};
 
-use crate::beside::beside;
+use arrayvec::ArrayVec;
+use crate::beside::put_beside;
 use crate::cells::{Cells, LABELS, LINKS, SIZES, word_place};
 use crate::change::Change;
 use crate::edits::replace;
@@ -95,7 +96,8 @@ fn lift<A: Allocator + Copy>(
     ensures edited { Edited cells.old cells.new changes.old changes.new meter.old meter.new 5 17 }
 {
     replace(cells, changes, meter, point, own, 0);
-    let near = beside(size, Point::numbered(size, point as u16));
+    let mut near = ArrayVec::new();
+    put_beside(size, Point::numbered(size, point as u16), &mut near);
     give_back(cells, changes, meter, near.as_slice(), point, other);
 }
 

@@ -1,5 +1,5 @@
 //! A stone on an empty point: a chain of its own, and no liberty of the chains beside it any more.
-ghost use Rattle.std.specs.Prelude.{◌≡◌, ◌<◌, ◌≤◌, ◌+◌, ◌*◌, All, length, vec_capacity, vec_len};
+ghost use Rattle.std.specs.Prelude.{◌≡◌, ◌<◌, ◌≤◌, ◌+◌, ◌*◌, All, length, replicate, vec_capacity, vec_len};
 ghost use Rattle.go_board.specs.declared.size.TheConstants.{MAX_POINTS};
 ghost use Rattle.go_chains.specs.declared.cells.TheConstants.{WORDS};
 ghost use Rattle.go_chains.specs.inner.Beside.{AreBeside};
@@ -30,19 +30,18 @@ fn mark_empty(cells: &Cells, meter: &mut Meter, near: usize, words: &mut Words)
     }
 }
 
-/// The empty ones among these points.
-pub(crate) fn empty_of(cells: &Cells, meter: &mut Meter, beside: &[usize]) -> Words
+/// Puts the empty ones among these points into words that have none.
+pub(crate) fn put_empty(cells: &Cells, meter: &mut Meter, beside: &[usize], words: &mut Words)
     requires few { length beside.now ≤ 4 }
     requires on { All (λ near. near < MAX_POINTS) beside.now }
-    ensures marks { MarksEmpty cells.now.numbers result beside.now (length beside.now) }
-    ensures words { length result ≡ WORDS }
+    requires none { words.old ≡ replicate WORDS 0 }
+    ensures marks { MarksEmpty cells.now.numbers words.new beside.now (length beside.now) }
+    ensures words { length words.new ≡ WORDS }
     ensures count { meter.new ≡ meter.old + length beside.now }
 {
-    let mut words = [0; WORDS];
     for near in beside {
-        mark_empty(cells, meter, *near, &mut words);
+        mark_empty(cells, meter, *near, words);
     }
-    words
 }
 
 /// Takes a point out of the liberties of a label.
@@ -156,7 +155,8 @@ pub fn occupy<A: Allocator + Copy>(
     ensures edited { Edited cells.old cells.new changes.old changes.new meter.old meter.new
         (WORDS + 8) (2 * WORDS + 27) }
 {
-    let words = empty_of(cells, meter, beside);
+    let mut words = [0; WORDS];
+    put_empty(cells, meter, beside, &mut words);
     deprive(cells, changes, meter, beside, point);
     replace(cells, changes, meter, point, 0, colour);
     put(cells, changes, meter, LABELS + point, point as u64);

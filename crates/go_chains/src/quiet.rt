@@ -1,5 +1,5 @@
 //! Stones that take nothing, told without playing them, and the liberties that they have then.
-ghost use Rattle.std.specs.Prelude.{◌≡◌, ◌≢◌, ◌<◌, ◌≤◌, ◌+◌, ◌*◌, ◌⊎◌, ◌↔◌, ℕ, Bool, List, IsTrue, filter, length, nat_eq};
+ghost use Rattle.std.specs.Prelude.{◌≡◌, ◌≢◌, ◌<◌, ◌≤◌, ◌+◌, ◌*◌, ◌⊎◌, ◌↔◌, ℕ, Bool, List, IsTrue, filter, length, nat_eq, replicate};
 ghost use Rattle.go_board.specs.declared.size.TheConstants.{MAX_POINTS};
 ghost use Rattle.go_chains.specs.declared.cells.TheConstants.{WORDS};
 ghost use Rattle.go_board.specs.Reaching.{points};
@@ -12,7 +12,7 @@ ghost use Rattle.go_chains.specs.inner.Writes.{mask_bit};
 
 use crate::cells::{Cells, LABELS, word_place, words_of};
 use crate::masks::{mask_but, mask_of};
-use crate::occupy::{Words, empty_of};
+use crate::occupy::{Words, put_empty};
 use go_board::{Meter, Size};
 
 /// What a stone on an empty point means for a point beside it.
@@ -183,32 +183,33 @@ fn leave_out(words: &mut Words, point: usize)
     words[point / 64] &= !(1 << (point % 64));
 }
 
-/// The points but this one that are empty beside it, or liberties of a chain of the colour with this
-/// code beside it.
-pub(crate) fn lent_to(
+/// Puts the points but this one that are empty beside it, or liberties of a chain of the colour with
+/// this code beside it, into words that have none.
+pub(crate) fn put_lent(
     cells: &Cells,
     meter: &mut Meter,
     size: Size,
     own: u64,
     point: usize,
     beside: &[usize],
-) -> Words
+    words: &mut Words,
+)
     requires kept { IsKept size cells.now.numbers }
     requires own { 0 < own }
     requires point { point < size * size }
     requires beside { AreBeside size point beside.now }
-    ensures lent { (q : ℕ) → q < size * size → (mask_bit result q ≡ 1)
+    requires none { words.old ≡ replicate WORDS 0 }
+    ensures lent { (q : ℕ) → q < size * size → (mask_bit words.new q ≡ 1)
         ↔ ((q ≢ point) × IsLent size cells.now.numbers point own q) }
-    ensures words { length result ≡ WORDS }
+    ensures words { length words.new ≡ WORDS }
     ensures count { meter.new ≤ meter.old + 4 * (WORDS + 3) }
     ensures onward { meter.old ≤ meter.new }
 {
-    let mut words = empty_of(cells, meter, beside);
+    put_empty(cells, meter, beside, words);
     for near in beside {
-        add_own(cells, meter, size, own, *near, &mut words);
+        add_own(cells, meter, size, own, *near, words);
     }
-    leave_out(&mut words, point);
-    words
+    leave_out(words, point);
 }
 
 /// How many bits of a word stand for one of the first so many points.

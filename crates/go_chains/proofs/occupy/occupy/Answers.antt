@@ -23,8 +23,8 @@ returns-clause-occupied g c =
     let n = c.args.size in
     IsPlaced_written n (square-le n (omega arith))
     c.args.cells.now.numbers c.deprive.new.cells.numbers c.replace.new.cells.numbers c.put.new.cells.numbers c.put-2.new.cells.numbers c.put-3.new.cells.numbers c.fill_words.new.cells.numbers
-    c.empty_of-words.result c.args.beside.now c.args.point c.args.colour
-    c.requires.tidy c.requires.point c.requires.empty c.requires.colour c.requires.beside c.empty_of-words.ensures.marks c.deprive.ensures.deprived
+    c.put_empty.new.words c.args.beside.now c.args.point c.args.colour
+    c.requires.tidy c.requires.point c.requires.empty c.requires.colour c.requires.beside c.put_empty.ensures.marks c.deprive.ensures.deprived
     c.replace.ensures.written c.put.ensures.written c.put-2.ensures.written c.put-3.ensures.written (words_for (n * n)) (omega arith) c.fill_words.ensures.filled
 
 pub returns-clause-edited : goal.returns-clause-edited

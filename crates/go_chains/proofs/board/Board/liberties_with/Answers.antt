@@ -21,9 +21,9 @@ returns-clause-liberties c =
     let point = c.from-point.ensures ∙ c.index.ensures.value ∙ ap (λ (k : ℕ). number_of k c.args.p) lines in
     let own = c.code.result in
     let test = is_liberty_of n (slice_set (grid_of c.args.self.now) p (Some c.args.colour)) p in
-    let words = c.lent_to-words.result in
+    let words = c.put_lent.new.words in
     let told : (q : ℕ) → q < n * n → (mask_bit words q ≡ 1) ↔ ((q ≢ p) × IsLent n cells p own q) =
-    λ q q_low. lent_on c.size-size.result n c.from-point.result p own q c.self.inside.cells.numbers cells lines (ap (λ (b : BoardValue). b.cells) c.self.view_is) point (mask_bit words q) (c.lent_to-words.ensures.lent q (subst (λ (k : ℕ). q < k * k) (sym lines) q_low)) in
+    λ q q_low. lent_on c.size-size.result n c.from-point.result p own q c.self.inside.cells.numbers cells lines (ap (λ (b : BoardValue). b.cells) c.self.view_is) point (mask_bit words q) (c.put_lent.ensures.lent q (subst (λ (k : ℕ). q < k * k) (sym lines) q_low)) in
     let law : (q : ℕ) → q < n * n → ((q ≢ p) × IsLent n cells p own q) ↔ IsTrue (test q) = λ q q_low. lent_is n cells kept c.args.colour own p low (vacant_code n cells kept p low c.requires.empty)
     (ap colour_coded c.code.ensures.value ∙ coded_back c.args.colour) c.liberty_by_a_path.ensures (omega (arith, c.code.ensures.range)) q q_low in
     let same : (q : ℕ) → q < n * n → nat_eq (mask_bit words q) 1 ≡ test q = λ q q_low. same_answer (nat_eq (mask_bit words q) 1) (test q)

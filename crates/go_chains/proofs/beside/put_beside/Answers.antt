@@ -1,7 +1,7 @@
 use Rattle.std.proofs.Common.{◌≡◌, ◌∙◌, ap, ap₂, ◌++◌, ◌+◌, ◌-◌, nat_lt}
 use Rattle.go_board.specs.Points.{number_of}
 use Rattle.go_chains.proofs.writes.Sides.{lone, sides}
-use Rattle.go_chains.proofs.beside.beside.Goals as goal
+use Rattle.go_chains.proofs.beside.put_beside.Goals as goal
 
 pub returns : goal.returns
 returns c =
@@ -15,11 +15,11 @@ returns c =
     let left = ap₂ lone (ap (nat_lt 0) col) (c.saturating_sub-2.ensures ∙ ap (λ a. a - 1) point) in
     let right = ap₂ lone (ap₂ (λ a b. nat_lt (a + 1) b) col lines) (ap (λ a. a + 1) point) in
     let high = ap₂ lone (ap₂ (λ a b. nat_lt (a + 1) b) row lines) (ap₂ (λ a b. a + b) point lines) in
-    sides c.points_by_number.ensures n c.args.p c.push_if-4.new.numbers.items c.requires
+    sides c.points_by_number.ensures n c.args.p c.push_if-4.new.numbers.items c.requires.on
     (c.push_if-4.ensures ∙ ap₂ (λ s t. s ++ t)
     (c.push_if-3.ensures ∙ ap₂ (λ s t. s ++ t)
     (c.push_if-2.ensures ∙ ap₂ (λ s t. s ++ t)
-    (c.push_if.ensures ∙ ap₂ (λ s t. s ++ t) c.new-numbers.ensures low)
+    (c.push_if.ensures ∙ ap₂ (λ s t. s ++ t) c.requires.empty low)
     left)
     right)
     high)

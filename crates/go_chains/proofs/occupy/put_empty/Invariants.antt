@@ -1,7 +1,7 @@
 use Rattle.std.proofs.Common.{◌≡◌, ◌+◌, length}
 use Rattle.go_chains.specs.declared.cells.TheConstants.{WORDS}
 use Rattle.go_chains.specs.inner.Writes.{MarksEmpty}
-use Rattle.go_chains.proofs.occupy.empty_of.Given as goal
+use Rattle.go_chains.proofs.occupy.put_empty.Given as goal
 
 abbrev pub invariant-loop-near : goal.invariant-loop-near
 invariant-loop-near l = record {

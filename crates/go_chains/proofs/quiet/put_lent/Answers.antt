@@ -1,7 +1,7 @@
 use Rattle.std.proofs.Common.{arith, ◌≡◌, inl, inr, sym, subst, ℕ, List, slice_index}
 use Rattle.std.proofs.lemmas.Bool.{cases_eq}
 use Rattle.go_chains.specs.Cells.{code_at, label_of, lib_of}
-use Rattle.go_chains.proofs.quiet.lent_to.Goals as goal
+use Rattle.go_chains.proofs.quiet.put_lent.Goals as goal
 
 -- the stone has the colour with this code, and the point is a liberty of its chain
 abbrev Lends : List ℕ → ℕ → ℕ → ℕ → Type 0

@@ -3,7 +3,7 @@ use Rattle.go_board.specs.Paths.{IsAdjacent}
 use Rattle.go_chains.specs.declared.cells.TheConstants.{WORDS}
 use Rattle.go_chains.specs.Cells.{code_at, label_of, lib_of}
 use Rattle.go_chains.specs.inner.Writes.{mask_bit}
-use Rattle.go_chains.proofs.quiet.lent_to.Given as goal
+use Rattle.go_chains.proofs.quiet.put_lent.Given as goal
 
 abbrev pub invariant-loop-near : goal.invariant-loop-near
 invariant-loop-near l = record {
