@@ -6,11 +6,11 @@ ghost use Rattle.go_chains.specs.inner.Edits.{Edited};
 ghost use Rattle.go_chains.specs.inner.Writes.{IsGiven, IsLifted};
 ghost use Rattle.go_chains.specs.inner.CellSteps.{AreTidy, AreWhole, FitsWith, GivesAll, GivesAt, HasStone, HasTwoColours, Removes};
 
-use arrayvec::ArrayVec;
 use crate::beside::put_beside;
 use crate::cells::{Cells, LABELS, LINKS, SIZES, word_place};
 use crate::change::Change;
 use crate::edits::replace;
+use arrayvec::ArrayVec;
 use go_board::{Meter, Point, Size};
 use std::alloc::Allocator;
 

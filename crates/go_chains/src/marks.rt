@@ -1,5 +1,5 @@
 //! Sets of points as words with a bit for each, and the way through them in point order.
-ghost use Rattle.std.specs.Prelude.{◌≡◌, ◌<◌, ◌≤◌, ◌+◌, ◌*◌, ◌⊎◌, ◌↔◌, ℕ, [], ◌∷◌, IfNone, IfSome, length};
+ghost use Rattle.std.specs.Prelude.{◌≡◌, ◌≢◌, ◌<◌, ◌≤◌, ◌+◌, ◌*◌, ◌⊎◌, ◌↔◌, ℕ, [], ◌∷◌, IfNone, IfSome, length};
 ghost use Rattle.std.specs.Int.{bit_at};
 ghost use Rattle.go_board.specs.Points.{point_at};
 ghost use Rattle.go_board.specs.declared.size.TheConstants.{MAX_POINTS};
@@ -9,10 +9,9 @@ ghost use Rattle.go_chains.specs.Rings.{IsOnRing, steps};
 ghost use Rattle.go_chains.specs.inner.Marked.{points_left};
 ghost use Rattle.go_chains.specs.inner.Writes.{mask_bit};
 
-use crate::cells::{Cells, LINKS, WORDS, words_of};
+use crate::cells::{Cells, LINKS, WORDS, word_place, words_of};
 use crate::masks::mask_of;
 use crate::occupy::Words;
-use crate::quiet::add_liberties;
 use go_board::{Meter, Size};
 
 /// Puts a point into words.
@@ -24,6 +23,17 @@ fn put_in(words: &mut Words, point: usize)
     ensures words { length words.new ≡ WORDS }
 {
     words[point / 64] |= 1 << (point % 64);
+}
+
+/// Takes a point out of words.
+pub(crate) fn leave_out(words: &mut Words, point: usize)
+    requires point { point < MAX_POINTS }
+    requires words { length words.old ≡ WORDS }
+    ensures left { (q : ℕ) → (mask_bit words.new q ≡ 1)
+        ↔ ((q ≢ point) × (mask_bit words.old q ≡ 1)) }
+    ensures words { length words.new ≡ WORDS }
+{
+    words[point / 64] &= !(1 << (point % 64));
 }
 
 /// So many points along a ring.
@@ -41,6 +51,27 @@ pub(crate) fn ring_of(cells: &Cells, from: usize, stones: usize) -> Words
         at = cells.get(LINKS + at, &mut meter) as usize;
     }
     words
+}
+
+/// Adds a label's liberties to words.
+pub(crate) fn add_liberties(
+    cells: &Cells,
+    meter: &mut Meter,
+    size: Size,
+    label: usize,
+    words: &mut Words,
+)
+    requires label { label < MAX_POINTS }
+    requires words { length words.old ≡ WORDS }
+    ensures added { (q : ℕ) → q < size * size → (mask_bit words.new q ≡ 1)
+        ↔ ((mask_bit words.old q ≡ 1) ⊎ (lib_of cells.now.numbers label q ≡ 1)) }
+    ensures words { length words.new ≡ WORDS }
+    ensures count { meter.new ≤ meter.old + WORDS }
+    ensures onward { meter.old ≤ meter.new }
+{
+    for word in 0..words_of(size) {
+        words[word] |= cells.get(word_place(label, word), meter);
+    }
 }
 
 /// The liberties of a label.

@@ -11,6 +11,7 @@ ghost use Rattle.go_chains.specs.inner.Words.{free_in_word};
 ghost use Rattle.go_chains.specs.inner.Writes.{mask_bit};
 
 use crate::cells::{Cells, LABELS, word_place, words_of};
+use crate::marks::{add_liberties, leave_out};
 use crate::masks::{mask_but, mask_of};
 use crate::occupy::{Words, put_empty};
 use go_board::{Meter, Size};
@@ -131,27 +132,6 @@ pub(crate) fn is_quiet(
     breathes
 }
 
-/// Adds a label's liberties to words.
-pub(crate) fn add_liberties(
-    cells: &Cells,
-    meter: &mut Meter,
-    size: Size,
-    label: usize,
-    words: &mut Words,
-)
-    requires label { label < MAX_POINTS }
-    requires words { length words.old ≡ WORDS }
-    ensures added { (q : ℕ) → q < size * size → (mask_bit words.new q ≡ 1)
-        ↔ ((mask_bit words.old q ≡ 1) ⊎ (lib_of cells.now.numbers label q ≡ 1)) }
-    ensures words { length words.new ≡ WORDS }
-    ensures count { meter.new ≤ meter.old + WORDS }
-    ensures onward { meter.old ≤ meter.new }
-{
-    for word in 0..words_of(size) {
-        words[word] |= cells.get(word_place(label, word), meter);
-    }
-}
-
 /// Adds the liberties of the stone on a point, if it has the colour with this code.
 fn add_own(cells: &Cells, meter: &mut Meter, size: Size, own: u64, near: usize, words: &mut Words)
     requires kept { IsKept size cells.now.numbers }
@@ -170,17 +150,6 @@ fn add_own(cells: &Cells, meter: &mut Meter, size: Size, own: u64, near: usize, 
     }
     let label = cells.get(LABELS + near, meter) as usize;
     add_liberties(cells, meter, size, label, words);
-}
-
-/// Takes a point out of words.
-fn leave_out(words: &mut Words, point: usize)
-    requires point { point < MAX_POINTS }
-    requires words { length words.old ≡ WORDS }
-    ensures left { (q : ℕ) → (mask_bit words.new q ≡ 1)
-        ↔ ((q ≢ point) × (mask_bit words.old q ≡ 1)) }
-    ensures words { length words.new ≡ WORDS }
-{
-    words[point / 64] &= !(1 << (point % 64));
 }
 
 /// Puts the points but this one that are empty beside it, or liberties of a chain of the colour with

@@ -2,7 +2,7 @@ use Rattle.std.proofs.Common.{◌≡◌, ◌≤◌, ◌<◌, ◌+◌, ℕ, lengt
 use Rattle.std.specs.Int.RustNames.{bit_or}
 use Rattle.go_chains.specs.declared.cells.TheConstants.{WORDS}
 use Rattle.go_chains.specs.Cells.{word_of}
-use Rattle.go_chains.proofs.quiet.add_liberties.Given as goal
+use Rattle.go_chains.proofs.marks.add_liberties.Given as goal
 
 abbrev pub invariant-loop-word : goal.invariant-loop-word
 invariant-loop-word l = record {

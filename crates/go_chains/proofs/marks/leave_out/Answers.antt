@@ -5,7 +5,7 @@ use Rattle.std.proofs.lemmas.Bool.{cases_eq}
 use Rattle.std.proofs.lemmas.List.{get_or-set_same, get_or-set_other}
 use Rattle.std.proofs.lemmas.Nat.Bits.{bit_at_clear_same, bit_at_clear_other}
 use Rattle.go_chains.specs.inner.Writes.{mask_bit}
-use Rattle.go_chains.proofs.quiet.leave_out.Goals as goal
+use Rattle.go_chains.proofs.marks.leave_out.Goals as goal
 
 module _ (words : List ℕ) (point value : ℕ) (long : point / 64 < length words) where
   at_word : (q : ℕ) → q / 64 ≡ point / 64 → mask_bit (slice_set words (point / 64) value) q ≡ bit_at value (q % 64)

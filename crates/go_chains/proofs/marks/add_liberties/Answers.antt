@@ -3,7 +3,7 @@ use Rattle.std.specs.Int.RustNames.{bit_or}
 use Rattle.std.proofs.Common.{arith, ◌≡◌, ◌/◌, ◌%◌, ◌∙◌, ap, sym, slice_index}
 use Rattle.go_chains.specs.Cells.{word_of}
 use Rattle.go_chains.proofs.rules.Quiet.{or_bits}
-use Rattle.go_chains.proofs.quiet.add_liberties.Goals as goal
+use Rattle.go_chains.proofs.marks.add_liberties.Goals as goal
 
 pub returns-clause-added : goal.returns-clause-added
 returns-clause-added c q low =
