@@ -1,10 +1,11 @@
--- How many stones a play has to do with, and how many changes it may make.
+-- How many stones a play has to do with, how many changes it may make, and how much is read around it.
 use Rattle.std.specs.Prelude.{ℕ, Bool, ◌&&◌, ◌+◌, ◌*◌, Some, count_by, slice_set}
 use Rattle.go_board.specs.declared.colour.Colour.{Colour}
 use Rattle.go_board.specs.declared.point.Point.{Point}
 use Rattle.go_board.specs.Colours.{Colouring, other}
 use Rattle.go_board.specs.Points.{number_of}
 use Rattle.go_board.specs.Reaching.{has_colour, joined, moved, points, some_neighbour, vanished}
+use Rattle.go_chains.specs.declared.cells.TheConstants.{WORDS}
 use Rattle.go_chains.specs.Boards.{BoardValue, grid_of}
 
 -- q is a stone of c in a chain with a stone beside p
@@ -26,6 +27,10 @@ most_of n g c p = 128 + 8 * (stones_beside n g c p + stones_captured n g c p)
 -- the same of a board and a point
 abbrev pub most_at : BoardValue → Colour → Point → ℕ
 most_at b c p = most_of b.lines (grid_of b) c (number_of b.lines p)
+
+-- the most reads of a look around a point: of each of four neighbours three cells, and all words of liberties
+abbrev pub reads_around : ℕ
+reads_around = 4 * (WORDS + 3)
 
 -- the colouring of a board after a play of c at p
 abbrev pub played : BoardValue → Colour → Point → Colouring

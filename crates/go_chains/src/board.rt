@@ -12,7 +12,7 @@ ghost use Rattle.go_board.specs.declared.size.TheConstants.{MAX_LINES, MAX_POINT
 ghost use Rattle.go_chains.specs.declared.cells.TheConstants.{COUNT, WORDS};
 ghost use Rattle.go_chains.specs.declared.change.Change.{Change};
 ghost use Rattle.go_chains.specs.Cells.{code_at, label_of};
-ghost use Rattle.go_chains.specs.Playing.{most_at, played, went};
+ghost use Rattle.go_chains.specs.Playing.{most_at, played, reads_around, went};
 ghost use Rattle.go_chains.specs.Rewound.{ForLast, IsRewound, NamesCells, PlayLogged, rewound};
 ghost use Rattle.go_chains.specs.Sound.{IsKept};
 ghost use Rattle.go_chains.specs.Boards.{IsRowOfStones, HoldsStone, colouring_of, grid_of, shown};
@@ -376,7 +376,8 @@ impl Board {
         ensures own { IfOk result (λ taken. taken.own ≡ went self.old self.new colour p colour) }
         ensures logged { OnOk result (PlayLogged self.old self.new log.old log.new
             (most_at self.old colour p)) }
-        ensures count { meter.new + 52 ≤ meter.old + 3 * most_at self.old colour p }
+        ensures count { meter.new + reads_around
+            ≤ meter.old + 3 * most_at self.old colour p }
         ensures ticked { (changes : List Change) → log.new ≡ log.old ++ changes ∷ []
             → meter.old + length changes ≤ meter.new }
         ensures onward { meter.old ≤ meter.new }
@@ -415,7 +416,7 @@ impl Board {
         requires empty { HoldsStone self.now p → ⊥ }
         ensures quiet { IsTrue result → played self.now colour p
             ≡ slice_set (grid_of self.now) (number_of self.now.lines p) (Some colour) }
-        ensures count { meter.new ≤ meter.old + 52 }
+        ensures count { meter.new ≤ meter.old + reads_around }
         ensures onward { meter.old ≤ meter.new }
     {
         points_by_number();
@@ -441,7 +442,7 @@ impl Board {
         ensures liberties { result ≡ length (liberties self.now.lines
             (slice_set (grid_of self.now) (number_of self.now.lines p) (Some colour))
             (number_of self.now.lines p)) }
-        ensures count { meter.new ≤ meter.old + 52 }
+        ensures count { meter.new ≤ meter.old + reads_around }
         ensures onward { meter.old ≤ meter.new }
     {
         points_by_number();

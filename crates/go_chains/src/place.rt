@@ -6,7 +6,7 @@ ghost use Rattle.go_board.specs.Reaching.{moved};
 ghost use Rattle.go_chains.specs.declared.place.TheConstants.{ROOM};
 ghost use Rattle.go_chains.specs.inner.Beside.{AreBeside};
 ghost use Rattle.go_chains.specs.Cells.{code_at};
-ghost use Rattle.go_chains.specs.Playing.{lost, most_of};
+ghost use Rattle.go_chains.specs.Playing.{lost, most_of, reads_around};
 ghost use Rattle.go_chains.specs.inner.Edits.{Edited};
 ghost use Rattle.go_chains.specs.Sound.{IsKept};
 ghost use Rattle.go_chains.specs.Boards.{colours_in};
@@ -47,7 +47,8 @@ pub fn place<A: Allocator + Copy>(
     ensures own { result.own ≡ lost size (colours_in size cells.old)
         (colours_in size cells.new) colour point colour }
     ensures edited { let most = most_of size (colours_in size cells.old) colour point in
-        Edited cells.old cells.new changes.old changes.new meter.old meter.new most (3 * most - 53) }
+        Edited cells.old cells.new changes.old changes.new meter.old meter.new most
+        (3 * most - (reads_around + 1)) }
 {
     joined_by_a_path();
     reaches_by_a_path();

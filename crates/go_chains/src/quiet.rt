@@ -4,6 +4,7 @@ ghost use Rattle.go_board.specs.declared.size.TheConstants.{MAX_POINTS};
 ghost use Rattle.go_chains.specs.declared.cells.TheConstants.{WORDS};
 ghost use Rattle.go_board.specs.Reaching.{points};
 ghost use Rattle.go_chains.specs.Cells.{code_at, label_of, lib_of, word_of};
+ghost use Rattle.go_chains.specs.Playing.{reads_around};
 ghost use Rattle.go_chains.specs.Sound.{IsKept};
 ghost use Rattle.go_chains.specs.inner.Beside.{AreBeside};
 ghost use Rattle.go_chains.specs.inner.Quiet.{HasOther, IsLent, IsOutlook, IsQuiet};
@@ -118,7 +119,7 @@ pub(crate) fn is_quiet(
     requires point { point < size * size }
     requires beside { AreBeside size point beside.now }
     ensures quiet { IsTrue result → IsQuiet size cells.now.numbers point own }
-    ensures count { meter.new ≤ meter.old + 4 * (WORDS + 3) }
+    ensures count { meter.new ≤ meter.old + reads_around }
     ensures onward { meter.old ≤ meter.new }
 {
     let mut breathes = false;
@@ -171,7 +172,7 @@ pub(crate) fn put_lent(
     ensures lent { (q : ℕ) → q < size * size → (mask_bit words.new q ≡ 1)
         ↔ ((q ≢ point) × IsLent size cells.now.numbers point own q) }
     ensures words { length words.new ≡ WORDS }
-    ensures count { meter.new ≤ meter.old + 4 * (WORDS + 3) }
+    ensures count { meter.new ≤ meter.old + reads_around }
     ensures onward { meter.old ≤ meter.new }
 {
     put_empty(cells, meter, beside, words);

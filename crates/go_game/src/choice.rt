@@ -43,6 +43,7 @@ fn better_of(earlier: Option<Trial>, later: Option<Trial>) -> Option<Trial>
 }
 
 impl<A: Allocator + Copy> Game<A> {
+    ghost use Rattle.go_chains.specs.Playing.{reads_around};
     ghost use Rattle.go_game.specs.Choices.{chosen, lead_of};
     ghost use Rattle.go_game.specs.Counts.{IsAsBefore, IsLogged, most_for, most_on_all};
     ghost use Rattle.go_game.specs.Legal.{is_legal};
@@ -269,7 +270,7 @@ impl<A: Allocator + Copy> Game<A> {
         requires vacant { stone_at (present self.old.standing) p ≡ None }
         ensures ok { IfOk result (λ trial. trial ≡ tried_on self.old.standing colour p) }
         ensures same { IsAsBefore self.old self.new }
-        ensures count { self.new.count + 52
+        ensures count { self.new.count + reads_around
             ≤ self.old.count + 4 * most_for self.old.standing colour (Vertex.At p) }
     {
         match self.put_sparing(colour, p) {

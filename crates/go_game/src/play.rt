@@ -2,6 +2,7 @@
 ghost use Rattle.std.specs.Prelude.{◌≡◌, ◌≤◌, ◌++◌, ◌∷◌, ◌*◌, [], ◌↔◌, ℕ, Err, IfErr, IfNone, IfOk, IfSome, OnErr, OnOk, Some, None, ◌+◌, ◌⊎◌, length};
 ghost use Rattle.go_board.specs.Grids.{stone_at};
 ghost use Rattle.go_board.specs.Points.{IsOn};
+ghost use Rattle.go_chains.specs.Playing.{reads_around};
 ghost use Rattle.go_game.specs.Counts.{IsAsBefore, IsLogged, IsTakenBack, most_for};
 ghost use Rattle.go_history.specs.Histories.{IsChangedAt, IsUnchanged, number_at};
 ghost use Rattle.go_game.specs.Prisoners.{share_of, stones_taken};
@@ -115,8 +116,8 @@ impl<A: Allocator + Copy> Game<A> {
         self.put_sparing(colour, p)
     }
 
-    /// Places a stone on an empty point where that is legal, with 52 reads to spare for what looked
-    /// around the point before. The board is played on first, and the play taken back where it
+    /// Places a stone on an empty point where that is legal, with so many reads to spare as a look
+    /// around the point takes. The board is played on first, and the play taken back where it
     /// repeats or there is no memory to keep it.
     pub(crate) fn put_sparing(&mut self, colour: Colour, p: Point) -> Result<Taken, PlayError>
         requires on { IsOn self.old.standing.lines p }
@@ -133,9 +134,9 @@ impl<A: Allocator + Copy> Game<A> {
             ⊎ ((k : ℕ) × (e ≡ PlayError.Repeats k))) }
         ensures logged { OnOk result (IsLogged self.old self.new
             (most_for self.old.standing colour (Vertex.At p))) }
-        ensures count { OnOk result (self.new.count + 52
+        ensures count { OnOk result (self.new.count + reads_around
             ≤ self.old.count + 3 * most_for self.old.standing colour (Vertex.At p)) }
-        ensures refused { OnErr result (self.new.count + 52
+        ensures refused { OnErr result (self.new.count + reads_around
             ≤ self.old.count + 4 * most_for self.old.standing colour (Vertex.At p)) }
         ensures writes { OnErr result (length self.new.trace ≤ length self.old.trace
             + 2 * most_for self.old.standing colour (Vertex.At p)) }
