@@ -16,16 +16,18 @@ ghost use Rattle.go_chains.specs.Playing.{most_at, played, reads_around, went};
 ghost use Rattle.go_chains.specs.Rewound.{ForLast, IsRewound, NamesCells, PlayLogged, rewound};
 ghost use Rattle.go_chains.specs.Sound.{IsKept};
 ghost use Rattle.go_chains.specs.Boards.{IsRowOfStones, HoldsStone, colouring_of, grid_of, shown};
+ghost use Rattle.go_chains.specs.inner.Marked.{points_left, points_of};
 ghost use Rattle.go_chains.specs.inner.Words.{free_in_word};
 ghost use Rattle.go_board.specs.Grids.{are_joined, chain_liberties, chain_stones, has_liberty, liberty_count, stone_at, stone_count};
 
 use crate::beside::put_beside;
 use crate::cells::{Cells, LABELS, SIZES, WORDS, with_code, word_place};
-use crate::chain_points::ChainPoints;
+use crate::chain_points::{ChainPoints, Part};
 use crate::error::PlaceError;
 use crate::log::{Log, reserve_play, seal};
 use crate::marks::{liberties_of, ring_of};
 use crate::masks::mask_of;
+use crate::occupy::Words;
 use crate::place::{ROOM, place};
 use crate::quiet::{count_points, is_quiet, put_lent};
 use arrayvec::ArrayVec;
@@ -283,13 +285,7 @@ impl Board {
         requires stone { HoldsStone self.now p }
         ensures { result ≡ chain_stones (shown self.now) p }
     {
-        points_by_number();
-        joined_by_a_path();
-        let mut meter = Meter::new();
-        let label = self.label_at(p, &mut meter);
-        let stones = self.cells.get(SIZES + label, &mut meter) as usize;
-        let first = usize::from(p.index(self.size));
-        ChainPoints::new(self, ring_of(&self.cells, first, stones))
+        ChainPoints::new(self, p, Part::Stones)
     }
 
     /// The liberties of the chain of a stone, in point order.
@@ -298,10 +294,49 @@ impl Board {
         requires stone { HoldsStone self.now p }
         ensures { result ≡ chain_liberties (shown self.now) p }
     {
+        ChainPoints::new(self, p, Part::Liberties)
+    }
+
+    /// The points of a part of the chain of a stone, as words.
+    pub(crate) fn marked(&self, part: Part, p: Point) -> Words
+        requires on { IsOn self.now.lines p }
+        requires stone { HoldsStone self.now p }
+        ensures points { points_left self.now.lines result 0 ≡ points_of self.now part p }
+        ensures words { length result ≡ WORDS }
+    {
+        match part {
+            Part::Stones => self.marked_stones(p),
+            Part::Liberties => self.marked_liberties(p),
+        }
+    }
+
+    /// The stones of the chain of a stone, as words.
+    fn marked_stones(&self, p: Point) -> Words
+        requires on { IsOn self.now.lines p }
+        requires stone { HoldsStone self.now p }
+        ensures points { points_left self.now.lines result 0 ≡ chain_stones (shown self.now) p }
+        ensures words { length result ≡ WORDS }
+    {
+        points_by_number();
+        joined_by_a_path();
+        let mut meter = Meter::new();
+        let label = self.label_at(p, &mut meter);
+        let stones = self.cells.get(SIZES + label, &mut meter) as usize;
+        let first = usize::from(p.index(self.size));
+        ring_of(&self.cells, first, stones)
+    }
+
+    /// The liberties of the chain of a stone, as words.
+    fn marked_liberties(&self, p: Point) -> Words
+        requires on { IsOn self.now.lines p }
+        requires stone { HoldsStone self.now p }
+        ensures points { points_left self.now.lines result 0 ≡ chain_liberties (shown self.now) p }
+        ensures words { length result ≡ WORDS }
+    {
         points_by_number();
         liberty_by_a_path();
         let label = self.label_at(p, &mut Meter::new());
-        ChainPoints::new(self, liberties_of(&self.cells, self.size(), label))
+        liberties_of(&self.cells, self.size(), label)
     }
 
     /// How many stones the chain of a stone has.

@@ -1,42 +1,64 @@
 ghost use Rattle.std.specs.Prelude.{◌≡◌};
 ghost use Rattle.std.specs.Iterator.{YieldsFirst, item_count};
-ghost use Rattle.go_chains.specs.inner.Marked.{points_left};
+ghost use Rattle.go_board.specs.Points.{IsOn};
+ghost use Rattle.go_chains.specs.Boards.{HoldsStone};
+ghost use Rattle.go_chains.specs.inner.Marked.{points_of};
 
 use crate::Board;
+use crate::cells::WORDS;
 use crate::marks::next_in;
 use crate::occupy::Words;
 use go_board::Point;
 use std::marker::Model;
+
+/// What belongs to a chain.
+#[derive(Clone, Copy)]
+pub(crate) enum Part {
+    Stones,
+    Liberties,
+}
 
 /// The stones of a chain, or its liberties, in point order. A contract sees it as the list of those
 /// to come.
 #[derive(Drop)]
 pub struct ChainPoints<'a> {
     board: &'a Board,
+    /// A stone of the chain.
+    stone: Point,
+    part: Part,
     points: Words,
-    /// The number of the first point that wasn't looked at yet.
-    number: u16,
+    /// The number of the first point that wasn't looked at yet. There is none until the first point is
+    /// asked for, when the words get the points.
+    number: Option<u16>,
 }
 
 impl<'a> Model for ChainPoints<'a> {
     ghost use Rattle.std.specs.Prelude.{List};
+    ghost use Rattle.go_board.specs.Points.{IsOn};
     ghost use Rattle.go_board.specs.declared.point.Point.{Point};
-    ghost use Rattle.go_chains.specs.inner.Marked.{points_left};
+    ghost use Rattle.go_chains.specs.Boards.{HoldsStone};
+    ghost use Rattle.go_chains.specs.inner.Marked.{to_come};
 
     ghost Value = { List Point };
 
-    ghost view = { λ c. points_left c.board.now.lines c.points c.number };
+    ghost view = { λ c. to_come c.board.now c.part c.stone c.points c.number };
+
+    ghost invariant = { λ c. IsOn c.board.now.lines c.stone × HoldsStone c.board.now c.stone };
 }
 
 impl<'a> ChainPoints<'a> {
-    /// The points of a board that are in words.
-    pub(crate) fn new(board: &'a Board, points: Words) -> ChainPoints<'a>
-        ensures { result ≡ points_left board.entry.now.lines points 0 }
+    /// All points of a part of the chain of a stone.
+    pub(crate) fn new(board: &'a Board, stone: Point, part: Part) -> ChainPoints<'a>
+        requires on { IsOn board.now.lines stone }
+        requires stone { HoldsStone board.now stone }
+        ensures { result ≡ points_of board.entry.now part stone }
     {
         ChainPoints {
             board,
-            points,
-            number: 0,
+            stone,
+            part,
+            points: [0; WORDS],
+            number: None,
         }
     }
 }
@@ -49,9 +71,16 @@ impl<'a> Iterator for ChainPoints<'a> {
     ghost remaining = { item_count (λ points. points) };
 
     fn next(&mut self) -> Option<Point> {
+        let first = match self.number {
+            Some(number) => number,
+            None => {
+                self.points = self.board.marked(self.part, self.stone);
+                0
+            }
+        };
         let size = self.board.size();
-        let number = next_in(&self.points, size, self.number)?;
-        self.number = number + 1;
+        let number = next_in(&self.points, size, first)?;
+        self.number = Some(number + 1);
         Some(Point::numbered(size, number))
     }
 }

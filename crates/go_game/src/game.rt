@@ -34,8 +34,8 @@ pub struct Game<A: Allocator + Copy> {
     pub(crate) history: History<A>,
     /// The stones of each colour that were taken.
     pub(crate) prisoners: Prisoners,
-    /// Where stones were put since the start, by plays that were taken back too: a stone where none of
-    /// its colour stood repeats nothing.
+    /// Where stones were put since the start, by plays that were taken back too: a play that takes
+    /// nothing, where none of its colour stood, repeats nothing.
     pub(crate) placed: Placed,
 }
 

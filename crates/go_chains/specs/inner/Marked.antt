@@ -1,8 +1,12 @@
--- Points that words have a bit for, in point order.
-use Rattle.std.specs.Prelude.{ℕ, Bool, List, ◌-◌, ◌*◌, filter, map, nat_eq}
+-- Points that words have a bit for, in point order, and those of a chain that are still to come.
+use Rattle.std.specs.Prelude.{ℕ, Bool, List, None, Option, Some, ◌-◌, ◌*◌, filter, map, nat_eq}
 use Rattle.std.specs.List.{range_with_len}
 use Rattle.go_board.specs.declared.point.Point.{Point}
+use Rattle.go_board.specs.Grids.{chain_liberties, chain_stones}
 use Rattle.go_board.specs.Points.{point_at}
+use Rattle.go_chains.specs.Boards.{BoardValue, shown}
+use Rattle.go_chains.specs.declared.chain_points.Part.{Part}
+use Rattle.go_chains.specs.declared.chain_points.Part.TheVariants.{Stones, Liberties}
 use Rattle.go_chains.specs.inner.Writes.{mask_bit}
 
 -- the words have the bit of q
@@ -12,3 +16,13 @@ is_marked words q = nat_eq (mask_bit words q) 1
 -- the points of a board of n lines that are in words, from number k on
 unfoldable pub points_left : ℕ → List ℕ → ℕ → List Point
 points_left n words k = map (point_at n) (filter (is_marked words) (range_with_len k (n * n - k)))
+
+-- the points of this part of the chain of the stone on p
+abbrev pub points_of : BoardValue → Part → Point → List Point
+points_of b Stones p = chain_stones (shown b) p
+points_of b Liberties p = chain_liberties (shown b) p
+
+-- the points of this part that are to come: all while no number is kept, or those in words from number k on
+abbrev pub to_come : BoardValue → Part → Point → List ℕ → Option ℕ → List Point
+to_come b part p words None = points_of b part p
+to_come b part p words (Some k) = points_left b.lines words k

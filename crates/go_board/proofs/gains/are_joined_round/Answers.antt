@@ -4,8 +4,8 @@ use Rattle.go_board.proofs.Around.{before, before_is, open_before, open_on}
 use Rattle.go_board.proofs.Rounding.{round_same}
 use Rattle.go_board.proofs.gains.are_joined_round.Goals as goal
 
-row_is : (n row before : ℕ) → (0 < row → before + 1 ≡ row) → (row ≡ 0 → n ≤ before) → ((row ≡ 0) × (n ≤ before)) ⊎ (before + 1 ≡ row)
-row_is n row before some none = elim (cases_eq row 0) [ inl first ↦ inl (first, none first) | inr further ↦ inr (some (omega (arith, further))) ]
+row_is : (n high before : ℕ) → (0 < high → before + 1 ≡ high) → (high ≡ 0 → n ≤ before) → ((high ≡ 0) × (n ≤ before)) ⊎ (before + 1 ≡ high)
+row_is n high before some none = elim (cases_eq high 0) [ inl first ↦ inl (first, none first) | inr further ↦ inr (some (omega (arith, further))) ]
 
 pub returns : goal.returns
 returns c there test passes =

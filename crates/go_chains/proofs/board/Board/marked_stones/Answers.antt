@@ -9,7 +9,7 @@ use Rattle.go_chains.specs.Rings.{IsOnRing, steps}
 use Rattle.go_chains.specs.inner.Writes.{mask_bit}
 use Rattle.go_chains.proofs.answers.ChainPoints.{left-all}
 use Rattle.go_chains.proofs.answers.Queries.{ring_answers, ring_in}
-use Rattle.go_chains.proofs.board.Board.chain_points.Goals as goal
+use Rattle.go_chains.proofs.board.Board.marked_stones.Goals as goal
 
 pub ring_of-requires : goal.ring_of-requires
 ring_of-requires c =
@@ -24,8 +24,8 @@ ring_of-requires c =
           (ring_in b.lines b.cells c.label_at-label.ensures.kept p label i c.requires.stone c.label_at-label.ensures.label (omega (arith, low, stones))));
     }
 
-pub returns : goal.returns
-returns c =
+pub returns-clause-points : goal.returns-clause-points
+returns-clause-points c =
     let b = c.args.self.now in
     let p = number_of b.lines c.args.p in
     let label = c.label_at-label.result in
@@ -36,6 +36,5 @@ returns c =
     subst (λ k. (mask_bit words q ≡ 1) ↔ IsOnRing (next_of b.cells) (size_of b.cells label) k q) first
     (subst (λ m. (mask_bit words q ≡ 1) ↔ IsOnRing (next_of b.cells) m c.from-first.result q) stones
     (subst (λ (v : BoardValue). (mask_bit words q ≡ 1) ↔ IsOnRing (next_of v.cells) c.get-stones.result c.from-first.result q) c.self.view_is (c.ring_of.ensures.ring q))) in
-    c.new.ensures
-    ∙ left-all b.lines words (joined b.lines (grid_of b) p)
+    left-all b.lines words (joined b.lines (grid_of b) p)
     (λ q low. ring_answers b.lines b.cells c.label_at-label.ensures.kept c.joined_by_a_path.ensures p q label words c.requires.stone c.label_at-label.ensures.label (marked q))
