@@ -1,4 +1,4 @@
-use crate::games::{CAPTURE, Step, example, follow, size_of};
+use crate::games::{CAPTURE, Step, example, follow, grid_of, size_of};
 use crate::twins::{assert_same, assert_whole, plays};
 use go_board::{Colour, Move, Point, Taken, Vertex};
 use go_game::Game;
@@ -239,4 +239,58 @@ fn each_request_of_a_tried_play_refused(rt: HostRuntime) {
         met = met.wrapping_add(1);
     }
     assert!(rt; met > 0 && met < 9, "{met} requests");
+}
+
+/// A black stone in the corner that White takes from B1, and nothing repeats.
+const LAST_LIBERTY: &[(Colour, Point)] = &[(Colour::Black, A1), (Colour::White, A2)];
+
+/// Asks for the capture, in a game from the grid before it that takes its memory from here. How many
+/// times there was no memory; none where there was none for the start.
+fn asks_capture(
+    rt: &impl Abort,
+    alloc: Global,
+    failing: impl Allocator + Copy,
+    is_chosen: bool,
+) -> Option<u32> {
+    let grid = grid_of(rt, 2, LAST_LIBERTY);
+    let mut game = Game::start_from(failing, &grid, Colour::White).ok()?;
+    let mut twin = Game::start_from(alloc, &grid, Colour::White).expect(rt, "a start");
+    let made = Move {
+        colour: Colour::White,
+        vertex: Vertex::At(B1),
+    };
+    Some(if is_chosen {
+        asks_choice(rt, &mut game, &mut twin, made)
+    } else {
+        asks_legal(rt, &mut game, &mut twin, made)
+    })
+}
+
+/// Each request for memory of the capture is refused in turn, until a run meets no refusal. The log
+/// grows for it, and the history notes more.
+fn capture_refused_in_turn(rt: &impl Abort, alloc: Global, is_chosen: bool) {
+    let mut met = 0u32;
+    let mut is_done = false;
+    for number in 1..40u64 {
+        let failing = Failing::new(alloc, number);
+        let refused = asks_capture(rt, alloc, &failing, is_chosen);
+        if failing.waits() {
+            assert!(rt; refused == Some(0));
+            is_done = true;
+            break;
+        }
+        assert!(rt; refused.is_none() || refused == Some(1), "request {number}");
+        met = met.wrapping_add(refused.unwrap_or(0));
+    }
+    assert!(rt; is_done && met > 1, "{met} requests");
+}
+
+#[test]
+fn each_request_of_a_chosen_capture_refused(rt: HostRuntime) {
+    capture_refused_in_turn(&rt, rt.alloc(), true);
+}
+
+#[test]
+fn each_request_of_a_legal_capture_refused(rt: HostRuntime) {
+    capture_refused_in_turn(&rt, rt.alloc(), false);
 }

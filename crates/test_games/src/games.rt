@@ -257,7 +257,7 @@ fn texts_of_scores(rt: HostRuntime) {
 }
 
 /// A grid of so many lines with these stones.
-fn grid_of(rt: &impl Abort, lines: u8, stones: &[(Colour, Point)]) -> Grid {
+pub fn grid_of(rt: &impl Abort, lines: u8, stones: &[(Colour, Point)]) -> Grid {
     let mut grid = Grid::new(size_of(rt, lines));
     for (colour, at) in stones {
         assert!(rt; at.on(grid.size()));
