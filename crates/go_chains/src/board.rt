@@ -1,10 +1,10 @@
-ghost use Rattle.std.specs.Prelude.{◌≡◌, ◌<◌, ◌≤◌, ◌+◌, ◌*◌, ◌/◌, ◌++◌, ◌∷◌, ◌↔◌, ℕ, [], List, None, IfOk, IsErrOf, IsTrue, OnErr, OnOk, Some, length, replicate, slice_index, slice_set};
+ghost use Rattle.std.specs.Prelude.{◌≡◌, ◌<◌, ◌≤◌, ◌+◌, ◌*◌, ◌/◌, ◌++◌, ◌∷◌, ◌↔◌, ℕ, [], List, None, IfOk, IfSome, IsErrOf, IsTrue, OnErr, OnOk, Some, drop, length, replicate, slice_index, slice_set};
 ghost use Rattle.std.specs.Int.{bit_at};
 ghost use Rattle.go_board.specs.Chains.{liberties};
 ghost use Rattle.go_board.specs.Colours.{colour_at, other};
 ghost use Rattle.go_board.specs.PackBytes.{bytes_of};
 ghost use Rattle.go_board.specs.Packs.{byte_of, code_of, packed_of};
-ghost use Rattle.go_board.specs.Points.{IsOn, number_of};
+ghost use Rattle.go_board.specs.Points.{IsOn, number_of, point_at};
 ghost use Rattle.go_board.specs.Reaching.{area, moved};
 ghost use Rattle.go_board.specs.Rows.{AreStones};
 ghost use Rattle.go_board.specs.declared.colour.Colour.{Colour};
@@ -16,7 +16,7 @@ ghost use Rattle.go_chains.specs.Playing.{most_at, played, reads_around, went};
 ghost use Rattle.go_chains.specs.Rewound.{ForLast, IsRewound, NamesCells, PlayLogged, rewound};
 ghost use Rattle.go_chains.specs.Sound.{IsKept};
 ghost use Rattle.go_chains.specs.Boards.{IsRowOfStones, HoldsStone, colouring_of, grid_of, shown};
-ghost use Rattle.go_chains.specs.inner.Marked.{points_left, points_of};
+ghost use Rattle.go_chains.specs.inner.Marked.{has_label, points_left, points_of};
 ghost use Rattle.go_chains.specs.inner.Words.{free_in_word};
 ghost use Rattle.go_board.specs.Grids.{are_joined, chain_liberties, chain_stones, has_liberty, liberty_count, stone_at, stone_count};
 
@@ -337,6 +337,54 @@ impl Board {
         liberty_by_a_path();
         let label = self.label_at(p, &mut Meter::new());
         liberties_of(&self.cells, self.size(), label)
+    }
+
+    /// The first point of a part of the chain of a stone, where labels tell it soon.
+    pub(crate) fn first_told(&self, part: Part, p: Point) -> Option<u16>
+        requires on { IsOn self.now.lines p }
+        requires stone { HoldsStone self.now p }
+        ensures first { IfSome result (λ q. points_of self.now part p
+            ≡ point_at self.now.lines q ∷ drop 1 (points_of self.now part p)) }
+        ensures on { IfSome result (λ q. q < self.now.lines * self.now.lines) }
+    {
+        match part {
+            Part::Stones => self.first_stone(p),
+            Part::Liberties => None,
+        }
+    }
+
+    /// The first stone of the chain of a stone, where it is among as many of the board's first points
+    /// as the chain has stones: to walk its ring takes as many steps.
+    fn first_stone(&self, p: Point) -> Option<u16>
+        requires on { IsOn self.now.lines p }
+        requires stone { HoldsStone self.now p }
+        ensures first { IfSome result (λ q. chain_stones (shown self.now) p
+            ≡ point_at self.now.lines q ∷ drop 1 (chain_stones (shown self.now) p)) }
+        ensures on { IfSome result (λ q. q < self.now.lines * self.now.lines) }
+    {
+        points_by_number();
+        joined_by_a_path();
+        let mut meter = Meter::new();
+        let label = self.label_at(p, &mut meter);
+        let stones = self.cells.get(SIZES + label, &mut meter) as usize;
+        for number in 0..stones.min(usize::from(self.size().points())) {
+            if self.has_label(number, label) {
+                return Some(number as u16);
+            }
+        }
+        None
+    }
+
+    /// Whether a point holds a stone with this label.
+    fn has_label(&self, number: usize, label: usize) -> bool
+        requires { number < MAX_POINTS }
+        ensures { result ≡ has_label self.now.cells label number }
+    {
+        let mut meter = Meter::new();
+        match Colour::coded(self.cells.get(number, &mut meter)) {
+            Some(_) => label == self.cells.get(LABELS + number, &mut meter) as usize,
+            None => false,
+        }
     }
 
     /// How many stones the chain of a stone has.

@@ -18,6 +18,17 @@ pub(crate) enum Part {
     Liberties,
 }
 
+/// How far the points of a chain were given.
+#[derive(Clone, Copy)]
+enum Given {
+    /// None was asked for.
+    Nothing,
+    /// The first stone, which its label told. The words have no points yet.
+    First,
+    /// Those before the one with this number, from the words.
+    Before(u16),
+}
+
 /// The stones of a chain, or its liberties, in point order. A contract sees it as the list of those
 /// to come.
 #[derive(Drop)]
@@ -27,9 +38,7 @@ pub struct ChainPoints<'a> {
     stone: Point,
     part: Part,
     points: Words,
-    /// The number of the first point that wasn't looked at yet. There is none until the first point is
-    /// asked for, when the words get the points.
-    number: Option<u16>,
+    given: Given,
 }
 
 impl<'a> Model for ChainPoints<'a> {
@@ -41,7 +50,7 @@ impl<'a> Model for ChainPoints<'a> {
 
     ghost Value = { List Point };
 
-    ghost view = { λ c. to_come c.board.now c.part c.stone c.points c.number };
+    ghost view = { λ c. to_come c.board.now c.part c.stone c.points c.given };
 
     ghost invariant = { λ c. IsOn c.board.now.lines c.stone × HoldsStone c.board.now c.stone };
 }
@@ -58,7 +67,7 @@ impl<'a> ChainPoints<'a> {
             stone,
             part,
             points: [0; WORDS],
-            number: None,
+            given: Given::Nothing,
         }
     }
 }
@@ -71,16 +80,24 @@ impl<'a> Iterator for ChainPoints<'a> {
     ghost remaining = { item_count (λ points. points) };
 
     fn next(&mut self) -> Option<Point> {
-        let first = match self.number {
-            Some(number) => number,
-            None => {
+        let size = self.board.size();
+        let first = match self.given {
+            Given::Nothing => {
+                if let Some(number) = self.board.first_told(self.part, self.stone) {
+                    self.given = Given::First;
+                    return Some(Point::numbered(size, number));
+                }
                 self.points = self.board.marked(self.part, self.stone);
                 0
             }
+            Given::First => {
+                self.points = self.board.marked(self.part, self.stone);
+                next_in(&self.points, size, 0)? + 1
+            }
+            Given::Before(number) => number,
         };
-        let size = self.board.size();
         let number = next_in(&self.points, size, first)?;
-        self.number = Some(number + 1);
+        self.given = Given::Before(number + 1);
         Some(Point::numbered(size, number))
     }
 }

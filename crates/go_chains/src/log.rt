@@ -104,8 +104,9 @@ pub(crate) fn reserve_play<A: Allocator + Copy>(
     }
 }
 
-/// Gives changes room for twice as many as a play makes at most. A list that grows is moved with all
-/// its room, of which a game's first play uses next to nothing; this moves the changes alone.
+/// Gives changes room for twice as many as a play makes at most. An allocator may move a list that
+/// grows with all its room, of which a game's first play uses next to nothing; this moves the changes
+/// alone.
 fn widen<A: Allocator + Copy>(changes: &mut Vec<Change, A>, most: usize) -> Result<(), AllocError>
     requires few { vec_len changes.old ≤ most }
     ensures changes { changes.new.items ≡ changes.old.items }

@@ -1,6 +1,6 @@
 -- The points in words that are still to come.
 use Rattle.std.specs.Int.{bit_at, trailing_zeros}
-use Rattle.std.specs.Prelude.{◌↔◌, filter}
+use Rattle.std.specs.Prelude.{◌↔◌, drop, filter}
 use Rattle.std.proofs.Common.{ℕ, zero, suc, ◌+◌, ◌-◌, ◌*◌, ◌/◌, ◌%◌, ◌^◌, ◌<◌, ◌≤◌, ◌≡◌, ◌∙◌, ◌∷◌, [], refl, sym, ap, subst, arith, inl, inr, Bool, true, false, cond, List, map, nat_eq, slice_index, w64}
 use Rattle.std.proofs.lemmas.Bool.{cases_lt, eq-eqb, eqb-true, false_from_ne_true}
 use Rattle.std.proofs.lemmas.Nat.Bits.{bit_at-trailing_zeros}
@@ -135,3 +135,13 @@ left-all n words test same =
     let len : n * n - 0 ≡ n * n = omega arith in
     ap (λ m. map (point_at n) (filter (is_marked words) (range_with_len 0 m))) len
     ∙ ap (map (point_at n)) (alike (is_marked words) test 0 (n * n) (λ q low high. same q (omega arith)))
+
+-- the first of the points that pass a test, where one that is told is the first that is
+pub first-told : (n : ℕ) (told test : ℕ → Bool) (q : ℕ) → ((k : ℕ) → k < n * n → told k ≡ test k) → q < n * n → told q ≡ true
+    → passing told (n * n) q ≡ passing told (n * n) 0 → map (point_at n) (filter test (points n)) ≡ point_at n q ∷ drop 1 (map (point_at n) (filter test (points n)))
+first-told n told test q same low is none =
+    let len : n * n - 0 ≡ n * n = omega arith in
+    let whole : filter told (range_with_len 0 (n * n - 0)) ≡ filter test (points n) = ap (λ m. filter told (range_with_len 0 m)) len ∙ alike told test 0 (n * n) (λ k from to. same k (omega arith)) in
+    let split : filter test (points n) ≡ q ∷ passing told (n * n) (q + 1) = sym whole ∙ sym none ∙ passing-first told (n * n) q low is in
+    let mapped = ap (map (point_at n)) split in
+    mapped ∙ sym (ap (λ ps. point_at n q ∷ drop 1 ps) mapped)

@@ -17,12 +17,13 @@ use Rattle.go_board.specs.Packs.{byte_of, code_of, colour_coded}
 use Rattle.go_board.specs.Paths.{Joined}
 use Rattle.go_board.specs.Reaching.{is_liberty_of, joined, points}
 use Rattle.go_chains.specs.Cells.{code_at, label_of, lib_of, next_of, size_of, word_of}
+use Rattle.go_chains.specs.inner.Marked.{has_label, is_labelled}
 use Rattle.go_chains.specs.inner.Writes.{mask_bit}
 use Rattle.go_chains.specs.Rings.{IsOnRing, ring_from, steps}
 use Rattle.go_chains.specs.Sound.{IsKept}
 use Rattle.go_chains.specs.Boards.{IsStoneOf, colouring_of}
 use Rattle.go_chains.specs.inner.Tables.{IsStone, tables_of}
-use Rattle.go_chains.proofs.rules.Sound.{Contains-IsOn, IsKept-tidy, IsOn-Contains, colouring-at, far_stone, length-colouring, length-ring_from, stone-kept, tidy-kept, colouring-inside}
+use Rattle.go_chains.proofs.rules.Sound.{Contains-IsOn, IsKept-tidy, IsOn-Contains, colouring-at, far_stone, length-colouring, length-ring_from, of_stone, stone-kept, tidy-kept, colouring-inside}
 use Rattle.go_chains.proofs.rules.Counting.{counted}
 
 -- two tests that hold together have one answer
@@ -57,6 +58,22 @@ module _ (n : ℕ) (cells : List ℕ) (kept : IsKept n cells) where
       same_answer (nat_eq a b) (joined n (colouring_of n cells) p q)
       (λ e. path.1 (same.0 (sym a_is ∙ eqb-true a b e ∙ b_is)))
       (λ t. eq-eqb a b (a_is ∙ same.1 (path.0 t) ∙ sym b_is))
+
+  labelled : JoinedByPath → (p q l : ℕ) → IsStoneOf (colouring_of n cells) p → q < n * n → l ≡ label_of cells p
+      → (v : Option Colour) → colour_coded (code_at cells q) ≡ v → is_labelled v (label_of cells q) l ≡ joined n (colouring_of n cells) p q
+  labelled by p q l stone q_in l_is None e =
+      sym (false_from_ne_true (joined n (colouring_of n cells) p q) (λ t. (
+      let j = (by n (colouring_of n cells) p q (stone-kept n cells kept p stone).0).0 t in
+      let far = far_stone n (colouring_of n cells) cells (colouring-inside n cells) kept.sound.colours kept.sound.coded p q (stone-kept n cells kept p stone) j in
+      let held = of_stone n (colouring_of n cells) cells (colouring-inside n cells) kept.sound.colours kept.sound.coded q far.0 in
+      none-some (colour_coded (code_at cells q)) held.0 e (sym (colouring-at n cells q q_in) ∙ held.1))))
+  labelled by p q l stone q_in l_is (Some c) e =
+      labels_joined by p q l (label_of cells q) stone (c, colouring-at n cells q q_in ∙ e) l_is refl
+
+  -- a point with the label of a stone is in its chain
+  pub stone_answers : JoinedByPath → (p q l : ℕ) → IsStoneOf (colouring_of n cells) p → q < n * n → l ≡ label_of cells p
+      → has_label cells l q ≡ joined n (colouring_of n cells) p q
+  stone_answers by p q l stone q_in l_is = labelled by p q l stone q_in l_is (colour_coded (code_at cells q)) refl
 
   -- how many steps along the ring of a stone lead to points
   pub ring_in : (p l i : ℕ) → IsStoneOf (colouring_of n cells) p → l ≡ label_of cells p → i < size_of cells l → steps (next_of cells) i p < MAX_POINTS

@@ -1,10 +1,15 @@
--- Points that words have a bit for, in point order, and those of a chain that are still to come.
-use Rattle.std.specs.Prelude.{ℕ, Bool, List, None, Option, Some, ◌-◌, ◌*◌, filter, map, nat_eq}
+-- Points that words have a bit for, in point order, those of a chain that are still to come, and its label.
+use Rattle.std.specs.Prelude.{ℕ, Bool, false, List, None, Option, Some, ◌-◌, ◌*◌, drop, filter, map, nat_eq}
 use Rattle.std.specs.List.{range_with_len}
+use Rattle.go_board.specs.declared.colour.Colour.{Colour}
 use Rattle.go_board.specs.declared.point.Point.{Point}
 use Rattle.go_board.specs.Grids.{chain_liberties, chain_stones}
+use Rattle.go_board.specs.Packs.{colour_coded}
 use Rattle.go_board.specs.Points.{point_at}
 use Rattle.go_chains.specs.Boards.{BoardValue, shown}
+use Rattle.go_chains.specs.Cells.{code_at, label_of}
+use Rattle.go_chains.specs.declared.chain_points.Given.{Given}
+use Rattle.go_chains.specs.declared.chain_points.Given.TheVariants.{Nothing, First, Before}
 use Rattle.go_chains.specs.declared.chain_points.Part.{Part}
 use Rattle.go_chains.specs.declared.chain_points.Part.TheVariants.{Stones, Liberties}
 use Rattle.go_chains.specs.inner.Writes.{mask_bit}
@@ -22,7 +27,17 @@ abbrev pub points_of : BoardValue → Part → Point → List Point
 points_of b Stones p = chain_stones (shown b) p
 points_of b Liberties p = chain_liberties (shown b) p
 
--- the points of this part that are to come: all while no number is kept, or those in words from number k on
-abbrev pub to_come : BoardValue → Part → Point → List ℕ → Option ℕ → List Point
-to_come b part p words None = points_of b part p
-to_come b part p words (Some k) = points_left b.lines words k
+-- the points of this part that are to come: all, all but the first, or those in words from number k on
+abbrev pub to_come : BoardValue → Part → Point → List ℕ → Given → List Point
+to_come b part p words Nothing = points_of b part p
+to_come b part p words First = drop 1 (points_of b part p)
+to_come b part p words (Before k) = points_left b.lines words k
+
+-- a point of this colour and label is a stone with label l
+abbrev pub is_labelled : Option Colour → ℕ → ℕ → Bool
+is_labelled None label l = false
+is_labelled (Some c) label l = nat_eq l label
+
+-- q holds a stone with label l
+abbrev pub has_label : List ℕ → ℕ → ℕ → Bool
+has_label cells l q = is_labelled (colour_coded (code_at cells q)) (label_of cells q) l
