@@ -12,7 +12,6 @@ pub mod ChoiceRule
 pub mod Trails
 pub mod Building
 pub mod Filling
-pub mod TrialNumbers
 pub mod Remembered
 pub mod Keeping
 pub mod Beginning

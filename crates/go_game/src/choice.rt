@@ -4,7 +4,6 @@ ghost use Rattle.std.specs.Prelude.{◌≡◌, ◌≢◌, ◌<◌, ◌≤◌, �
 ghost use Rattle.go_game.specs.inner.Trials.{better_of};
 
 use crate::holdings::{Holdings, ahead};
-use crate::order::next_point;
 use crate::{Game, PlayError};
 use go_board::laws::points_by_number;
 use go_board::{Colour, Move, Point, Vertex};
@@ -53,9 +52,9 @@ impl<A: Allocator + Copy> Game<A> {
     ghost use Rattle.go_board.specs.Grids.{stone_at};
     ghost use Rattle.go_board.specs.Points.{IsOn, number_of};
 
-    /// Whether the rules allow a move; one off the board isn't legal. A move that may take stones is
-    /// tried on the game, and taken back also where there was no memory for it. That can't be so off
-    /// the board or on a stone, where nothing is tried.
+    /// Whether the rules allow a move; one off the board isn't legal. A pass, and a play that may take
+    /// stones, are tried on the game, and taken back also where there was no memory for them. That
+    /// can't be so off the board or on a stone, where nothing is tried.
     pub fn legal(&mut self, made: Move) -> Result<bool, AllocError>
         ensures rules { IfOk result
             (λ legal. IsTrue legal ↔ IsLegal self.old.standing made.colour made.vertex) }
@@ -104,7 +103,7 @@ impl<A: Allocator + Copy> Game<A> {
         Ok(true)
     }
 
-    /// Whether the rules allow a move, which is played and taken back.
+    /// Whether the rules allow a move, which is played and taken back where they do.
     fn legal_by_playing(&mut self, made: Move) -> Result<bool, AllocError>
         ensures test { IfOk result
             (λ legal. legal ≡ is_legal self.old.standing made.colour made.vertex) }
@@ -186,14 +185,11 @@ impl<A: Allocator + Copy> Game<A> {
         ensures count { self.new.count
             ≤ self.old.count + 4 * most_on_all self.old.standing colour }
     {
-        points_by_number();
         let size = self.size();
         let mut best = None;
-        let mut point = Point { col: 0, row: 0 };
-        for _ in 0..size.points() {
-            let trial = self.try_at(holdings, colour, point)?;
+        for number in 0..size.points() {
+            let trial = self.try_at(holdings, colour, Point::numbered(size, number))?;
             best = better_of(best, trial);
-            point = next_point(point, size);
         }
         Ok(best)
     }

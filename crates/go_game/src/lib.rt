@@ -32,7 +32,6 @@ mod game;
 mod handicap;
 mod holdings;
 pub mod laws;
-mod order;
 mod placed;
 mod play;
 mod prisoners;

@@ -89,8 +89,9 @@ impl<A: Allocator + Copy> Game<A> {
         Ok(taken)
     }
 
-    /// Places a stone on an empty point where that is legal, in as many reads and writes as a play may
-    /// take.
+    /// Places a stone on an empty point where that is legal. It promises what a play may take and no
+    /// more, so that the bound of `play` stays tight: a read more there isn't hidden by those that
+    /// `put_sparing` spares.
     fn put(&mut self, colour: Colour, p: Point) -> Result<Taken, PlayError>
         requires on { IsOn self.old.standing.lines p }
         requires vacant { stone_at (present self.old.standing) p ≡ None }

@@ -4,14 +4,12 @@ ghost use Rattle.go_board.specs.Living.{AreAlive, IsFirstDead};
 ghost use Rattle.go_board.specs.declared.colour.Colour.{Colour};
 ghost use Rattle.go_board.specs.declared.point.Point.{Point};
 ghost use Rattle.go_board.specs.declared.size.TheConstants.{MAX_LINES};
-ghost use Rattle.go_board.specs.Points.{IsOn, number_of};
 ghost use Rattle.go_chains.specs.Sound.{IsKept};
 ghost use Rattle.go_chains.specs.Boards.{grid_of};
 ghost use Rattle.go_game.specs.Counts.{most_to_fill};
 ghost use Rattle.go_game.specs.inner.Building.{IsFront, most_to_put};
 ghost use Rattle.go_game.specs.Standings.{empty_start, started};
 
-use crate::order::next_point;
 use crate::{Game, SetupError, Superko};
 use go_board::laws::{packs_tell_colourings_apart, points_by_number, reaches_by_a_path};
 use go_board::plain::first_dead;
@@ -93,12 +91,9 @@ fn fill<A: Allocator + Copy>(
     ensures colours { OnOk result (grid_of board.new ≡ grid.now.colours) }
     ensures writes { length board.new.trace ≤ length board.old.trace + most_to_fill grid.now }
 {
-    let size = grid.size();
     let mut meter = Meter::new();
-    let mut at = Point { col: 0, row: 0 };
-    for _ in 0..size.points() {
-        put_stone(grid, at, board, log, &mut meter)?;
-        at = next_point(at, size);
+    for number in 0..grid.size().points() {
+        put_stone(grid, number, board, log, &mut meter)?;
     }
     Ok(())
 }
@@ -106,27 +101,26 @@ fn fill<A: Allocator + Copy>(
 /// Puts the stone of a point on the board, if there is one.
 fn put_stone<A: Allocator + Copy>(
     grid: &Grid,
-    at: Point,
+    number: u16,
     board: &mut Board,
     log: &mut Log<A>,
     meter: &mut Meter,
 ) -> Result<(), AllocError>
-    requires on { IsOn grid.now.lines at }
+    requires number { number < grid.now.lines * grid.now.lines }
     requires alive { AreAlive grid.now.lines grid.now.colours }
     requires lines { board.old.lines ≡ grid.now.lines }
     requires kept { IsKept board.old.lines board.old.cells }
-    requires front { IsFront grid.now.lines grid.now.colours (number_of grid.now.lines at)
-        (grid_of board.old) }
+    requires front { IsFront grid.now.lines grid.now.colours number (grid_of board.old) }
     ensures lines { board.new.lines ≡ grid.now.lines }
     ensures kept { IsKept board.new.lines board.new.cells }
-    ensures front { OnOk result (IsFront grid.now.lines grid.now.colours
-        (number_of grid.now.lines at + 1) (grid_of board.new)) }
+    ensures front { OnOk result (IsFront grid.now.lines grid.now.colours (number + 1)
+        (grid_of board.new)) }
     ensures writes { length board.new.trace
-        ≤ length board.old.trace + most_to_put grid.now (number_of grid.now.lines at) }
+        ≤ length board.old.trace + most_to_put grid.now number }
 {
     points_by_number();
     reaches_by_a_path();
-    prove!(at.on(grid.size()));
+    let at = Point::numbered(grid.size(), number);
     match grid.get(at) {
         None => Ok(()),
         Some(colour) => match board.play(log, meter, colour, at) {

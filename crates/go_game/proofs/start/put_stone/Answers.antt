@@ -14,14 +14,14 @@ returns-in-Ok-clause-front g c =
     let n = c.args.grid.now.lines in
     let colours = c.args.grid.now.colours in
     let now = grid_of c.args.board.now in
-    let i = number_of n c.args.at in
+    let i = c.args.number in
     let colour = c.in-Some.colour in
-    let low = c.points_by_number.ensures.number n c.args.at c.requires.on in
+    let at : number_of n c.numbered-at.result ≡ i = ap (λ m. number_of m c.numbered-at.result) (sym c.size.ensures.lines) ∙ c.numbered-at.ensures.back in
     let whole : length colours ≡ n * n = c.size.ensures.whole ∙ ap (λ m. let k : ℕ = m * m in k) c.size.ensures.lines in
-    let stone : colour_at colours i ≡ Some colour = sym c.get.ensures ∙ c.in-Some.is in
-    let more = front_stone n colours now i colour low whole stone c.requires.front in
+    let stone : colour_at colours i ≡ Some colour = ap (colour_at colours) (sym at) ∙ sym c.get.ensures ∙ c.in-Some.is in
+    let more = front_stone n colours now i colour c.requires.number whole stone c.requires.front in
     let is : grid_of c.play.new.self ≡ slice_set now i (Some colour) =
-    c.in-Ok.ensures.moved ∙ ap (λ m. moved m now colour (number_of m c.args.at)) c.requires.lines
+    c.in-Ok.ensures.moved ∙ ap (λ m. moved m now colour (number_of m c.numbered-at.result)) c.requires.lines ∙ ap (moved n now colour) at
     ∙ moved_part c.reaches_by_a_path.ensures n now colours colour i c.requires.front.whole c.requires.alive more.1 in
     subst (IsFront n colours (i + 1)) (sym is) more.0
 
@@ -30,13 +30,13 @@ returns-in-Ok-clause-writes g c =
     let n = c.args.grid.now.lines in
     let colours = c.args.grid.now.colours in
     let now = grid_of c.args.board.now in
-    let i = number_of n c.args.at in
+    let i = c.args.number in
     let colour = c.in-Some.colour in
     let logged = c.in-Ok.ensures.logged in
-    let low = c.points_by_number.ensures.number n c.args.at c.requires.on in
+    let at : number_of n c.numbered-at.result ≡ i = ap (λ m. number_of m c.numbered-at.result) (sym c.size.ensures.lines) ∙ c.numbered-at.ensures.back in
     let whole : length colours ≡ n * n = c.size.ensures.whole ∙ ap (λ m. let k : ℕ = m * m in k) c.size.ensures.lines in
-    let stone : colour_at colours i ≡ Some colour = sym c.get.ensures ∙ c.in-Some.is in
-    let most = ap (λ m. most_of m now colour (number_of m c.args.at)) c.requires.lines in
+    let stone : colour_at colours i ≡ Some colour = ap (colour_at colours) (sym at) ∙ sym c.get.ensures ∙ c.in-Some.is in
+    let most = ap (λ m. most_of m now colour (number_of m c.numbered-at.result)) c.requires.lines ∙ ap (most_of n now colour) at in
     grown c.args.board.now.trace c.play.new.self.trace logged.changes (most_of n now colour i) _ logged.traced
     (subst (λ (k : ℕ). let few : Type 0 = length logged.changes ≤ k in few) most logged.few)
-    (most_put c.reaches_by_a_path.ensures n colours now i colour low whole c.requires.alive stone c.requires.front)
+    (most_put c.reaches_by_a_path.ensures n colours now i colour c.requires.number whole c.requires.alive stone c.requires.front)
