@@ -98,15 +98,12 @@ impl Line {
     pub fn extend(&mut self, bytes: &[u8])
         ensures { (line : List ℕ) → self.old ≡ kept line → self.new ≡ kept (line ++ bytes.now) }
     {
-        if self.has_comment {
-            return;
-        }
         if self.is_long {
             self.skip(bytes);
             return;
         }
         let mut rest = bytes;
-        while !rest.is_empty() {
+        while !rest.is_empty() && !self.has_comment {
             let count = self.push_front(rest);
             rest = rest.split_at(count).1;
         }
@@ -145,7 +142,8 @@ impl Line {
 
     /// Takes the first of bytes, those of words, those between words or a `#`, and tells how many.
     fn push_front(&mut self, bytes: &[u8]) -> usize
-        requires { 0 < length bytes.now }
+        requires plain { self.old.has_comment ≡ false }
+        requires bytes { 0 < length bytes.now }
         ensures some { 0 < result }
         ensures most { result ≤ length bytes.now }
         ensures front { (line : List ℕ) → self.old ≡ kept line
@@ -167,24 +165,20 @@ impl Line {
 
     /// Takes words that are joined by single spaces, as the line keeps them.
     fn push_words(&mut self, words: &[u8])
-        requires { AreJoined words.now }
+        requires plain { self.old.has_comment ≡ false }
+        requires words { AreJoined words.now }
         ensures { (line : List ℕ) → self.old ≡ kept line → self.new ≡ kept (line ++ words.now) }
     {
-        if self.has_comment {
-            return;
-        }
         append_to_words(&mut self.text, &mut self.is_long, self.has_space, words);
         self.has_space = false;
     }
 
     /// Takes controls and white space.
     fn push_gap(&mut self, gap: &[u8])
-        requires { AreBetweenWords gap.now }
+        requires plain { self.old.has_comment ≡ false }
+        requires gap { AreBetweenWords gap.now }
         ensures { (line : List ℕ) → self.old ≡ kept line → self.new ≡ kept (line ++ gap.now) }
     {
-        if self.has_comment {
-            return;
-        }
         if has_blank(gap) {
             self.has_space = !self.text.is_empty();
         }
