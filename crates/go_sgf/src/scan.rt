@@ -14,7 +14,7 @@ use std::simd::prelude::*;
 pub(crate) fn is_white(byte: u8) -> bool
     ensures { result ≡ is_space byte }
 {
-    byte <= b' ' && (byte == b' ' || (9 <= byte && byte <= 13))
+    byte == b' ' || (9 <= byte && byte <= 13)
 }
 
 fn is_letter(byte: u8) -> bool
