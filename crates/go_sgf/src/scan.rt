@@ -1,7 +1,7 @@
-ghost use Rattle.std.specs.Prelude.{◌≡◌, ◌≢◌, ◌≤◌, ◌∷◌, ◌++◌, ◌||◌, ◌==◌, ℕ, IfNone, IfSome, None, Some, false, length, map, take, true};
+ghost use Rattle.std.specs.Prelude.{◌≡◌, ◌≢◌, ◌≤◌, ◌*◌, ◌∷◌, ◌++◌, ◌||◌, ◌==◌, ℕ, IfNone, IfSome, None, Some, false, length, map, min, take, true};
 ghost use Rattle.std.specs.List.{list_all, list_any};
 ghost use Rattle.std.specs.Simd.Lanes.{mask_l};
-ghost use Rattle.memchr.specs.Find.{IsFirst, IsFirstByte, Passes, is_byte2};
+ghost use Rattle.memchr.specs.Find.{IsFirst, IsFirstByte, Nowhere, Passes, is_byte2};
 ghost use Rattle.go_sgf.specs.inner.Reads.{IsBracketAt, is_letter_first, is_ordinary};
 ghost use Rattle.go_sgf.specs.inner.Tidied.{behind_from, is_left_out_byte, is_left_out_first, tidied_from};
 ghost use Rattle.go_sgf.specs.Record.{is_letter_byte, is_upper_byte};
@@ -216,7 +216,10 @@ fn stops(bytes: u8x16) -> u64
 /// The place of the first `]` or `\`, where it is within so many blocks.
 #[inline]
 fn near_stop(bytes: &[u8], blocks: usize) -> Option<usize>
-    ensures { IfSome result (λ place. IsFirstByte (is_byte2 93 92) bytes.now (Some place)) }
+    ensures some { IfSome result
+        (λ place. IsFirstByte (is_byte2 93 92) bytes.now (Some place)) }
+    ensures none { IfNone result
+        (Nowhere (Passes (is_byte2 93 92) bytes.now) 0 (min (blocks * 16) (length bytes.now))) }
 {
     for block in 0..blocks {
         let from = block * LANES;
@@ -263,10 +266,12 @@ pub(crate) fn near_bracket(bytes: &[u8]) -> Option<usize>
 fn first_stop(bytes: &[u8]) -> Option<usize>
     ensures { IsFirstByte (is_byte2 93 92) bytes.now result }
 {
-    match near_stop(bytes, BLOCKS) {
-        Some(place) => Some(place),
-        None => memchr2(b']', b'\\', bytes),
+    if let Some(place) = near_stop(bytes, BLOCKS) {
+        return Some(place);
     }
+    let passed = bytes.len().min(BLOCKS * LANES);
+    let place = memchr2(b']', b'\\', bytes.split_at(passed).1)?;
+    Some(passed + place)
 }
 
 /// What stands before the first `]` or `\`, that byte, and what follows it.

@@ -3,8 +3,8 @@ use Rattle.memchr.specs.Find.{Nowhere, Passes, is_byte2}
 use Rattle.go_sgf.proofs.Lanes.{first_from, none_from}
 use Rattle.go_sgf.proofs.scan.near_stop.Goals as goal
 
-pub returns-then-found-ne0 : goal.returns-then-found-ne0
-returns-then-found-ne0 c =
+pub returns-then-found-ne0-clause-some : goal.returns-then-found-ne0-clause-some
+returns-then-found-ne0-clause-some c =
     first_from (is_byte2 93 92) c.args.bytes.now (c.loop-block.block * 16) c.stops-found.result (omega arith) c.stops-found.ensures
     (λ none. c.if-found-ne0.true none) c.loop-block.invariant.before
 
