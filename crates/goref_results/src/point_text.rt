@@ -1,35 +1,36 @@
-//! Points behind spaces, each written as one piece.
+//! Points behind spaces.
 ghost use Rattle.std.specs.Prelude.{◌≡◌, ◌<◌, ◌≤◌, ◌+◌, ◌++◌, decimal, length};
 ghost use Rattle.go_board.specs.Pens.{Writes};
-ghost use Rattle.goref_results.specs.Places.{spaced_point};
+ghost use Rattle.goref_results.specs.Places.{point_word, spaced_point};
 
 use arrayvec::ArrayVec;
 use go_board::{Pen, Point, Sink, column_letter};
 
-/// The most bytes of a point behind a space: no row has a number of more than three digits.
-const SPACED_LEN: usize = 5;
+/// The most bytes of a point: no row has a number of more than three digits.
+const POINT_LEN: usize = 4;
 
-/// Writes a point behind a space.
+/// Writes a point behind a space. The space is a piece of its own: a device that has no room for the
+/// point may take it.
 pub(crate) fn put_spaced<W: Sink>(at: Point, pen: &mut Pen<'_, W>)
     ensures { Writes W.Sink pen.old pen.new (spaced_point at) }
 {
-    pen.put(spaced(at).as_slice());
+    pen.put(b" ");
+    pen.put(letter_and_number(at).as_slice());
 }
 
-/// A space, the letter of the column and the number of the row from 1.
-fn spaced(at: Point) -> ArrayVec<u8, SPACED_LEN>
-    ensures { result.items ≡ spaced_point at }
+/// The letter of the column and the number of the row from 1.
+fn letter_and_number(at: Point) -> ArrayVec<u8, POINT_LEN>
+    ensures { result.items ≡ point_word at }
 {
     let mut text = ArrayVec::new();
-    text.push(b' ');
     text.push(column_letter(at.col) as u8);
     push_number(&mut text, u16::from(at.row) + 1);
     text
 }
 
 /// Adds a row's number.
-fn push_number(text: &mut ArrayVec<u8, SPACED_LEN>, number: u16)
-    requires room { length text.old.items ≤ 2 }
+fn push_number(text: &mut ArrayVec<u8, POINT_LEN>, number: u16)
+    requires room { length text.old.items ≤ 1 }
     requires small { number ≤ 256 }
     ensures { text.new.items ≡ text.old.items ++ decimal number }
 {
