@@ -32,7 +32,7 @@ pub fn put_chains<A: Allocator + Copy, W: Sink>(game: &Game<A>, pen: &mut Pen<'_
 }
 
 /// Writes the chain of a stone that is its first, and gives the byte that stands before the next.
-/// Stones of chains that were written are told, so that no chain is looked up for a later stone.
+/// All stones of the chains that were written are told, so that no chain is looked up twice.
 fn put_if_first<A: Allocator + Copy, W: Sink>(
     game: &Game<A>,
     at: Point,
@@ -61,7 +61,7 @@ fn put_if_first<A: Allocator + Copy, W: Sink>(
     before
 }
 
-/// Whether a point holds a stone that is the first of its chain.
+/// Whether a point holds a stone that is the first of its chain: one that isn't told.
 fn is_first<A: Allocator + Copy>(game: &Game<A>, told: &Rows, at: Point) -> bool
     requires on { IsOn game.now.standing.lines at }
     requires told { AreTold game.now.standing.lines (board_of game.now.standing)
@@ -69,14 +69,9 @@ fn is_first<A: Allocator + Copy>(game: &Game<A>, told: &Rows, at: Point) -> bool
     ensures { result ≡ is_first_stone (present game.now.standing) at }
 {
     points_by_number();
-    joined_by_a_path();
     prove!(at.on(game.size()));
     let (row, col) = (usize::from(at.row), usize::from(at.col));
-    match game.colour_at(at) {
-        Some(_) if has_place(told, row, col) => false,
-        Some(_) => game.chain_points(at).next() == Some(at),
-        None => false,
-    }
+    game.colour_at(at).is_some() && !has_place(told, row, col)
 }
 
 /// Writes the chain of a stone: the letter of its colour, its stones, which are told, and its

@@ -1,19 +1,23 @@
 -- The stones of chains that were written, which are told.
-use Rattle.std.specs.Prelude.{◌<◌, ◌⊎◌, ◌↔◌, ℕ, List, Contains, IsTrue}
+use Rattle.std.specs.Prelude.{◌<◌, ◌⊎◌, ◌↔◌, ℕ, not, None, List, Contains, IsTrue}
 use Rattle.go_board.specs.declared.point.Point.{Point}
 use Rattle.go_board.specs.Colours.{Colouring}
 use Rattle.go_board.specs.Points.{IsOn, number_of}
-use Rattle.go_board.specs.Reaching.{joined}
+use Rattle.go_board.specs.Reaching.{has_colour, joined}
 use Rattle.go_board.specs.Rows.{IsIn}
 
--- each point of the set has a stone before k in its chain
+-- q holds a stone that has one before k in its chain
+abbrev pub HasBefore : ℕ → Colouring → ℕ → ℕ → Type 0
+HasBefore n g k q = (p : ℕ) × (p < k) × IsTrue (joined n g q p) × IsTrue (not (has_colour g q None))
+
+-- of the points of the board, the set has the stones that have one before k in their chain
 abbrev pub AreTold : ℕ → Colouring → ℕ → List ℕ → Type 0
-AreTold n g k told = (q : Point) → IsOn n q → IsIn told q.row q.col → (p : ℕ) × (p < k) × IsTrue (joined n g (number_of n q) p)
+AreTold n g k told = (q : Point) → IsOn n q → IsIn told q.row q.col ↔ HasBefore n g k (number_of n q)
 
 -- the set gains these points
 abbrev pub TellsAll : List Point → List ℕ → List ℕ → Type 0
 TellsAll points told told' = (q : Point) → IsIn told' q.row q.col ↔ (Contains points q ⊎ IsIn told q.row q.col)
 
--- the set gains no other points of the board than those of p's chain
+-- of the points of the board, the set gains those of p's chain
 abbrev pub TellsChain : ℕ → Colouring → ℕ → List ℕ → List ℕ → Type 0
-TellsChain n g p told told' = (q : Point) → IsOn n q → IsIn told' q.row q.col → IsTrue (joined n g p (number_of n q)) ⊎ IsIn told q.row q.col
+TellsChain n g p told told' = (q : Point) → IsOn n q → IsIn told' q.row q.col ↔ (IsTrue (joined n g p (number_of n q)) ⊎ IsIn told q.row q.col)

@@ -1,29 +1,23 @@
-use Rattle.std.proofs.Common.{◌∙◌, ◌&&◌, not, [], refl, sym, ap, Option, None}
-use Rattle.std.specs.List.{list_any}
+use Rattle.std.proofs.Common.{◌≡◌, ◌∙◌, not, true, refl, sym, ap, Option, None, Some}
+use Rattle.std.specs.Prelude.{is_some}
 use Rattle.go_board.specs.declared.colour.Colour.{Colour}
-use Rattle.go_board.specs.contracts.point.PointPartialEq.TheImpl.{eq-value}
+use Rattle.go_board.specs.Colours.{colour_at}
 use Rattle.go_board.specs.Points.{number_of}
-use Rattle.go_board.specs.Reaching.{is_same, joined, points}
+use Rattle.go_board.specs.Reaching.{is_same}
 use Rattle.go_game.specs.Standings.{board_of}
-use Rattle.goref_results.proofs.Earlier.{first_is, is_earlier}
-use Rattle.goref_results.proofs.Telling.{told_is_no_first}
+use Rattle.goref_results.proofs.Telling.{first_untold}
 use Rattle.goref_results.proofs.chain_lines.is_first.Goals as goal
 
-pub returns-in-Some-2 : goal.returns-in-Some-2
-returns-in-Some-2 g c =
-    let s = c.args.game.now.standing in
-    let n = s.lines in
-    let p = number_of n c.args.at in
-    let test = joined n (board_of s) p in
-    let on = c.points_by_number.ensures.number n c.args.at c.requires.on in
-    let here = (c.joined_by_a_path.ensures n (board_of s) p p on).1 ([], refl) in
-    c.eq.ensures
-    ∙ first_is n test c.args.at eq-value.it (λ a b. refl) on (c.points_by_number.ensures.back n c.args.at c.requires.on) (c.points_by_number.ensures.same n) here
-    c.next.result c.chain_points.result c.next.new.self c.next.ensures.steps c.chain_points.ensures
-    ∙ ap (λ (o : Option Colour). not (is_same o None) && not (list_any (is_earlier test n p) (points n))) (sym c.in-Some.is ∙ c.colour_at.ensures)
+is_stone : (o : Option Colour) → is_some o ≡ true → not (is_same o None) ≡ true
+is_stone None e = e
+is_stone (Some c) e = refl
 
-pub returns-in-Some : goal.returns-in-Some
-returns-in-Some g c =
+pub returns-then-is_some : goal.returns-then-is_some
+returns-then-is_some g c =
     let s = c.args.game.now.standing in
-    let told = c.requires.told c.args.at c.requires.on (rw (c.from-row.ensures, c.from-col.ensures) at c.has_place.ensures.0 c.if-has_place.true) in
-    sym (told_is_no_first s.lines (board_of s) (number_of s.lines c.args.at) told.0 (c.points_by_number.ensures.number s.lines c.args.at c.requires.on) told.1 told.2)
+    let k = number_of s.lines c.args.at in
+    let stone = is_stone (colour_at (board_of s) k) (ap is_some (sym c.colour_at.ensures) ∙ sym c.is_some.ensures ∙ c.if-is_some.true) in
+    let placed = rw (c.from-row.ensures, c.from-col.ensures) at c.has_place.ensures in
+    let are = c.requires.told c.args.at c.requires.on in
+    first_untold s.lines (board_of s) k c.has_place.result (c.points_by_number.ensures.number s.lines c.args.at c.requires.on) stone
+    (λ told. are.0 (placed.0 told), λ before. placed.1 (are.1 before))

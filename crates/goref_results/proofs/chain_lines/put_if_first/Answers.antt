@@ -17,9 +17,10 @@ pub returns-then-is_first-clause-told : goal.returns-then-is_first-clause-told
 returns-then-is_first-clause-told g c =
     let s = c.args.game.now.standing in
     let k = number_of s.lines c.args.at in
-    chain_told c.joined_by_a_path.ensures c.points_by_number.ensures s.lines (board_of s) k c.args.told.now c.put_chain.new.told (c.points_by_number.ensures.number s.lines c.args.at c.requires.on) c.requires.told c.put_chain.ensures.told
+    chain_told c.joined_by_a_path.ensures c.points_by_number.ensures s.lines (board_of s) k (c.points_by_number.ensures.number s.lines c.args.at c.requires.on) c.args.told.now c.put_chain.new.told (sym c.is_first.ensures ∙ c.if-is_first.true) c.requires.told c.put_chain.ensures.told
 
 pub returns-clause-told : goal.returns-clause-told
 returns-clause-told g c =
     let s = c.args.game.now.standing in
-    told_later s.lines (board_of s) (number_of s.lines c.args.at) c.args.told.now c.requires.told
+    let k = number_of s.lines c.args.at in
+    told_later c.joined_by_a_path.ensures c.points_by_number.ensures s.lines (board_of s) k (c.points_by_number.ensures.number s.lines c.args.at c.requires.on) c.args.told.now (sym c.is_first.ensures ∙ c.if-is_first.false) c.requires.told
