@@ -44,7 +44,7 @@ pub const JOBS: &[Job] = &[
     Job {
         name: "choices",
         kind: Kind::Answers(Script::Choices),
-        times: 200,
+        times: 520,
     },
     Job {
         name: "questions",
