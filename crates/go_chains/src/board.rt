@@ -1,4 +1,4 @@
-ghost use Rattle.std.specs.Prelude.{◌≡◌, ◌<◌, ◌≤◌, ◌+◌, ◌*◌, ◌/◌, ◌++◌, ◌∷◌, ◌↔◌, ℕ, [], List, None, IfOk, IfSome, IsErrOf, IsTrue, OnErr, OnOk, Some, drop, length, replicate, slice_index, slice_set};
+ghost use Rattle.std.specs.Prelude.{◌≡◌, ◌<◌, ◌≤◌, ◌+◌, ◌*◌, ◌/◌, ◌++◌, ◌∷◌, ◌↔◌, ℕ, [], List, None, IfOk, IsErrOf, IsTrue, OnErr, OnOk, Some, drop, length, replicate, slice_index, slice_set};
 ghost use Rattle.std.specs.Int.{bit_at};
 ghost use Rattle.go_board.specs.Chains.{liberties};
 ghost use Rattle.go_board.specs.Colours.{colour_at, other};
@@ -25,7 +25,7 @@ use crate::cells::{Cells, LABELS, SIZES, WORDS, with_code, word_place};
 use crate::chain_points::{ChainPoints, Part};
 use crate::error::PlaceError;
 use crate::log::{Log, reserve_play, seal};
-use crate::marks::{liberties_of, ring_of};
+use crate::marks::{liberties_of, lowest_on_ring, ring_of};
 use crate::masks::mask_of;
 use crate::occupy::Words;
 use crate::place::{ROOM, place};
@@ -339,40 +339,26 @@ impl Board {
         liberties_of(&self.cells, self.size(), label)
     }
 
-    /// The first point of a part of the chain of a stone, where labels tell it soon.
-    pub(crate) fn first_told(&self, part: Part, p: Point) -> Option<u16>
+    /// The first stone of the chain of a stone. As many of the board's first points as the chain has
+    /// stones are asked for their label, before its ring is walked.
+    pub(crate) fn first_stone(&self, p: Point) -> u16
         requires on { IsOn self.now.lines p }
         requires stone { HoldsStone self.now p }
-        ensures first { IfSome result (λ q. points_of self.now part p
-            ≡ point_at self.now.lines q ∷ drop 1 (points_of self.now part p)) }
-        ensures on { IfSome result (λ q. q < self.now.lines * self.now.lines) }
-    {
-        match part {
-            Part::Stones => self.first_stone(p),
-            Part::Liberties => None,
-        }
-    }
-
-    /// The first stone of the chain of a stone, where it is among as many of the board's first points
-    /// as the chain has stones: to walk its ring takes as many steps.
-    fn first_stone(&self, p: Point) -> Option<u16>
-        requires on { IsOn self.now.lines p }
-        requires stone { HoldsStone self.now p }
-        ensures first { IfSome result (λ q. chain_stones (shown self.now) p
-            ≡ point_at self.now.lines q ∷ drop 1 (chain_stones (shown self.now) p)) }
-        ensures on { IfSome result (λ q. q < self.now.lines * self.now.lines) }
+        ensures first { chain_stones (shown self.now) p
+            ≡ point_at self.now.lines result ∷ drop 1 (chain_stones (shown self.now) p) }
+        ensures on { result < self.now.lines * self.now.lines }
     {
         points_by_number();
         joined_by_a_path();
         let mut meter = Meter::new();
         let label = self.label_at(p, &mut meter);
         let stones = self.cells.get(SIZES + label, &mut meter) as usize;
-        for number in 0..stones.min(usize::from(self.size().points())) {
+        for number in 0..stones {
             if self.has_label(number, label) {
-                return Some(number as u16);
+                return number as u16;
             }
         }
-        None
+        lowest_on_ring(&self.cells, usize::from(p.index(self.size)), stones) as u16
     }
 
     /// Whether a point holds a stone with this label.

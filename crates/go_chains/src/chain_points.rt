@@ -23,7 +23,7 @@ pub(crate) enum Part {
 enum Given {
     /// None was asked for.
     Nothing,
-    /// The first stone, which its label told. The words have no points yet.
+    /// The first stone. The words have no points yet.
     First,
     /// Those before the one with this number, from the words.
     Before(u16),
@@ -70,23 +70,15 @@ impl<'a> ChainPoints<'a> {
             given: Given::Nothing,
         }
     }
-}
 
-impl<'a> Iterator for ChainPoints<'a> {
-    type Item = Point;
-
-    ghost next_gives = { YieldsFirst (λ points. points) };
-
-    ghost remaining = { item_count (λ points. points) };
-
-    fn next(&mut self) -> Option<Point> {
+    /// The next point, by the words, which get the points first where they have none yet.
+    #[inline(never)]
+    fn next_marked(&mut self) -> Option<Point>
+        ensures { YieldsFirst (λ points. points) self.old result self.new }
+    {
         let size = self.board.size();
         let first = match self.given {
             Given::Nothing => {
-                if let Some(number) = self.board.first_told(self.part, self.stone) {
-                    self.given = Given::First;
-                    return Some(Point::numbered(size, number));
-                }
                 self.points = self.board.marked(self.part, self.stone);
                 0
             }
@@ -99,5 +91,25 @@ impl<'a> Iterator for ChainPoints<'a> {
         let number = next_in(&self.points, size, first)?;
         self.given = Given::Before(number + 1);
         Some(Point::numbered(size, number))
+    }
+}
+
+impl<'a> Iterator for ChainPoints<'a> {
+    type Item = Point;
+
+    ghost next_gives = { YieldsFirst (λ points. points) };
+
+    ghost remaining = { item_count (λ points. points) };
+
+    #[inline]
+    fn next(&mut self) -> Option<Point> {
+        match (self.given, self.part) {
+            (Given::Nothing, Part::Stones) => {
+                self.given = Given::First;
+                let number = self.board.first_stone(self.stone);
+                Some(Point::numbered(self.board.size(), number))
+            }
+            _ => self.next_marked(),
+        }
     }
 }

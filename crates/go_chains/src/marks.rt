@@ -53,6 +53,23 @@ pub(crate) fn ring_of(cells: &Cells, from: usize, stones: usize) -> Words
     words
 }
 
+/// The lowest of so many points along a ring.
+pub(crate) fn lowest_on_ring(cells: &Cells, from: usize, points: usize) -> usize
+    requires from { from < MAX_POINTS }
+    requires on { (i : ℕ) → i < points → steps (next_of cells.now.numbers) i from < MAX_POINTS }
+    ensures on { (result ≡ from) ⊎ IsOnRing (next_of cells.now.numbers) points from result }
+    ensures lowest { (q : ℕ) → IsOnRing (next_of cells.now.numbers) points from q → result ≤ q }
+{
+    let mut meter = Meter::new();
+    let mut lowest = from;
+    let mut at = from;
+    for _ in 0..points {
+        lowest = lowest.min(at);
+        at = cells.get(LINKS + at, &mut meter) as usize;
+    }
+    lowest
+}
+
 /// Adds a label's liberties to words.
 pub(crate) fn add_liberties(
     cells: &Cells,

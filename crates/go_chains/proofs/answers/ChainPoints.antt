@@ -29,6 +29,13 @@ module _ (test : ℕ → Bool) where
   pub passing-first : (count k : ℕ) → k < count → test k ≡ true → passing count k ≡ k ∷ passing count (k + 1)
   passing-first count k low e = one_more count k true low e
 
+  -- numbers that don't pass are passed over
+  pub passing-past : (count k d : ℕ) → k + d ≤ count → ((q : ℕ) → k ≤ q → q < k + d → test q ≡ false) → passing count (k + d) ≡ passing count k
+  passing-past count k zero low out = let e : k + zero ≡ k = omega arith in ap (passing count) e
+  passing-past count k (suc d) low out =
+      let e : k + suc d ≡ k + d + 1 = omega arith in
+      ap (passing count) e ∙ passing-over count (k + d) (omega arith) (out (k + d) (omega arith) (omega arith)) ∙ passing-past count k d (omega arith) (λ q from to. out q from (omega arith))
+
   pub passing-end : (count k : ℕ) → count ≤ k → passing count k ≡ []
   passing-end count k past = let none : count - k ≡ 0 = omega arith in ap (λ m. filter test (range_with_len k m)) none
 
@@ -136,12 +143,14 @@ left-all n words test same =
     ap (λ m. map (point_at n) (filter (is_marked words) (range_with_len 0 m))) len
     ∙ ap (map (point_at n)) (alike (is_marked words) test 0 (n * n) (λ q low high. same q (omega arith)))
 
--- the first of the points that pass a test, where one that is told is the first that is
-pub first-told : (n : ℕ) (told test : ℕ → Bool) (q : ℕ) → ((k : ℕ) → k < n * n → told k ≡ test k) → q < n * n → told q ≡ true
-    → passing told (n * n) q ≡ passing told (n * n) 0 → map (point_at n) (filter test (points n)) ≡ point_at n q ∷ drop 1 (map (point_at n) (filter test (points n)))
-first-told n told test q same low is none =
+-- the first of the points that pass a test
+pub first-is : (n : ℕ) (test : ℕ → Bool) (q : ℕ) → q < n * n → test q ≡ true → ((k : ℕ) → k < q → test k ≡ false)
+    → map (point_at n) (filter test (points n)) ≡ point_at n q ∷ drop 1 (map (point_at n) (filter test (points n)))
+first-is n test q low passes none =
     let len : n * n - 0 ≡ n * n = omega arith in
-    let whole : filter told (range_with_len 0 (n * n - 0)) ≡ filter test (points n) = ap (λ m. filter told (range_with_len 0 m)) len ∙ alike told test 0 (n * n) (λ k from to. same k (omega arith)) in
-    let split : filter test (points n) ≡ q ∷ passing told (n * n) (q + 1) = sym whole ∙ sym none ∙ passing-first told (n * n) q low is in
+    let from_0 : 0 + q ≡ q = omega arith in
+    let past = passing-past test (n * n) 0 q (omega (arith, low)) (λ k from to. none k (omega (arith, to))) in
+    let split : filter test (points n) ≡ q ∷ passing test (n * n) (q + 1) =
+    ap (λ m. filter test (range_with_len 0 m)) (sym len) ∙ sym past ∙ ap (passing test (n * n)) from_0 ∙ passing-first test (n * n) q low passes in
     let mapped = ap (map (point_at n)) split in
     mapped ∙ sym (ap (λ ps. point_at n q ∷ drop 1 ps) mapped)

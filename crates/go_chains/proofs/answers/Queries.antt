@@ -3,7 +3,7 @@ use Rattle.std.specs.Prelude.{◌↔◌, Option, None, Some, replicate}
 use Rattle.go_board.specs.Laws.{JoinedByPath, LibertyByPath}
 use Rattle.go_board.specs.lemmas.Squares.{square-le}
 use Rattle.std.specs.Int.{bit_at}
-use Rattle.std.proofs.Common.{ℕ, ◌+◌, ◌*◌, ◌/◌, ◌%◌, ◌^◌, ◌<◌, ◌≤◌, ◌≡◌, ◌++◌, ◌∷◌, [], refl, sym, ap, subst, ◌∙◌, arith, inl, inr, Bool, true, false, List, length, nat_eq, bit_and, get_or}
+use Rattle.std.proofs.Common.{ℕ, ◌+◌, ◌*◌, ◌/◌, ◌%◌, ◌^◌, ◌<◌, ◌≤◌, ◌≡◌, ◌++◌, ◌⊎◌, ◌∷◌, [], refl, sym, ap, subst, ◌∙◌, arith, inl, inr, Bool, true, false, List, length, nat_eq, bit_and, get_or}
 use Rattle.std.proofs.lemmas.Bool.{cases_lt, eq-eqb, eqb-true, false_from_ne_true}
 use Rattle.std.proofs.lemmas.List.{ext_get_or, get_or-replicate, get_or_past, length-replicate}
 use Rattle.std.proofs.lemmas.List.FromFn.{length-range_with_len}
@@ -85,18 +85,42 @@ module _ (n : ℕ) (cells : List ℕ) (kept : IsKept n cells) where
       let far = far-kept p q stone j in
       omega (arith, far, points-kept)
 
-  -- a point on the ring of a stone is in its chain
+  -- the points on the ring of a stone are those of its chain
+  pub on_ring : JoinedByPath → (p q l : ℕ) → IsStoneOf (colouring_of n cells) p → l ≡ label_of cells p
+      → IsOnRing (next_of cells) (size_of cells l) p q ↔ (joined n (colouring_of n cells) p q ≡ true)
+  on_ring by p q l stone l_is =
+      let m = size_of cells (label_of cells p) in
+      let list = (kept.sound.rings p stone).1 q in
+      let path = by n (colouring_of n cells) p q (stone-kept n cells kept p stone).0 in
+      let e = ap (size_of cells) l_is in (
+        λ on. path.1 (list.0 (Contains-IsOn (next_of cells) m p q (subst (λ k. IsOnRing (next_of cells) k p q) e on))),
+        λ t. subst (λ k. IsOnRing (next_of cells) k p q) (sym e) (IsOn-Contains (next_of cells) m p q (list.1 (path.0 t))),
+      )
+
+  -- the lowest point on the ring of a stone is the first of its chain
+  pub lowest_is : JoinedByPath → (p l r : ℕ) → IsStoneOf (colouring_of n cells) p → l ≡ label_of cells p
+      → (r ≡ p) ⊎ IsOnRing (next_of cells) (size_of cells l) p r → ((q : ℕ) → IsOnRing (next_of cells) (size_of cells l) p q → r ≤ q)
+      → (r < n * n) × (joined n (colouring_of n cells) p r ≡ true) × ((k : ℕ) → k < r → joined n (colouring_of n cells) p k ≡ false)
+  lowest_is by p l r stone l_is on lowest =
+      let g = colouring_of n cells in
+      let p_in = (stone-kept n cells kept p stone).0 in
+      let one : joined n g p r ≡ true = elim on [
+        | inl is ↦ ap (joined n g p) is ∙ (by n g p p p_in).1 ([], refl)
+        | inr ring ↦ (on_ring by p r l stone l_is).0 ring
+      ] in (
+        far-kept p r stone ((by n g p r p_in).0 one),
+        one,
+        λ k less. false_from_ne_true (joined n g p k) (λ t. (let past = lowest k ((on_ring by p k l stone l_is).1 t) in absurd (omega (arith, less, past)))),
+      )
+
   pub ring_answers : JoinedByPath → (p q l : ℕ) (words : List ℕ) → IsStoneOf (colouring_of n cells) p → l ≡ label_of cells p
       → (mask_bit words q ≡ 1) ↔ IsOnRing (next_of cells) (size_of cells l) p q
       → nat_eq (mask_bit words q) 1 ≡ joined n (colouring_of n cells) p q
   ring_answers by p q l words stone l_is marked =
-      let m = size_of cells (label_of cells p) in
-      let list = (kept.sound.rings p stone).1 q in
-      let path = by n (colouring_of n cells) p q (stone-kept n cells kept p stone).0 in
-      let e = ap (size_of cells) l_is in
+      let ring = on_ring by p q l stone l_is in
       same_answer (nat_eq (mask_bit words q) 1) (joined n (colouring_of n cells) p q)
-      (λ t. path.1 (list.0 (Contains-IsOn (next_of cells) m p q (subst (λ k. IsOnRing (next_of cells) k p q) e (marked.0 (eqb-true (mask_bit words q) 1 t))))))
-      (λ t. eq-eqb (mask_bit words q) 1 (marked.1 (subst (λ k. IsOnRing (next_of cells) k p q) (sym e) (IsOn-Contains (next_of cells) m p q (list.1 (path.0 t))))))
+      (λ t. ring.0 (marked.0 (eqb-true (mask_bit words q) 1 t)))
+      (λ t. eq-eqb (mask_bit words q) 1 (marked.1 (ring.1 t)))
 
   pub size_counts : JoinedByPath → (p l : ℕ) → IsStoneOf (colouring_of n cells) p → l ≡ label_of cells p
       → size_of cells l ≡ length (members n (colouring_of n cells) p)
@@ -110,12 +134,18 @@ module _ (n : ℕ) (cells : List ℕ) (kept : IsKept n cells) where
       (λ q q_in t. (lists.1 q).1 ((by n g p q p_in).0 t)) in
       ap (size_of cells) l_is ∙ sym (length-ring_from (next_of cells) (size_of cells (label_of cells p)) p) ∙ sym as_many
 
-  pub size_few : JoinedByPath → (p l : ℕ) → IsStoneOf (colouring_of n cells) p → l ≡ label_of cells p → size_of cells l ≤ MAX_POINTS
-  size_few by p l stone l_is =
+  -- a chain has no more stones than the board has points
+  pub size_fits : JoinedByPath → (p l : ℕ) → IsStoneOf (colouring_of n cells) p → l ≡ label_of cells p → size_of cells l ≤ n * n
+  size_fits by p l stone l_is =
       let test = joined n (colouring_of n cells) p in
       let e = size_counts by p l stone l_is in
-      let few = points-kept in
       omega (arith, length-filter test (points n), count_by-le-length test (points n), length-range_with_len 0 (n * n))
+
+  pub size_few : JoinedByPath → (p l : ℕ) → IsStoneOf (colouring_of n cells) p → l ≡ label_of cells p → size_of cells l ≤ MAX_POINTS
+  size_few by p l stone l_is =
+      let fits = size_fits by p l stone l_is in
+      let few = points-kept in
+      omega arith
 
   pub liberty_answers : LibertyByPath → (p q l : ℕ) → IsStoneOf (colouring_of n cells) p → q < n * n → l ≡ label_of cells p
       → nat_eq (lib_of cells l q) 1 ≡ is_liberty_of n (colouring_of n cells) p q
