@@ -1,8 +1,8 @@
 -- What is seen of many bytes at once.
-use Rattle.std.proofs.Common.{◌≡◌, ◌≢◌, ℕ, ◌<◌, ◌+◌, ◌≤◌, ◌%◌, ◌^◌, ◌||◌, not, Bool, true, false, cond, eqb, inl, inr, List, [], ◌∷◌, map, length, replicate, refl, sym, ap, ap₂, ◌∙◌, arith}
+use Rattle.std.proofs.Common.{◌≡◌, ◌≢◌, ℕ, ◌<◌, ◌+◌, ◌-◌, ◌≤◌, ◌%◌, ◌^◌, ◌||◌, not, Bool, true, false, cond, eqb, inl, inr, List, [], ◌∷◌, map, length, drop, get_or, replicate, refl, sym, ap, ap₂, ◌∙◌, length-drop, arith}
 use Rattle.std.proofs.lemmas.Bool.{cases_Bool, cases_lt, true≢false}
 use Rattle.std.proofs.lemmas.Simd.{zip2_splat, mask_l-mod, length-chunk, trailing_mask_l, run_in_chunk_fails, run_in_chunk_stops, none_from_empty_mask}
-use Rattle.std.proofs.lemmas.List.{length-map}
+use Rattle.std.proofs.lemmas.List.{get_or-drop, length-map}
 use Rattle.std.specs.List.{prefix_len}
 use Rattle.memchr.specs.Find.{Nowhere, NoneBefore, Passes, is_byte2}
 use lib.Bits.{bit_or}
@@ -69,3 +69,22 @@ none_from p xs i found room is empty before k low high passes = elim (cases_lt k
   | inl below ↦ before k low below passes
   | inr above ↦ true≢false (sym passes ∙ none_from_empty_mask p xs i 16 0 room (sym is ∙ empty) k above high)
 ]
+
+-- the place of the first byte that passes, from that among the bytes behind a place up to which none passes
+pub first_behind : (p : ℕ → Bool) (xs : List ℕ) (i k : ℕ) → i ≤ length xs → Nowhere (Passes p xs) 0 i →
+    NoneBefore (Passes p (drop i xs)) 0 (length (drop i xs)) k × Passes p (drop i xs) k →
+    NoneBefore (Passes p xs) 0 (length xs) (i + k) × Passes p xs (i + k)
+first_behind p xs i k within before found = (
+  record {
+    low = omega arith;
+    high = omega (arith, found.0.high, length-drop i xs);
+    before = λ m low high passes. elim (cases_lt m i) [
+      | inl below ↦ before m low below passes
+      | inr above ↦
+          let same : i + (m - i) ≡ m = omega (arith, above) in
+          found.0.before (m - i) (omega arith) (omega (arith, high, above))
+          (ap p (get_or-drop i xs (m - i) 0 ∙ ap (λ j. get_or xs j 0) same) ∙ passes)
+    ];
+  },
+  ap p (sym (get_or-drop i xs k 0)) ∙ found.1,
+)
