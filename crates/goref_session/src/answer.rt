@@ -1,4 +1,4 @@
-ghost use Rattle.std.specs.Prelude.{◌≡◌, ◌≤◌, ◌+◌, ◌++◌, codes, decimal, length};
+ghost use Rattle.std.specs.Prelude.{◌≡◌, ◌++◌, codes};
 ghost use Rattle.go_board.specs.Device.{Sent, failures_after};
 ghost use Rattle.go_board.specs.Pens.{Writes};
 ghost use Rattle.goref_session.specs.Replies.{decision_text, fact_text, id_text, refusal_text};
@@ -7,15 +7,11 @@ ghost use Rattle.goref_results.specs.Results.{result_text};
 use crate::commands::play::put_choice;
 use crate::commands::telling::{put_topic, put_truth};
 use crate::decision::{Decision, Fact, Refusal};
-use arrayvec::ArrayVec;
 use go_board::{Pen, Sink, WriteFault};
 use go_game::Game;
 use goref_results::{put_places, put_plays};
 use itoa::Buffer;
 use std::alloc::Allocator;
-
-/// The most bytes of an answer that has an id and no result.
-const EMPTY_LEN: usize = 13;
 
 /// Writes the answer with this id by a decision over the game. On a fault what was written is a
 /// front of the answer.
@@ -53,30 +49,12 @@ fn put_answer<A: Allocator + Copy, W: Sink>(
 fn put_empty<W: Sink>(id: Option<u32>, pen: &mut Pen<'_, W>)
     ensures { Writes W.Sink pen.old pen.new (codes "=" ++ (id_text id ++ codes "\n\n")) }
 {
-    match id {
-        Some(id) => pen.put(empty_answer(id).as_slice()),
-        None => pen.put(b"=\n\n"),
+    if id.is_none() {
+        return pen.put(b"=\n\n");
     }
-}
-
-/// The answer that has this id and no result: it is written as one piece.
-fn empty_answer(id: u32) -> ArrayVec<u8, EMPTY_LEN>
-    ensures { result.items ≡ codes "=" ++ (decimal id ++ codes "\n\n") }
-{
-    let mut text = ArrayVec::new();
-    append(&mut text, b"=");
-    append(&mut text, Buffer::new().format(id).as_bytes());
-    append(&mut text, b"\n\n");
-    text
-}
-
-fn append(text: &mut ArrayVec<u8, EMPTY_LEN>, bytes: &[u8])
-    requires { length text.old.items + length bytes.now ≤ EMPTY_LEN }
-    ensures { text.new.items ≡ text.old.items ++ bytes.now }
-{
-    match text.try_extend_from_slice(bytes) {
-        Ok(()) | Err(_) => {}
-    }
+    pen.put(b"=");
+    put_id(id, pen);
+    put_end(pen);
 }
 
 fn put_told<A: Allocator + Copy, W: Sink>(

@@ -1,0 +1,5 @@
+use Rattle.go_board.specs.lemmas.Writing.{writes_writes}
+use Rattle.goref_session.proofs.answer.put_empty.Goals as goal
+
+pub returns : goal.returns
+returns g c = writes_writes c.put-2.ensures (writes_writes c.put_id.ensures c.put_end.ensures)
