@@ -1,7 +1,7 @@
 ghost use Rattle.std.specs.Prelude.{◌≡◌, ◌≢◌, ◌≤◌, ◌<◌, ◌+◌, ◌^◌, ◌++◌, ℕ, [], IfNone, IfSome, Some, None, false, length};
 ghost use Rattle.go_sgf.specs.inner.Tidied.{StaysTo, behind_from, is_left_out_first, tidied_from};
 
-use crate::scan::{is_left_out, is_upper, strip};
+use crate::scan::{is_left_out, is_upper};
 use crate::values::value;
 
 /// What stands at the front of a tree's text just as it is written, what follows that, and how many
@@ -32,8 +32,7 @@ pub(crate) fn verbatim(text: &[u8], depth: usize) -> Option<(&[u8], &[u8], usize
     Some((front, rest, there))
 }
 
-/// What follows a byte that is written, or a whole value with the capital letter before it where there
-/// is one, and how many trees are open there.
+/// What follows a byte that is written, or a whole value, and how many trees are open there.
 #[inline]
 fn behind_next(text: &[u8], depth: usize) -> Option<(&[u8], usize)>
     requires { depth + length text.now ≤ 2 ^ 63 }
@@ -51,11 +50,8 @@ fn behind_next(text: &[u8], depth: usize) -> Option<(&[u8], usize)>
     if *byte == b'[' {
         return Some((behind_value(more), depth));
     }
-    if *byte == b';' {
+    if *byte == b';' || is_upper(*byte) {
         return Some((more, depth));
-    }
-    if is_upper(*byte) {
-        return Some((behind_bracket(more), depth));
     }
     if is_left_out(*byte) {
         return None;
@@ -64,18 +60,6 @@ fn behind_next(text: &[u8], depth: usize) -> Option<(&[u8], usize)>
         b'(' => Some((more, depth + 1)),
         b')' => Some((more, depth - 1)),
         _ => Some((more, depth)),
-    }
-}
-
-/// What follows a value from its `[` on, where that is the first byte.
-#[inline]
-fn behind_bracket(text: &[u8]) -> &[u8]
-    ensures stays { (d : ℕ) → d ≢ 0 → StaysTo None d text.now d result.now }
-    ensures shorter { length result.now ≤ length text.now }
-{
-    match strip(text, b'[') {
-        Some(inside) => behind_value(inside),
-        None => text,
     }
 }
 

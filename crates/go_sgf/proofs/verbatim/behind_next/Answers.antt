@@ -1,6 +1,7 @@
 use Rattle.std.proofs.Common.{◌≢◌, sym, arith}
-use Rattle.go_sgf.proofs.Passed.{bracket_stays, closing_stays, opening_stays, other_stays, semicolon_stays, stays_on, upper_stays}
+use Rattle.go_sgf.proofs.Passed.{bracket_stays, closing_stays, opening_stays, other_stays, semicolon_stays, upper_stays}
 use Rattle.go_sgf.proofs.verbatim.behind_next.Goals as goal
+use Rattle.go_sgf.proofs.verbatim.behind_next.Goals.{then-byte-eq59-via-then-byte-eq59, then-byte-eq59-via-else-byte-eq59+then-is_upper}
 
 pub returns-then-byte-eq91-clause-stays : goal.returns-then-byte-eq91-clause-stays
 returns-then-byte-eq91-clause-stays c =
@@ -9,13 +10,12 @@ returns-then-byte-eq91-clause-stays c =
 
 pub returns-then-byte-eq59-clause-stays : goal.returns-then-byte-eq59-clause-stays
 returns-then-byte-eq59-clause-stays c =
-    rw c.in_ok-byte.ensures.cases.0 (semicolon_stays c.args.depth c.in_ok-byte.byte.now c.in_ok-byte.more.now c.if-depth-eq0.false c.if-byte-eq59.true)
-
-pub returns-then-is_upper-clause-stays : goal.returns-then-is_upper-clause-stays
-returns-then-is_upper-clause-stays c =
+    let more = c.in_ok-byte.more.now in
     rw c.in_ok-byte.ensures.cases.0
-    (stays_on (upper_stays c.args.depth c.in_ok-byte.byte.now c.in_ok-byte.more.now c.if-depth-eq0.false (sym c.if-is_upper.ensures))
-    (c.behind_bracket.ensures.stays c.args.depth c.if-depth-eq0.false))
+    (elim c.then-byte-eq59.branch [
+      | then-byte-eq59-via-then-byte-eq59 w ↦ semicolon_stays c.args.depth c.in_ok-byte.byte.now more c.if-depth-eq0.false w.if-byte-eq59.true
+      | then-byte-eq59-via-else-byte-eq59+then-is_upper w ↦ upper_stays c.args.depth c.in_ok-byte.byte.now more c.if-depth-eq0.false (sym w.if-is_upper.ensures)
+    ])
 
 pub returns-in-40-clause-stays : goal.returns-in-40-clause-stays
 returns-in-40-clause-stays c =
