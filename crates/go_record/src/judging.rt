@@ -43,7 +43,9 @@ fn compared(stated: Option<i64>, margin: i64) -> Stated
     }
 }
 
-/// The margin that a record states, on Black's side.
+/// The margin that a record states, on Black's side. It stays out of `judge`, where it would hide from
+/// the compiler that what a game is moved out of needn't be emptied.
+#[inline(never)]
 fn margin_stated<A: Allocator + Copy>(
     alloc: A,
     collection: &Collection<'_, A>,
