@@ -24,6 +24,8 @@ mod memory;
 #[cfg(test)]
 mod needs;
 #[cfg(test)]
+mod pieces;
+#[cfg(test)]
 mod plays;
 #[cfg(test)]
 mod refused_loads;
