@@ -61,13 +61,9 @@ impl<'a> Words<'a> {
 pub(crate) fn word(text: &[u8], place: usize) -> Option<&[u8]>
     ensures { option_copied result ≡ slice_get (words text.now) place }
 {
-    let mut words = Words::of(text);
-    let mut left = place;
-    while left > 0 {
-        words.next_word()?;
-        left -= 1;
-    }
-    words.next_word()
+    text.split(|byte| *byte == b' ')
+        .filter(|word| !word.is_empty())
+        .nth(place)
 }
 
 /// How many spaces a text begins with.
