@@ -1,4 +1,4 @@
-ghost use Rattle.std.specs.Prelude.{◌≡◌, ◌<◌, ◌≤◌, ◌+◌, ◌*◌, ◌/◌, ◌++◌, ◌∷◌, ◌↔◌, ℕ, [], List, None, IfOk, IsErrOf, IsTrue, OnErr, OnOk, Some, drop, length, replicate, slice_index, slice_set};
+ghost use Rattle.std.specs.Prelude.{◌≡◌, ◌<◌, ◌≤◌, ◌+◌, ◌*◌, ◌/◌, ◌++◌, ◌∷◌, ◌↔◌, if◌then◌else◌, ℕ, [], List, None, IfOk, IsErrOf, IsTrue, OnErr, OnOk, Some, drop, length, replicate, slice_index, slice_set};
 ghost use Rattle.std.specs.Int.{bit_at};
 ghost use Rattle.go_board.specs.Chains.{liberties};
 ghost use Rattle.go_board.specs.Colours.{colour_at, other};
@@ -25,7 +25,7 @@ use crate::cells::{Cells, LABELS, SIZES, WORDS, with_code, word_place};
 use crate::chain_points::{ChainPoints, Part};
 use crate::error::PlaceError;
 use crate::log::{Log, reserve_play, seal};
-use crate::marks::{liberties_of, lowest_on_ring, ring_of};
+use crate::marks::{liberties_of, lowest_on_ring, next_in, ring_of};
 use crate::masks::mask_of;
 use crate::occupy::Words;
 use crate::place::{ROOM, place};
@@ -297,16 +297,27 @@ impl Board {
         ChainPoints::new(self, p, Part::Liberties)
     }
 
-    /// The points of a part of the chain of a stone, as words.
-    pub(crate) fn marked(&self, part: Part, p: Point) -> Words
+    /// Puts the points of a part of the chain of a stone into words, and gives the number from which
+    /// on they are to come: the one behind the first point, where that was passed. It stays out of
+    /// the loop that walks over the words, which is short without it.
+    #[inline(never)]
+    pub(crate) fn mark(&self, part: Part, p: Point, passed: bool, words: &mut Words) -> u16
         requires on { IsOn self.now.lines p }
         requires stone { HoldsStone self.now p }
-        ensures points { points_left self.now.lines result 0 ≡ points_of self.now part p }
-        ensures words { length result ≡ WORDS }
+        ensures points { points_left self.now.lines words.new result
+            ≡ (if passed then drop 1 (points_of self.now part p) else points_of self.now part p) }
+        ensures words { length words.new ≡ WORDS }
     {
-        match part {
+        *words = match part {
             Part::Stones => self.marked_stones(p),
             Part::Liberties => self.marked_liberties(p),
+        };
+        if !passed {
+            return 0;
+        }
+        match next_in(words, self.size, 0) {
+            Some(first) => first + 1,
+            None => 0,
         }
     }
 
@@ -341,6 +352,7 @@ impl Board {
 
     /// The first stone of the chain of a stone. As many of the board's first points as the chain has
     /// stones are asked for their label, before its ring is walked.
+    #[inline]
     pub(crate) fn first_stone(&self, p: Point) -> u16
         requires on { IsOn self.now.lines p }
         requires stone { HoldsStone self.now p }

@@ -70,28 +70,6 @@ impl<'a> ChainPoints<'a> {
             given: Given::Nothing,
         }
     }
-
-    /// The next point, by the words, which get the points first where they have none yet.
-    #[inline(never)]
-    fn next_marked(&mut self) -> Option<Point>
-        ensures { YieldsFirst (λ points. points) self.old result self.new }
-    {
-        let size = self.board.size();
-        let first = match self.given {
-            Given::Nothing => {
-                self.points = self.board.marked(self.part, self.stone);
-                0
-            }
-            Given::First => {
-                self.points = self.board.marked(self.part, self.stone);
-                next_in(&self.points, size, 0)? + 1
-            }
-            Given::Before(number) => number,
-        };
-        let number = next_in(&self.points, size, first)?;
-        self.given = Given::Before(number + 1);
-        Some(Point::numbered(size, number))
-    }
 }
 
 impl<'a> Iterator for ChainPoints<'a> {
@@ -101,15 +79,24 @@ impl<'a> Iterator for ChainPoints<'a> {
 
     ghost remaining = { item_count (λ points. points) };
 
-    #[inline]
+    // Part of the loop that walks: as a call for each point it took half as many steps again, and
+    // who asks for the first stone alone twice as many.
+    #[inline(always)]
     fn next(&mut self) -> Option<Point> {
-        match (self.given, self.part) {
+        let size = self.board.size();
+        let first = match (self.given, self.part) {
+            (Given::Before(number), _) => number,
             (Given::Nothing, Part::Stones) => {
                 self.given = Given::First;
-                let number = self.board.first_stone(self.stone);
-                Some(Point::numbered(self.board.size(), number))
+                return Some(Point::numbered(size, self.board.first_stone(self.stone)));
             }
-            _ => self.next_marked(),
-        }
+            (given, part) => {
+                let passed = matches!(given, Given::First);
+                self.board.mark(part, self.stone, passed, &mut self.points)
+            }
+        };
+        let number = next_in(&self.points, size, first)?;
+        self.given = Given::Before(number + 1);
+        Some(Point::numbered(size, number))
     }
 }

@@ -10,7 +10,6 @@ ghost use Rattle.go_chains.specs.inner.Marked.{points_left};
 ghost use Rattle.go_chains.specs.inner.Writes.{mask_bit};
 
 use crate::cells::{Cells, LINKS, WORDS, word_place, words_of};
-use crate::masks::mask_of;
 use crate::occupy::Words;
 use go_board::{Meter, Size};
 
@@ -53,7 +52,9 @@ pub(crate) fn ring_of(cells: &Cells, from: usize, stones: usize) -> Words
     words
 }
 
-/// The lowest of so many points along a ring.
+/// The lowest of so many points along a ring. It stays out of the look for a first stone, which
+/// mostly needs no ring.
+#[inline(never)]
 pub(crate) fn lowest_on_ring(cells: &Cells, from: usize, points: usize) -> usize
     requires from { from < MAX_POINTS }
     requires on { (i : ℕ) → i < points → steps (next_of cells.now.numbers) i from < MAX_POINTS }
@@ -105,6 +106,7 @@ pub(crate) fn liberties_of(cells: &Cells, size: Size, label: usize) -> Words
 
 /// The first point of the board in words, from a number on. A word without one is passed over whole;
 /// there may be bits of points past the board.
+#[inline]
 pub(crate) fn next_in(words: &Words, size: Size, first: u16) -> Option<u16>
     requires { length words.now ≡ WORDS }
     ensures none { IfNone result (points_left size words.now first ≡ []) }
@@ -129,11 +131,16 @@ pub(crate) fn next_in(words: &Words, size: Size, first: u16) -> Option<u16>
     None
 }
 
-/// The bits of one of the words, without those of points before a number.
+/// The bits of one of the words, without those of points before a number, which is in that word or
+/// an earlier one.
 fn bits_from(bits: u64, word: usize, first: usize) -> u64
-    requires word { word < WORDS }
+    requires { first < 64 * (word + 1) }
     ensures { (i : ℕ) → i < 64 → (bit_at result i ≡ 1)
         ↔ ((first ≤ 64 * word + i) × (bit_at bits i ≡ 1)) }
 {
-    bits & !mask_of(first, word)
+    if word == first / 64 {
+        bits & !((1 << (first % 64)) - 1)
+    } else {
+        bits
+    }
 }
