@@ -20,7 +20,6 @@ pub mod RowsBeside
 pub mod Growing
 pub mod Holding
 pub mod RowCounts
-pub mod Around
 pub mod Dividing
 pub mod Rounding
 pub mod Gaining

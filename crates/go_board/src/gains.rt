@@ -1,7 +1,6 @@
 //! What a stone gains for its colour where it takes nothing, told from the points around it, so that
 //! the areas need not be counted anew; and what both colours hold with it, for where they must be.
-ghost use Rattle.std.specs.Prelude.{◌≡◌, ◌<◌, ◌≤◌, ◌+◌, ◌*◌, ◌↔◌, ℕ, IfSome, IsTrue, None, Some, length, slice_set};
-ghost use Rattle.std.specs.Int.{bit_at};
+ghost use Rattle.std.specs.Prelude.{◌≡◌, ◌<◌, ◌≤◌, ◌+◌, ◌*◌, ◌↔◌, IfSome, IsTrue, None, Some, length, slice_set};
 ghost use Rattle.go_board.specs.declared.colour.Colour.{Colour};
 ghost use Rattle.go_board.specs.declared.rows.TheConstants.{ROWS};
 ghost use Rattle.go_board.specs.Colours.{Colouring, colour_at, other};
@@ -9,36 +8,23 @@ ghost use Rattle.go_board.specs.Gains.{Gains};
 ghost use Rattle.go_board.specs.Rows.{AreHeld, AreStones, IsIn};
 ghost use Rattle.go_board.specs.inner.Around.{AreJoinedRound, IsOpen, gap};
 
-use crate::rows::{ROWS, Rows, has_place, held, others_in_row};
+use crate::rows::{ROWS, Rows, has_place, held};
 
-/// The places of a row that are on the board and not in a set, each one bit above its column, so
-/// that no place is before the first column. No row outside the board has one.
-fn open_in_row(rows: &Rows, lines: usize, row: usize) -> u32
+/// Whether a place is on the board and not in a set. A row or column before the first is as one past
+/// the last.
+fn is_open(rows: &Rows, lines: usize, row: usize, col: usize) -> bool
     requires { lines ≤ ROWS }
-    ensures places { (col : ℕ) → (bit_at result (col + 1) ≡ 1) ↔ IsOpen rows.now lines row col }
-    ensures none { bit_at result 0 ≡ 0 }
+    ensures { IsTrue result ↔ IsOpen rows.now lines row col }
 {
-    if row < lines {
-        others_in_row(rows[row], lines) << 1
-    } else {
-        0
-    }
+    row < lines && col < lines && !has_place(rows, row, col)
 }
 
-/// Whether a word has a bit.
-fn has_bit(word: u32, at: usize) -> bool
-    requires { at < 32 }
-    ensures { IsTrue result ↔ (bit_at word at ≡ 1) }
+/// The line before this one, and before the first one past the last of all.
+fn line_before(line: usize) -> usize
+    ensures before { 0 < line → result + 1 ≡ line }
+    ensures none { line ≡ 0 → result ≡ ROWS }
 {
-    word >> at & 1 == 1
-}
-
-/// The row before this one, and before the first one past the last of all.
-fn row_before(row: usize) -> usize
-    ensures before { 0 < row → result + 1 ≡ row }
-    ensures none { row ≡ 0 → result ≡ ROWS }
-{
-    if row == 0 { ROWS } else { row - 1 }
+    if line == 0 { ROWS } else { line - 1 }
 }
 
 /// 1 where a place is there and doesn't lead to the next one around by the corner between them.
@@ -57,18 +43,16 @@ fn are_joined_round(rows: &Rows, lines: usize, row: usize, col: usize) -> bool
     requires col { col < lines }
     ensures { IsTrue result → AreJoinedRound rows.now lines row col }
 {
-    let above = open_in_row(rows, lines, row + 1);
-    let here = open_in_row(rows, lines, row);
-    let below = open_in_row(rows, lines, row_before(row));
-    let (left, middle, right) = (col, col + 1, col + 2);
-    let north = has_bit(above, middle);
-    let east = has_bit(here, right);
-    let south = has_bit(below, middle);
-    let west = has_bit(here, left);
-    let gaps = gap(north, has_bit(above, right), east)
-        + gap(east, has_bit(below, right), south)
-        + gap(south, has_bit(below, left), west)
-        + gap(west, has_bit(above, left), north);
+    let (up, down) = (row + 1, line_before(row));
+    let (right, left) = (col + 1, line_before(col));
+    let north = is_open(rows, lines, up, col);
+    let east = is_open(rows, lines, row, right);
+    let south = is_open(rows, lines, down, col);
+    let west = is_open(rows, lines, row, left);
+    let gaps = gap(north, is_open(rows, lines, up, right), east)
+        + gap(east, is_open(rows, lines, down, right), south)
+        + gap(south, is_open(rows, lines, down, left), west)
+        + gap(west, is_open(rows, lines, up, left), north);
     gaps <= 1
 }
 

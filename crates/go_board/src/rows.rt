@@ -59,7 +59,7 @@ pub fn with_stone(word: u32, col: usize, colour: Option<Colour>, own: Colour) ->
 }
 
 /// The columns of a row of the board that aren't in a word.
-pub(crate) fn others_in_row(word: u32, lines: usize) -> u32
+fn others_in_row(word: u32, lines: usize) -> u32
     requires { lines ≤ ROWS }
     ensures { (col : ℕ) → (bit_at result col ≡ 1) ↔ ((col < lines) × (bit_at word col ≡ 1 → ⊥)) }
 {
