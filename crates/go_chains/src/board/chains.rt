@@ -1,0 +1,225 @@
+//! What a board tells of its chains and their liberties.
+ghost use Rattle.std.specs.Prelude.{◌≡◌, ◌<◌, ◌≤◌, ◌+◌, ◌*◌, ◌/◌, ◌∷◌, if◌then◌else◌, ℕ, None, Some, drop, length};
+ghost use Rattle.std.specs.Int.{bit_at};
+ghost use Rattle.go_board.specs.Points.{IsOn, number_of, point_at};
+ghost use Rattle.go_board.specs.declared.size.TheConstants.{MAX_POINTS};
+ghost use Rattle.go_chains.specs.declared.cells.TheConstants.{WORDS};
+ghost use Rattle.go_chains.specs.Cells.{label_of};
+ghost use Rattle.go_chains.specs.Sound.{IsKept};
+ghost use Rattle.go_chains.specs.Boards.{HoldsStone, shown};
+ghost use Rattle.go_chains.specs.inner.Marked.{has_label, points_left, points_of};
+ghost use Rattle.go_chains.specs.inner.Words.{free_in_word};
+ghost use Rattle.go_board.specs.Grids.{are_joined, chain_liberties, chain_stones, has_liberty, liberty_count, stone_count};
+
+use super::Board;
+use crate::cells::{LABELS, SIZES, WORDS, word_place};
+use crate::chain_points::{ChainPoints, Part};
+use crate::marks::{liberties_of, lowest_on_ring, next_in, ring_of};
+use crate::masks::mask_of;
+use crate::occupy::Words;
+use go_board::laws::{joined_by_a_path, liberty_by_a_path, points_by_number};
+use go_board::{Colour, Meter, Point};
+
+impl Board {
+    /// Whether two stones are in one chain: a path of their colour joins them.
+    pub fn same_chain(&self, p: Point, q: Point) -> bool
+        requires p_on { IsOn self.now.lines p }
+        requires q_on { IsOn self.now.lines q }
+        requires p_stone { HoldsStone self.now p }
+        requires q_stone { HoldsStone self.now q }
+        ensures { result ≡ are_joined (shown self.now) p q }
+    {
+        points_by_number();
+        joined_by_a_path();
+        let mut meter = Meter::new();
+        self.label_at(p, &mut meter) == self.label_at(q, &mut meter)
+    }
+
+    /// Whether a point is a liberty of a stone's chain: it is empty and adjacent to a stone of it.
+    pub fn is_liberty(&self, p: Point, q: Point) -> bool
+        requires p_on { IsOn self.now.lines p }
+        requires q_on { IsOn self.now.lines q }
+        requires p_stone { HoldsStone self.now p }
+        ensures { result ≡ has_liberty (shown self.now) p q }
+    {
+        points_by_number();
+        liberty_by_a_path();
+        let mut meter = Meter::new();
+        let label = self.label_at(p, &mut meter);
+        let point = usize::from(q.index(self.size));
+        let word = self.cells.get(word_place(label, point / 64), &mut meter);
+        word >> (point % 64) & 1 == 1
+    }
+
+    /// The stones of the chain of a stone, in point order.
+    pub fn chain_points(&self, p: Point) -> ChainPoints<'_>
+        requires on { IsOn self.now.lines p }
+        requires stone { HoldsStone self.now p }
+        ensures { result ≡ chain_stones (shown self.now) p }
+    {
+        ChainPoints::new(self, p, Part::Stones)
+    }
+
+    /// The liberties of the chain of a stone, in point order.
+    pub fn liberty_points(&self, p: Point) -> ChainPoints<'_>
+        requires on { IsOn self.now.lines p }
+        requires stone { HoldsStone self.now p }
+        ensures { result ≡ chain_liberties (shown self.now) p }
+    {
+        ChainPoints::new(self, p, Part::Liberties)
+    }
+
+    /// How many stones the chain of a stone has.
+    pub fn stones_of(&self, p: Point) -> u16
+        requires on { IsOn self.now.lines p }
+        requires stone { HoldsStone self.now p }
+        ensures { result ≡ stone_count (shown self.now) p }
+    {
+        points_by_number();
+        joined_by_a_path();
+        let mut meter = Meter::new();
+        let label = self.label_at(p, &mut meter);
+        self.cells.get(SIZES + label, &mut meter) as u16
+    }
+
+    /// How many liberties the chain of a stone has.
+    pub fn liberties_of(&self, p: Point) -> u16
+        requires on { IsOn self.now.lines p }
+        requires stone { HoldsStone self.now p }
+        ensures { result ≡ liberty_count (shown self.now) p }
+    {
+        points_by_number();
+        liberty_by_a_path();
+        let mut meter = Meter::new();
+        let label = self.label_at(p, &mut meter);
+        let points = usize::from(self.size().points());
+        let mut count = 0;
+        let full = points / 64;
+        for word in 0..full {
+            count += self.liberties_in(points, label, word, u64::MAX, &mut meter);
+        }
+        count + self.liberties_in(points, label, full, mask_of(points, full), &mut meter)
+    }
+
+    /// The first stone of the chain of a stone. As many of the board's first points as the chain has
+    /// stones are asked for their label, before its ring is walked.
+    #[inline]
+    pub(crate) fn first_stone(&self, p: Point) -> u16
+        requires on { IsOn self.now.lines p }
+        requires stone { HoldsStone self.now p }
+        ensures first { chain_stones (shown self.now) p
+            ≡ point_at self.now.lines result ∷ drop 1 (chain_stones (shown self.now) p) }
+        ensures on { result < self.now.lines * self.now.lines }
+    {
+        points_by_number();
+        joined_by_a_path();
+        let mut meter = Meter::new();
+        let label = self.label_at(p, &mut meter);
+        let stones = self.cells.get(SIZES + label, &mut meter) as usize;
+        for number in 0..stones {
+            if self.has_label(number, label) {
+                return number as u16;
+            }
+        }
+        lowest_on_ring(&self.cells, usize::from(p.index(self.size)), stones) as u16
+    }
+
+    /// Puts the points of a part of the chain of a stone into words, and gives the number from which
+    /// on they are to come: the one behind the first point, where that was passed. It stays out of
+    /// the loop that walks over the words, which is short without it.
+    #[inline(never)]
+    pub(crate) fn mark(&self, part: Part, p: Point, passed: bool, words: &mut Words) -> u16
+        requires on { IsOn self.now.lines p }
+        requires stone { HoldsStone self.now p }
+        ensures points { points_left self.now.lines words.new result
+            ≡ (if passed then drop 1 (points_of self.now part p) else points_of self.now part p) }
+        ensures words { length words.new ≡ WORDS }
+    {
+        *words = match part {
+            Part::Stones => self.marked_stones(p),
+            Part::Liberties => self.marked_liberties(p),
+        };
+        if !passed {
+            return 0;
+        }
+        match next_in(words, self.size, 0) {
+            Some(first) => first + 1,
+            None => 0,
+        }
+    }
+
+    /// The stones of the chain of a stone, as words.
+    fn marked_stones(&self, p: Point) -> Words
+        requires on { IsOn self.now.lines p }
+        requires stone { HoldsStone self.now p }
+        ensures points { points_left self.now.lines result 0 ≡ chain_stones (shown self.now) p }
+        ensures words { length result ≡ WORDS }
+    {
+        points_by_number();
+        joined_by_a_path();
+        let mut meter = Meter::new();
+        let label = self.label_at(p, &mut meter);
+        let stones = self.cells.get(SIZES + label, &mut meter) as usize;
+        let first = usize::from(p.index(self.size));
+        ring_of(&self.cells, first, stones)
+    }
+
+    /// The liberties of the chain of a stone, as words.
+    fn marked_liberties(&self, p: Point) -> Words
+        requires on { IsOn self.now.lines p }
+        requires stone { HoldsStone self.now p }
+        ensures points { points_left self.now.lines result 0 ≡ chain_liberties (shown self.now) p }
+        ensures words { length result ≡ WORDS }
+    {
+        points_by_number();
+        liberty_by_a_path();
+        let label = self.label_at(p, &mut Meter::new());
+        liberties_of(&self.cells, self.size(), label)
+    }
+
+    /// The label of a stone's chain.
+    fn label_at(&self, p: Point, meter: &mut Meter) -> usize
+        requires on { IsOn self.now.lines p }
+        requires stone { HoldsStone self.now p }
+        ensures label { result ≡ label_of self.now.cells (number_of self.now.lines p) }
+        ensures bound { result < MAX_POINTS }
+        ensures kept { IsKept self.now.lines self.now.cells }
+    {
+        points_by_number();
+        self.cells
+            .get(LABELS + usize::from(p.index(self.size)), meter) as usize
+    }
+
+    /// Whether a point holds a stone with this label.
+    fn has_label(&self, number: usize, label: usize) -> bool
+        requires { number < MAX_POINTS }
+        ensures { result ≡ has_label self.now.cells label number }
+    {
+        let mut meter = Meter::new();
+        match Colour::coded(self.cells.get(number, &mut meter)) {
+            Some(_) => label == self.cells.get(LABELS + number, &mut meter) as usize,
+            None => false,
+        }
+    }
+
+    /// How many of the first so many points have their bit in one word of a label's liberties. The
+    /// mask has the bits of those in that word.
+    fn liberties_in(
+        &self,
+        points: usize,
+        label: usize,
+        word: usize,
+        mask: u64,
+        meter: &mut Meter,
+    ) -> u16
+        requires label { label < MAX_POINTS }
+        requires word { word < WORDS }
+        requires inside { (i : ℕ) → i < 64 → 64 * word + i < points → bit_at mask i ≡ 1 }
+        requires outside { (i : ℕ) → i < 64 → points ≤ 64 * word + i → bit_at mask i ≡ 0 }
+        ensures counted { result ≡ free_in_word self.now.cells points label word }
+        ensures few { result ≤ 64 }
+    {
+        let bits = self.cells.get(word_place(label, word), meter);
+        (bits & mask).count_ones() as u16
+    }
+}
