@@ -24,3 +24,5 @@ pub mod Dividing
 pub mod Rounding
 pub mod Gaining
 pub mod HeldSets
+pub mod PointBits
+pub mod PointCounts

@@ -45,7 +45,7 @@ alone_counted own theirs own_fits theirs_fits =
     ap count_ones same ∙ ones-mask_l test (range_with_len 0 32)
 
 -- what fails past the first n is counted among them
-count_first : (test : ℕ → Bool) (n k : ℕ) → ((i : ℕ) → n ≤ i → test i ≡ false) → count_by test (range_with_len 0 (n + k)) ≡ count_by test (range_with_len 0 n)
+pub count_first : (test : ℕ → Bool) (n k : ℕ) → ((i : ℕ) → n ≤ i → test i ≡ false) → count_by test (range_with_len 0 (n + k)) ≡ count_by test (range_with_len 0 n)
 count_first test n zero fails = ap (λ m. count_by test (range_with_len 0 m)) (let e : n + zero ≡ n = omega arith in e)
 count_first test n (suc k) fails =
     let rest = count_first test n k fails in
@@ -54,7 +54,7 @@ count_first test n (suc k) fails =
     ap (λ m. count_by test (range_with_len 0 m)) (let e : n + suc k ≡ n + k + 1 = omega arith in e) ∙ (let sum : count_by test (range_with_len 0 (n + k + 1)) ≡ count_by test (range_with_len 0 n) = omega (arith, rest, last, none) in sum)
 
 -- what is counted from a place on is what another test counts from 0
-count_on : (test here : ℕ → Bool) (from k : ℕ) → ((i : ℕ) → i < k → test (from + i) ≡ here i)
+pub count_on : (test here : ℕ → Bool) (from k : ℕ) → ((i : ℕ) → i < k → test (from + i) ≡ here i)
     → count_by test (range_with_len 0 (from + k)) ≡ count_by test (range_with_len 0 from) + count_by here (range_with_len 0 k)
 count_on test here from zero agree = ap (λ m. count_by test (range_with_len 0 m)) (let e : from + zero ≡ from = omega arith in e) ∙ (let z : count_by test (range_with_len 0 from) ≡ count_by test (range_with_len 0 from) + 0 = omega arith in z)
 count_on test here from (suc k) agree =

@@ -14,6 +14,7 @@ pub mod Pens
 pub mod Packs
 pub mod PackBytes
 pub mod Rows
+pub mod PointSets
 pub mod Gains
 pub mod Komi
 pub mod Laws

@@ -3,3 +3,4 @@
 pub mod Flood
 pub mod Areas
 pub mod Around
+pub mod PointCounts

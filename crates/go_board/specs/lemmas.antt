@@ -4,3 +4,4 @@ pub mod Reading
 pub mod Numbers
 pub mod Squares
 pub mod Paths
+pub mod PointSets

@@ -7,7 +7,8 @@
 //!   and [`column_letter`] for their words.
 //! - [`plain`]: what a play leaves and who holds which points, told by floods of a whole grid. The
 //!   faster bodies above have to agree with it.
-//! - [`rows`], [`Packed`]: sets of points in words of rows, and a colouring in two bits a point.
+//! - [`PointSet`], [`rows`], [`Packed`]: sets of points by their numbers and in words of rows, and a
+//!   colouring in two bits a point.
 //! - [`gains`]: what a stone that takes nothing gains, told from the points around it, and what is
 //!   held with it.
 //! - [`Source`], [`Sink`], [`Pen`]: where bytes come from and go to, and a text that is written in
@@ -24,8 +25,9 @@
 //!
 //! What is promised is in the clauses of each file. Their words are in `specs/`: `Colours` and
 //! `Points` say what a colouring and a point are, `Paths` and `Reaching` what reaches what and what
-//! a play leaves, `Rows` which rows stand for stones and for what they hold, `Gains` what a stone
-//! gains, `Vertices` how a vertex is spelled, and `Device` and `Pens` what a device was given.
+//! a play leaves, `PointSets` when a set has a point, `Rows` which rows stand for stones and for what
+//! they hold, `Gains` what a stone gains, `Vertices` how a vertex is spelled, and `Device` and `Pens`
+//! what a device was given.
 //! `Laws` says how these words belong together. What `specs/inner/` defines serves private
 //! functions alone.
 #![tactic(auto)]
@@ -43,6 +45,7 @@ mod pack;
 mod pen;
 pub mod plain;
 mod point;
+pub mod point_set;
 pub mod rows;
 mod seeds;
 mod size;
@@ -58,6 +61,7 @@ pub use meter::Meter;
 pub use pack::{PACK_BYTES, Packed, packed_byte};
 pub use pen::{Pen, send};
 pub use point::{Point, neighbours, put_neighbours};
+pub use point_set::PointSet;
 pub use size::{MAX_LINES, MAX_POINTS, Size};
 pub use taken::Taken;
 pub use vertex::{

@@ -21,7 +21,7 @@ const SHARES: [u32; 26] = [
 
 /// The row of the point with this number. What goes over all points asks for each one's, and a
 /// division takes a processor as long as many other steps: so it multiplies.
-fn row_of(size: Size, number: u16) -> u16
+fn row_at(size: Size, number: u16) -> u16
     requires { number < size * size }
     ensures row { result ≡ number / size }
     ensures before { result * size ≤ number }
@@ -60,7 +60,7 @@ impl Point {
         ensures on { IsOn size result }
         ensures back { number_of size result ≡ number }
     {
-        let row = row_of(size, number);
+        let row = row_at(size, number);
         Point {
             col: (number - row * u16::from(size.lines())) as u8,
             row: row as u8,

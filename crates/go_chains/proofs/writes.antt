@@ -4,7 +4,6 @@ pub mod Editing
 pub mod Bounds
 pub mod Neighbours
 pub mod Sides
-pub mod Marking
 pub mod Depriving
 pub mod Occupying
 pub mod Relabelling

@@ -1,7 +1,8 @@
 -- How the cells are arranged, and what they say.
 use Rattle.std.specs.Prelude.{ℕ, List, ◌≡◌, ◌≢◌, ◌+◌, ◌-◌, ◌*◌, ◌/◌, ◌%◌, slice_index}
 use Rattle.std.specs.Int.{bit_at}
-use Rattle.go_chains.specs.declared.cells.TheConstants.{LABELS, LINKS, SIZES, LIBERTIES, WORDS}
+use Rattle.go_chains.specs.declared.cells.TheConstants.{LABELS, LINKS, SIZES, LIBERTIES}
+use Rattle.go_board.specs.declared.point_set.TheConstants.{WORDS}
 use Rattle.go_chains.specs.declared.change.Change.{Change}
 
 -- what contracts see of cells: their numbers, and all writes to them
@@ -32,10 +33,6 @@ growth old new p = chain_size new.numbers p - chain_size old.numbers p
 
 abbrev pub word_of : List ℕ → ℕ → ℕ → ℕ
 word_of cells l w = slice_index cells (LIBERTIES + WORDS * l + w)
-
--- how many words have a bit for each of so many points
-abbrev pub words_for : ℕ → ℕ
-words_for points = (points + 63) / 64
 
 abbrev pub lib_of : List ℕ → ℕ → ℕ → ℕ
 lib_of cells l q = bit_at (word_of cells l (q / 64)) (q % 64)

@@ -5,7 +5,7 @@ use Rattle.go_board.specs.declared.point.Point.{Point}
 use Rattle.go_board.specs.Colours.{Colouring, other}
 use Rattle.go_board.specs.Points.{number_of}
 use Rattle.go_board.specs.Reaching.{has_colour, joined, moved, points, some_neighbour, vanished}
-use Rattle.go_chains.specs.declared.cells.TheConstants.{WORDS}
+use Rattle.go_board.specs.declared.point_set.TheConstants.{WORDS}
 use Rattle.go_chains.specs.Boards.{BoardValue, grid_of}
 
 -- q is a stone of c in a chain with a stone beside p

@@ -6,7 +6,6 @@ pub mod Edits
 pub mod CellSteps
 pub mod Beside
 pub mod Traces
-pub mod Words
 pub mod Marked
 pub mod Codes
 pub mod Quiet

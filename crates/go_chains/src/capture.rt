@@ -1,16 +1,16 @@
 //! Chains without a liberty, found and taken off.
 ghost use Rattle.std.specs.Prelude.{◌≡◌, ◌<◌, ◌≤◌, ◌+◌, ◌*◌, ◌/◌, ◌↔◌, ℕ, IsTrue, false, length, slice_index, vec_capacity, vec_len};
 ghost use Rattle.go_board.specs.declared.size.TheConstants.{MAX_POINTS};
-ghost use Rattle.go_chains.specs.declared.cells.TheConstants.{WORDS};
+ghost use Rattle.go_board.specs.declared.point_set.TheConstants.{WORDS};
 ghost use Rattle.go_chains.specs.Cells.{chain_size, lib_of};
 ghost use Rattle.go_chains.specs.inner.Edits.{Edited};
 ghost use Rattle.go_chains.specs.inner.Tables.{IsDead, tables_of};
 ghost use Rattle.go_chains.specs.inner.CellSteps.{AreColours, AreTidy, AreWhole, Captures, CapturesMore, TakesDead, TakesStones};
 
-use crate::cells::{Cells, LABELS, word_place, words_of};
+use crate::cells::{Cells, LABELS, word_place};
 use crate::change::Change;
 use crate::lift::take_off;
-use crate::masks::mask_of;
+use go_board::point_set::{mask_of, words_of};
 use go_board::{Meter, Size};
 use std::alloc::Allocator;
 

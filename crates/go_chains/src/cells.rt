@@ -2,18 +2,17 @@ ghost use Rattle.std.specs.Prelude.{◌≡◌, ◌≢◌, ◌<◌, ◌≤◌, �
 ghost use Rattle.go_board.specs.PackBytes.{bytes_of};
 ghost use Rattle.go_board.specs.Packs.{code_of, colour_coded, packed_of};
 ghost use Rattle.go_board.specs.declared.size.TheConstants.{MAX_LINES, MAX_POINTS};
-ghost use Rattle.go_chains.specs.declared.cells.TheConstants.{COUNT, LIBERTIES, WORDS};
-ghost use Rattle.go_chains.specs.Cells.{words_for};
+ghost use Rattle.go_chains.specs.declared.cells.TheConstants.{COUNT, LIBERTIES};
+ghost use Rattle.go_board.specs.declared.point_set.TheConstants.{WORDS};
+ghost use Rattle.go_board.specs.PointSets.{words_for};
 ghost use Rattle.go_chains.specs.Boards.{colouring_of};
 ghost use Rattle.go_chains.specs.inner.Codes.{code_in};
 
 use crate::numbers::Numbers;
 use crate::trace::Trace;
-use go_board::{Colour, MAX_POINTS, Meter, Packed, Size};
+use go_board::point_set::WORDS;
+use go_board::{Colour, MAX_POINTS, Meter, Packed};
 use std::marker::Model;
-
-/// How many words hold a bit for each point of the largest board.
-pub const WORDS: usize = (MAX_POINTS + 63) / 64;
 
 /// Where the labels begin, after the colours.
 pub const LABELS: usize = MAX_POINTS;
@@ -131,15 +130,6 @@ pub(crate) fn with_code(byte: u8, at: usize, code: u8) -> u8
     let shift = 2 * at;
     let old = (byte >> shift) % 4;
     byte - (old << shift) + (code << shift)
-}
-
-/// How many words hold a bit for each point of a board of this size. Those past them are never
-/// looked at.
-pub fn words_of(size: Size) -> usize
-    ensures value { result ≡ words_for (size * size) }
-    ensures bound { result ≤ WORDS }
-{
-    (usize::from(size.points()) + 63) / 64
 }
 
 /// The cell of a word of a label's liberties.

@@ -5,10 +5,7 @@ ghost use Rattle.go_chains.specs.Boards.{HoldsStone};
 ghost use Rattle.go_chains.specs.inner.Marked.{points_of};
 
 use crate::Board;
-use crate::cells::WORDS;
-use crate::marks::next_in;
-use crate::occupy::Words;
-use go_board::Point;
+use go_board::{Point, PointSet};
 use std::marker::Model;
 
 /// What belongs to a chain.
@@ -23,9 +20,9 @@ pub(crate) enum Part {
 enum Given {
     /// None was asked for.
     Nothing,
-    /// The first stone. The words have no points yet.
+    /// The first stone. The set has no points yet.
     First,
-    /// Those before the one with this number, from the words.
+    /// Those before the one with this number, from the set.
     Before(u16),
 }
 
@@ -37,7 +34,7 @@ pub struct ChainPoints<'a> {
     /// A stone of the chain.
     stone: Point,
     part: Part,
-    points: Words,
+    points: PointSet,
     given: Given,
 }
 
@@ -66,7 +63,7 @@ impl<'a> ChainPoints<'a> {
             board,
             stone,
             part,
-            points: [0; WORDS],
+            points: PointSet::new(),
             given: Given::Nothing,
         }
     }
@@ -95,7 +92,7 @@ impl<'a> Iterator for ChainPoints<'a> {
                 self.board.mark(part, self.stone, passed, &mut self.points)
             }
         };
-        let number = next_in(&self.points, size, first)?;
+        let number = self.points.next(size, first)?;
         self.given = Given::Before(number + 1);
         Some(Point::numbered(size, number))
     }

@@ -2,7 +2,7 @@
 ghost use Rattle.std.specs.Prelude.{◌≤◌, ◌+◌, ◌*◌, vec_capacity, vec_len};
 ghost use Rattle.go_board.specs.Paths.{IsAdjacent};
 ghost use Rattle.go_board.specs.declared.size.TheConstants.{MAX_POINTS};
-ghost use Rattle.go_chains.specs.declared.cells.TheConstants.{WORDS};
+ghost use Rattle.go_board.specs.declared.point_set.TheConstants.{WORDS};
 ghost use Rattle.go_chains.specs.inner.Beside.{AreBeside};
 ghost use Rattle.go_chains.specs.Cells.{chain_size, growth};
 ghost use Rattle.go_chains.specs.inner.Edits.{Edited};

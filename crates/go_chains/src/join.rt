@@ -1,15 +1,16 @@
 //! Two chains made one: relabelled, their rings spliced, their liberties together.
 ghost use Rattle.std.specs.Prelude.{◌≡◌, ◌≢◌, ◌<◌, ◌≤◌, ◌+◌, ◌*◌, ℕ, vec_capacity, vec_len};
 ghost use Rattle.go_board.specs.declared.size.TheConstants.{MAX_POINTS};
-ghost use Rattle.go_chains.specs.declared.cells.TheConstants.{WORDS};
+ghost use Rattle.go_board.specs.declared.point_set.TheConstants.{WORDS};
 ghost use Rattle.go_chains.specs.Cells.{chain_size, code_at, label_of, next_of};
 ghost use Rattle.go_chains.specs.inner.Edits.{Edited};
 ghost use Rattle.go_chains.specs.Rings.{steps};
 ghost use Rattle.go_chains.specs.inner.CellSteps.{AreTidy, HasStone, Joins, Merges, Relabels};
 
-use crate::cells::{Cells, LABELS, LINKS, SIZES, word_place, words_of};
+use crate::cells::{Cells, LABELS, LINKS, SIZES, word_place};
 use crate::change::Change;
 use crate::edits::{put, replace};
+use go_board::point_set::words_of;
 use go_board::{Meter, Size};
 use std::alloc::Allocator;
 

@@ -1,55 +1,27 @@
-//! Sets of points as words with a bit for each, and the way through them in point order.
-ghost use Rattle.std.specs.Prelude.{◌≡◌, ◌≢◌, ◌<◌, ◌≤◌, ◌+◌, ◌*◌, ◌⊎◌, ◌↔◌, ℕ, [], ◌∷◌, IfNone, IfSome, length};
-ghost use Rattle.std.specs.Int.{bit_at};
-ghost use Rattle.go_board.specs.Points.{point_at};
+//! The stones and the liberties of a chain, put into sets of points.
+ghost use Rattle.std.specs.Prelude.{◌≡◌, ◌<◌, ◌≤◌, ◌+◌, ◌*◌, ◌⊎◌, ◌↔◌, ℕ, replicate};
+ghost use Rattle.go_board.specs.PointSets.{HasPoint};
+ghost use Rattle.go_board.specs.declared.point_set.TheConstants.{WORDS};
 ghost use Rattle.go_board.specs.declared.size.TheConstants.{MAX_POINTS};
-ghost use Rattle.go_chains.specs.declared.cells.TheConstants.{WORDS};
 ghost use Rattle.go_chains.specs.Cells.{lib_of, next_of};
 ghost use Rattle.go_chains.specs.Rings.{IsOnRing, steps};
-ghost use Rattle.go_chains.specs.inner.Marked.{points_left};
-ghost use Rattle.go_chains.specs.inner.Writes.{mask_bit};
 
-use crate::cells::{Cells, LINKS, WORDS, word_place, words_of};
-use crate::occupy::Words;
-use go_board::{Meter, Size};
+use crate::cells::{Cells, LINKS, word_place};
+use go_board::point_set::words_of;
+use go_board::{Meter, PointSet, Size};
 
-/// Puts a point into words.
-fn put_in(words: &mut Words, point: usize)
-    requires point { point < MAX_POINTS }
-    requires words { length words.old ≡ WORDS }
-    ensures put { (q : ℕ) → (mask_bit words.new q ≡ 1)
-        ↔ ((q ≡ point) ⊎ (mask_bit words.old q ≡ 1)) }
-    ensures words { length words.new ≡ WORDS }
-{
-    words[point / 64] |= 1 << (point % 64);
-}
-
-/// Takes a point out of words.
-pub(crate) fn leave_out(words: &mut Words, point: usize)
-    requires point { point < MAX_POINTS }
-    requires words { length words.old ≡ WORDS }
-    ensures left { (q : ℕ) → (mask_bit words.new q ≡ 1)
-        ↔ ((q ≢ point) × (mask_bit words.old q ≡ 1)) }
-    ensures words { length words.new ≡ WORDS }
-{
-    words[point / 64] &= !(1 << (point % 64));
-}
-
-/// So many points along a ring.
-pub(crate) fn ring_of(cells: &Cells, from: usize, stones: usize) -> Words
+/// Puts so many points along a ring into a set that has none.
+pub(crate) fn put_ring(cells: &Cells, from: usize, stones: usize, set: &mut PointSet)
     requires on { (i : ℕ) → i < stones → steps (next_of cells.now.numbers) i from < MAX_POINTS }
-    ensures ring { (q : ℕ) → (mask_bit result q ≡ 1)
-        ↔ IsOnRing (next_of cells.now.numbers) stones from q }
-    ensures words { length result ≡ WORDS }
+    requires none { set.old ≡ replicate WORDS 0 }
+    ensures { (q : ℕ) → HasPoint set.new q ↔ IsOnRing (next_of cells.now.numbers) stones from q }
 {
     let mut meter = Meter::new();
-    let mut words = [0; WORDS];
     let mut at = from;
     for _ in 0..stones {
-        put_in(&mut words, at);
+        set.put(at);
         at = cells.get(LINKS + at, &mut meter) as usize;
     }
-    words
 }
 
 /// The lowest of so many points along a ring. It stays out of the look for a first stone, which
@@ -71,76 +43,21 @@ pub(crate) fn lowest_on_ring(cells: &Cells, from: usize, points: usize) -> usize
     lowest
 }
 
-/// Adds a label's liberties to words.
-pub(crate) fn add_liberties(
+/// Puts a label's liberties into a set.
+pub(crate) fn put_liberties(
     cells: &Cells,
     meter: &mut Meter,
     size: Size,
     label: usize,
-    words: &mut Words,
+    set: &mut PointSet,
 )
     requires label { label < MAX_POINTS }
-    requires words { length words.old ≡ WORDS }
-    ensures added { (q : ℕ) → q < size * size → (mask_bit words.new q ≡ 1)
-        ↔ ((mask_bit words.old q ≡ 1) ⊎ (lib_of cells.now.numbers label q ≡ 1)) }
-    ensures words { length words.new ≡ WORDS }
+    ensures put { (q : ℕ) → q < size * size → HasPoint set.new q
+        ↔ (HasPoint set.old q ⊎ (lib_of cells.now.numbers label q ≡ 1)) }
     ensures count { meter.new ≤ meter.old + WORDS }
     ensures onward { meter.old ≤ meter.new }
 {
     for word in 0..words_of(size) {
-        words[word] |= cells.get(word_place(label, word), meter);
-    }
-}
-
-/// The liberties of a label.
-pub(crate) fn liberties_of(cells: &Cells, size: Size, label: usize) -> Words
-    requires label { label < MAX_POINTS }
-    ensures liberties { (q : ℕ) → q < size * size → (mask_bit result q ≡ 1)
-        ↔ (lib_of cells.now.numbers label q ≡ 1) }
-    ensures words { length result ≡ WORDS }
-{
-    let mut words = [0; WORDS];
-    add_liberties(cells, &mut Meter::new(), size, label, &mut words);
-    words
-}
-
-/// The first point of the board in words, from a number on. A word without one is passed over whole;
-/// there may be bits of points past the board.
-#[inline]
-pub(crate) fn next_in(words: &Words, size: Size, first: u16) -> Option<u16>
-    requires { length words.now ≡ WORDS }
-    ensures none { IfNone result (points_left size words.now first ≡ []) }
-    ensures some { IfSome result (λ q. points_left size words.now first
-        ≡ point_at size q ∷ points_left size words.now (q + 1)) }
-    ensures on { IfSome result (λ q. q < size * size) }
-    ensures few { IfSome result (λ q. q < MAX_POINTS) }
-{
-    let points = usize::from(size.points());
-    let first = usize::from(first);
-    for word in first / 64..words_of(size) {
-        let bits = bits_from(words[word], word, first);
-        if bits != 0 {
-            let number = 64 * word + bits.trailing_zeros() as usize;
-            return if number < points {
-                Some(number as u16)
-            } else {
-                None
-            };
-        }
-    }
-    None
-}
-
-/// The bits of one of the words, without those of points before a number, which is in that word or
-/// an earlier one.
-fn bits_from(bits: u64, word: usize, first: usize) -> u64
-    requires { first < 64 * (word + 1) }
-    ensures { (i : ℕ) → i < 64 → (bit_at result i ≡ 1)
-        ↔ ((first ≤ 64 * word + i) × (bit_at bits i ≡ 1)) }
-{
-    if word == first / 64 {
-        bits & !((1 << (first % 64)) - 1)
-    } else {
-        bits
+        set.put_word(word, cells.get(word_place(label, word), meter));
     }
 }

@@ -1,28 +1,11 @@
 ghost use Rattle.std.specs.Prelude.{◌≡◌, ◌<◌, ◌≤◌, ◌+◌, ◌*◌, ℕ};
 ghost use Rattle.std.specs.Int.{bit_at};
 ghost use Rattle.go_board.specs.declared.size.TheConstants.{MAX_POINTS};
-ghost use Rattle.go_chains.specs.declared.cells.TheConstants.{WORDS};
+ghost use Rattle.go_board.specs.declared.point_set.TheConstants.{WORDS};
 
-use crate::cells::WORDS;
-use go_board::MAX_POINTS;
+use go_board::point_set::mask_of;
 
-/// The bits of a word of liberties that stand for one of the first so many points.
-pub(crate) fn mask_of(points: usize, word: usize) -> u64
-    requires word { word < WORDS }
-    ensures inside { (i : ℕ) → i < 64 → 64 * word + i < points → bit_at result i ≡ 1 }
-    ensures outside { (i : ℕ) → i < 64 → points ≤ 64 * word + i → bit_at result i ≡ 0 }
-{
-    let first = 64 * word;
-    if points <= first {
-        return 0;
-    }
-    if first + 64 <= points {
-        return u64::MAX;
-    }
-    (1 << (points - first)) - 1
-}
-
-/// The same bits but for that of one point.
+/// The bits of a word that stand for one of the first so many points, but for that of one point.
 pub(crate) fn mask_but(points: usize, word: usize, point: usize) -> u64
     requires points { points ≤ MAX_POINTS }
     requires word { word < WORDS }

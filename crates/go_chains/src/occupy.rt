@@ -1,46 +1,41 @@
 //! A stone on an empty point: a chain of its own, and no liberty of the chains beside it any more.
 ghost use Rattle.std.specs.Prelude.{◌≡◌, ◌<◌, ◌≤◌, ◌+◌, ◌*◌, All, length, replicate, vec_capacity, vec_len};
 ghost use Rattle.go_board.specs.declared.size.TheConstants.{MAX_POINTS};
-ghost use Rattle.go_chains.specs.declared.cells.TheConstants.{WORDS};
+ghost use Rattle.go_board.specs.declared.point_set.TheConstants.{WORDS};
 ghost use Rattle.go_chains.specs.inner.Beside.{AreBeside};
 ghost use Rattle.go_chains.specs.Cells.{code_at};
 ghost use Rattle.go_chains.specs.inner.Edits.{Edited};
 ghost use Rattle.go_chains.specs.inner.Writes.{IsDeprived, MarksEmpty, MarksOne};
 ghost use Rattle.go_chains.specs.inner.CellSteps.{AreTidy, DeprivesAll, DeprivesAt, Fills, Fits, Occupies};
 
-use crate::cells::{Cells, LABELS, LINKS, SIZES, WORDS, word_place, words_of};
+use crate::cells::{Cells, LABELS, LINKS, SIZES, word_place};
 use crate::change::Change;
 use crate::edits::{put, replace};
-use go_board::{MAX_POINTS, Meter, Size};
+use go_board::point_set::words_of;
+use go_board::{MAX_POINTS, Meter, PointSet, Size};
 use std::alloc::Allocator;
 
-/// A set of points: a bit for each, as the words of a label's liberties have them.
-pub(crate) type Words = [u64; WORDS];
-
-/// Marks a point if it is empty.
-fn mark_empty(cells: &Cells, meter: &mut Meter, near: usize, words: &mut Words)
+/// Puts a point into a set if it is empty.
+fn put_if_empty(cells: &Cells, meter: &mut Meter, near: usize, set: &mut PointSet)
     requires near { near < MAX_POINTS }
-    requires words { length words.old ≡ WORDS }
-    ensures marked { MarksOne cells.now.numbers words.old words.new near }
-    ensures words { length words.new ≡ WORDS }
+    ensures marked { MarksOne cells.now.numbers set.old set.new near }
     ensures count { meter.new ≡ meter.old + 1 }
 {
     if cells.get(near, meter) == 0 {
-        words[near / 64] |= 1 << (near % 64);
+        set.put(near);
     }
 }
 
-/// Puts the empty ones among these points into words that have none.
-pub(crate) fn put_empty(cells: &Cells, meter: &mut Meter, beside: &[usize], words: &mut Words)
+/// Puts the empty ones among these points into a set that has none.
+pub(crate) fn put_empty(cells: &Cells, meter: &mut Meter, beside: &[usize], set: &mut PointSet)
     requires few { length beside.now ≤ 4 }
     requires on { All (λ near. near < MAX_POINTS) beside.now }
-    requires none { words.old ≡ replicate WORDS 0 }
-    ensures marks { MarksEmpty cells.now.numbers words.new beside.now (length beside.now) }
-    ensures words { length words.new ≡ WORDS }
+    requires none { set.old ≡ replicate WORDS 0 }
+    ensures marks { MarksEmpty cells.now.numbers set.new beside.now (length beside.now) }
     ensures count { meter.new ≡ meter.old + length beside.now }
 {
     for near in beside {
-        mark_empty(cells, meter, *near, words);
+        put_if_empty(cells, meter, *near, set);
     }
 }
 
@@ -113,25 +108,24 @@ fn deprive<A: Allocator + Copy>(
     }
 }
 
-/// Writes the words of a label's liberties, as many as the board has.
+/// Writes a set as a label's liberties, as many words as the board has.
 fn fill_words<A: Allocator + Copy>(
     cells: &mut Cells,
     changes: &mut Vec<Change, A>,
     meter: &mut Meter,
     size: Size,
     label: usize,
-    words: &Words,
+    set: &PointSet,
 )
     requires label { label < MAX_POINTS }
-    requires words { length words.now ≡ WORDS }
     requires room { vec_len changes.old + WORDS ≤ vec_capacity changes.old }
-    ensures filled { Fills size cells.old cells.new label words.now }
+    ensures filled { Fills size cells.old cells.new label set.now }
     ensures edited { Edited cells.old cells.new changes.old changes.new meter.old meter.new
         WORDS (2 * WORDS) }
 {
     for word in 0..words_of(size) {
         let place = word_place(label, word);
-        put(cells, changes, meter, place, words[word]);
+        put(cells, changes, meter, place, set.word(word));
     }
 }
 
@@ -155,12 +149,12 @@ pub fn occupy<A: Allocator + Copy>(
     ensures edited { Edited cells.old cells.new changes.old changes.new meter.old meter.new
         (WORDS + 8) (2 * WORDS + 27) }
 {
-    let mut words = [0; WORDS];
-    put_empty(cells, meter, beside, &mut words);
+    let mut free = PointSet::new();
+    put_empty(cells, meter, beside, &mut free);
     deprive(cells, changes, meter, beside, point);
     replace(cells, changes, meter, point, 0, colour);
     put(cells, changes, meter, LABELS + point, point as u64);
     put(cells, changes, meter, LINKS + point, point as u64);
     put(cells, changes, meter, SIZES + point, 1);
-    fill_words(cells, changes, meter, size, point, &words);
+    fill_words(cells, changes, meter, size, point, &free);
 }

@@ -12,11 +12,12 @@ ghost use Rattle.go_chains.specs.Sound.{IsKept};
 ghost use Rattle.go_chains.specs.Boards.{colours_in};
 
 use crate::capture::{capture, take_one};
-use crate::cells::{Cells, WORDS};
+use crate::cells::Cells;
 use crate::change::Change;
 use crate::connect::connect;
 use crate::occupy::occupy;
 use go_board::laws::{joined_by_a_path, reaches_by_a_path};
+use go_board::point_set::WORDS;
 use go_board::{Colour, MAX_POINTS, Meter, Size, Taken};
 use std::alloc::Allocator;
 

@@ -1,27 +1,26 @@
 //! Stones that take nothing, told without playing them, and the liberties that they have then.
-ghost use Rattle.std.specs.Prelude.{◌≡◌, ◌≢◌, ◌<◌, ◌≤◌, ◌+◌, ◌*◌, ◌⊎◌, ◌↔◌, ℕ, Bool, List, IsTrue, filter, length, nat_eq, replicate};
+ghost use Rattle.std.specs.Prelude.{◌≡◌, ◌≢◌, ◌<◌, ◌≤◌, ◌+◌, ◌*◌, ◌⊎◌, ◌↔◌, ℕ, IsTrue, replicate};
 ghost use Rattle.go_board.specs.declared.size.TheConstants.{MAX_POINTS};
-ghost use Rattle.go_chains.specs.declared.cells.TheConstants.{WORDS};
-ghost use Rattle.go_board.specs.Reaching.{points};
-ghost use Rattle.go_chains.specs.Cells.{code_at, label_of, lib_of, word_of};
+ghost use Rattle.go_board.specs.declared.point_set.TheConstants.{WORDS};
+ghost use Rattle.go_board.specs.PointSets.{HasPoint};
+ghost use Rattle.go_chains.specs.Cells.{code_at, label_of, lib_of};
 ghost use Rattle.go_chains.specs.Playing.{reads_around};
 ghost use Rattle.go_chains.specs.Sound.{IsKept};
 ghost use Rattle.go_chains.specs.inner.Beside.{AreBeside};
 ghost use Rattle.go_chains.specs.inner.Quiet.{HasOther, IsLent, IsOutlook, IsQuiet};
-ghost use Rattle.go_chains.specs.inner.Words.{free_in_word};
-ghost use Rattle.go_chains.specs.inner.Writes.{mask_bit};
 
-use crate::cells::{Cells, LABELS, word_place, words_of};
-use crate::marks::{add_liberties, leave_out};
-use crate::masks::{mask_but, mask_of};
-use crate::occupy::{Words, put_empty};
-use go_board::{Meter, Size};
+use crate::cells::{Cells, LABELS, word_place};
+use crate::marks::put_liberties;
+use crate::masks::mask_but;
+use crate::occupy::put_empty;
+use go_board::point_set::words_of;
+use go_board::{Meter, PointSet, Size};
 
 /// What a stone on an empty point means for a point beside it.
 #[derive(Clone, Copy)]
 pub(crate) enum Outlook {
     /// A chain that it may take.
-    Taken,
+    Falls,
     /// Nothing that it takes.
     Stays,
     /// Nothing that it takes, and a liberty for it.
@@ -100,14 +99,14 @@ fn outlook_on(
     if lives {
         Outlook::Stays
     } else {
-        Outlook::Taken
+        Outlook::Falls
     }
 }
 
 /// Whether a stone of the colour with this code on an empty point takes nothing, itself included, as
 /// its neighbours show: none of them is a chain of the other colour without another liberty, and one
 /// of them lends it a liberty.
-pub(crate) fn is_quiet(
+pub(crate) fn takes_nothing(
     cells: &Cells,
     meter: &mut Meter,
     size: Size,
@@ -125,7 +124,7 @@ pub(crate) fn is_quiet(
     let mut breathes = false;
     for near in beside {
         match outlook_on(cells, meter, size, own, point, *near) {
-            Outlook::Taken => return false,
+            Outlook::Falls => return false,
             Outlook::Stays => {}
             Outlook::Breathes => breathes = true,
         }
@@ -134,15 +133,13 @@ pub(crate) fn is_quiet(
 }
 
 /// Adds the liberties of the stone on a point, if it has the colour with this code.
-fn add_own(cells: &Cells, meter: &mut Meter, size: Size, own: u64, near: usize, words: &mut Words)
+fn add_own(cells: &Cells, meter: &mut Meter, size: Size, own: u64, near: usize, set: &mut PointSet)
     requires kept { IsKept size cells.now.numbers }
     requires own { 0 < own }
     requires near { near < size * size }
-    requires words { length words.old ≡ WORDS }
-    ensures added { (q : ℕ) → q < size * size → (mask_bit words.new q ≡ 1)
-        ↔ ((mask_bit words.old q ≡ 1) ⊎ ((code_at cells.now.numbers near ≡ own)
+    ensures added { (q : ℕ) → q < size * size → HasPoint set.new q
+        ↔ (HasPoint set.old q ⊎ ((code_at cells.now.numbers near ≡ own)
         × (lib_of cells.now.numbers (label_of cells.now.numbers near) q ≡ 1))) }
-    ensures words { length words.new ≡ WORDS }
     ensures count { meter.new ≤ meter.old + (WORDS + 2) }
     ensures onward { meter.old ≤ meter.new }
 {
@@ -150,11 +147,11 @@ fn add_own(cells: &Cells, meter: &mut Meter, size: Size, own: u64, near: usize, 
         return;
     }
     let label = cells.get(LABELS + near, meter) as usize;
-    add_liberties(cells, meter, size, label, words);
+    put_liberties(cells, meter, size, label, set);
 }
 
 /// Puts the points but this one that are empty beside it, or liberties of a chain of the colour with
-/// this code beside it, into words that have none.
+/// this code beside it, into a set that has none.
 pub(crate) fn put_lent(
     cells: &Cells,
     meter: &mut Meter,
@@ -162,47 +159,21 @@ pub(crate) fn put_lent(
     own: u64,
     point: usize,
     beside: &[usize],
-    words: &mut Words,
+    set: &mut PointSet,
 )
     requires kept { IsKept size cells.now.numbers }
     requires own { 0 < own }
     requires point { point < size * size }
     requires beside { AreBeside size point beside.now }
-    requires none { words.old ≡ replicate WORDS 0 }
-    ensures lent { (q : ℕ) → q < size * size → (mask_bit words.new q ≡ 1)
+    requires none { set.old ≡ replicate WORDS 0 }
+    ensures lent { (q : ℕ) → q < size * size → HasPoint set.new q
         ↔ ((q ≢ point) × IsLent size cells.now.numbers point own q) }
-    ensures words { length words.new ≡ WORDS }
     ensures count { meter.new ≤ meter.old + reads_around }
     ensures onward { meter.old ≤ meter.new }
 {
-    put_empty(cells, meter, beside, words);
+    put_empty(cells, meter, beside, set);
     for near in beside {
-        add_own(cells, meter, size, own, *near, words);
+        add_own(cells, meter, size, own, *near, set);
     }
-    leave_out(words, point);
-}
-
-/// How many bits of a word stand for one of the first so many points.
-fn count_in(bits: u64, points: usize, word: usize) -> u16
-    requires points { points ≤ MAX_POINTS }
-    requires word { word < WORDS }
-    ensures counted { (cells : List ℕ) (label : ℕ) → bits ≡ word_of cells label word
-        → result ≡ free_in_word cells points label word }
-    ensures few { result ≤ 64 }
-{
-    (bits & mask_of(points, word)).count_ones() as u16
-}
-
-/// How many points of the board are in words: as many as pass a test that tells just those.
-pub(crate) fn count_points(words: &Words, size: Size) -> u16
-    requires { length words.now ≡ WORDS }
-    ensures { (test : ℕ → Bool) → ((q : ℕ) → q < size * size
-        → nat_eq (mask_bit words.now q) 1 ≡ test q) → result ≡ length (filter test (points size)) }
-{
-    let points = usize::from(size.points());
-    let mut count = 0;
-    for word in 0..words_of(size) {
-        count += count_in(words[word], points, word);
-    }
-    count
+    set.leave_out(point);
 }

@@ -114,11 +114,11 @@ fn put_letters<W: Sink>(size: Size, pen: &mut Pen<'_, W>)
     ensures { Writes W.Sink pen.old pen.new (letters_text size) }
 {
     pen.put(b"\n  ");
-    put_spaced(COLUMN_LETTERS.split_at(usize::from(size.lines())).0, pen);
+    put_columns(COLUMN_LETTERS.split_at(usize::from(size.lines())).0, pen);
 }
 
-/// Writes letters, each behind a space.
-fn put_spaced<W: Sink>(letters: &[u8], pen: &mut Pen<'_, W>)
+/// Writes letters of columns, each behind a space.
+fn put_columns<W: Sink>(letters: &[u8], pen: &mut Pen<'_, W>)
     ensures { Writes W.Sink pen.old pen.new (flat_map spaced_letter letters.now) }
 {
     for letter in letters {

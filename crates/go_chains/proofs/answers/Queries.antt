@@ -8,8 +8,9 @@ use Rattle.std.proofs.lemmas.Bool.{cases_lt, eq-eqb, eqb-true, false_from_ne_tru
 use Rattle.std.proofs.lemmas.List.{ext_get_or, get_or-replicate, get_or_past, length-replicate}
 use Rattle.std.proofs.lemmas.List.FromFn.{length-range_with_len}
 use Rattle.std.proofs.lemmas.List.Sums.{count_by-le-length, length-filter}
-use Rattle.std.proofs.lemmas.Nat.Bits.{shr_and_one}
+use Rattle.std.proofs.lemmas.Nat.Bits.{bit_at-zero, shr_and_one}
 use Rattle.go_board.specs.declared.colour.Colour.{Colour}
+use Rattle.go_board.specs.declared.point_set.TheConstants.{WORDS}
 use Rattle.go_board.specs.declared.size.TheConstants.{MAX_LINES, MAX_POINTS}
 use Rattle.go_board.specs.Chains.{members}
 use Rattle.go_board.specs.Colours.{Colouring, colour_at}
@@ -18,7 +19,7 @@ use Rattle.go_board.specs.Paths.{Joined}
 use Rattle.go_board.specs.Reaching.{is_liberty_of, joined, points}
 use Rattle.go_chains.specs.Cells.{code_at, label_of, lib_of, next_of, size_of, word_of}
 use Rattle.go_chains.specs.inner.Marked.{has_label, is_labelled}
-use Rattle.go_chains.specs.inner.Writes.{mask_bit}
+use Rattle.go_board.specs.PointSets.{HasPoint, bit_of, has_point}
 use Rattle.go_chains.specs.Rings.{IsOnRing, ring_from, steps}
 use Rattle.go_chains.specs.Sound.{IsKept}
 use Rattle.go_chains.specs.Boards.{IsStoneOf, colouring_of}
@@ -33,6 +34,13 @@ same_answer false b there back = sym (false_from_ne_true b (λ t. (let e : false
 
 none-some : (v : Option Colour) (c : Colour) → v ≡ None → v ≡ Some c → ⊥
 none-some v c e f = cc
+
+-- cells that are all 0 have no stone
+pub zero_cell : (count : ℕ) (cells : List ℕ) → cells ≡ replicate count 0 → (p : ℕ) → code_at cells p ≡ 0
+zero_cell count cells zeros p = ap (λ l. get_or l p 0) zeros ∙ elim (cases_lt p count) [
+  | inl inside ↦ get_or-replicate count p 0 0 inside
+  | inr past ↦ get_or_past (replicate count 0) p 0 (omega (arith, length-replicate {A = ℕ} count 0))
+]
 
 module _ (n : ℕ) (cells : List ℕ) (kept : IsKept n cells) where
   pub points-kept : n * n ≤ MAX_POINTS
@@ -113,14 +121,14 @@ module _ (n : ℕ) (cells : List ℕ) (kept : IsKept n cells) where
         λ k less. false_from_ne_true (joined n g p k) (λ t. (let past = lowest k ((on_ring by p k l stone l_is).1 t) in absurd (omega (arith, less, past)))),
       )
 
-  pub ring_answers : JoinedByPath → (p q l : ℕ) (words : List ℕ) → IsStoneOf (colouring_of n cells) p → l ≡ label_of cells p
-      → (mask_bit words q ≡ 1) ↔ IsOnRing (next_of cells) (size_of cells l) p q
-      → nat_eq (mask_bit words q) 1 ≡ joined n (colouring_of n cells) p q
-  ring_answers by p q l words stone l_is marked =
+  pub ring_answers : JoinedByPath → (p q l : ℕ) (set : List ℕ) → IsStoneOf (colouring_of n cells) p → l ≡ label_of cells p
+      → HasPoint set q ↔ IsOnRing (next_of cells) (size_of cells l) p q
+      → has_point set q ≡ joined n (colouring_of n cells) p q
+  ring_answers by p q l set stone l_is marked =
       let ring = on_ring by p q l stone l_is in
-      same_answer (nat_eq (mask_bit words q) 1) (joined n (colouring_of n cells) p q)
-      (λ t. ring.0 (marked.0 (eqb-true (mask_bit words q) 1 t)))
-      (λ t. eq-eqb (mask_bit words q) 1 (marked.1 (ring.1 t)))
+      same_answer (has_point set q) (joined n (colouring_of n cells) p q)
+      (λ t. ring.0 (marked.0 (eqb-true (bit_of set q) 1 t)))
+      (λ t. eq-eqb (bit_of set q) 1 (marked.1 (ring.1 t)))
 
   pub size_counts : JoinedByPath → (p l : ℕ) → IsStoneOf (colouring_of n cells) p → l ≡ label_of cells p
       → size_of cells l ≡ length (members n (colouring_of n cells) p)
@@ -159,17 +167,21 @@ module _ (n : ℕ) (cells : List ℕ) (kept : IsKept n cells) where
       (λ t. (let free = path.0 t in
       eq-eqb (lib_of cells l q) 1 (ap (λ k. lib_of cells k q) l_is ∙ bit.1 (free.0, (free.1.0, free.1.1, (far-kept p free.1.0 stone free.1.1, q_in, free.1.2))))))
 
+  -- a set that got the liberties of a label, and had no point
+  pub free_answers : LibertyByPath → (p l : ℕ) (old set : List ℕ) → IsStoneOf (colouring_of n cells) p → l ≡ label_of cells p → old ≡ replicate WORDS 0
+      → ((q : ℕ) → q < n * n → HasPoint set q ↔ (HasPoint old q ⊎ (lib_of cells l q ≡ 1)))
+      → (q : ℕ) → q < n * n → has_point set q ≡ is_liberty_of n (colouring_of n cells) p q
+  free_answers by p l old set stone l_is none put q q_in =
+      let empty : bit_of old q ≡ 0 = ap (λ (w : ℕ). bit_at w (q % 64)) (zero_cell WORDS old none (q / 64)) ∙ bit_at-zero (q % 64) in
+      same_answer (has_point set q) (nat_eq (lib_of cells l q) 1)
+      (λ e. elim ((put q q_in).0 (eqb-true (bit_of set q) 1 e)) [ inl had ↦ absurd (omega (arith, had, empty)) | inr lib ↦ eq-eqb (lib_of cells l q) 1 lib ])
+      (λ t. eq-eqb (bit_of set q) 1 ((put q q_in).1 (inr (eqb-true (lib_of cells l q) 1 t))))
+      ∙ liberty_answers by p q l stone q_in l_is
+
 -- the word that was read has the bit of a liberty
 pub bit_read : (cells : List ℕ) (word l q at : ℕ) → word ≡ word_of cells l (at / 64) → at ≡ q → nat_eq (bit_and (word / 2 ^ (at % 64)) 1) 1 ≡ nat_eq (lib_of cells l q) 1
 bit_read cells word l q at read is =
     ap (λ b. nat_eq b 1) (shr_and_one word (at % 64) ∙ ap (λ w. bit_at w (at % 64)) read ∙ ap (λ k. lib_of cells l k) is)
-
--- cells that are all 0 have no stone
-pub zero_cell : (count : ℕ) (cells : List ℕ) → cells ≡ replicate count 0 → (p : ℕ) → code_at cells p ≡ 0
-zero_cell count cells zeros p = ap (λ l. get_or l p 0) zeros ∙ elim (cases_lt p count) [
-  | inl inside ↦ get_or-replicate count p 0 0 inside
-  | inr past ↦ get_or_past (replicate count 0) p 0 (omega (arith, length-replicate {A = ℕ} count 0))
-]
 
 -- a board without stones is kept, whatever its other cells have
 module _ (n : ℕ) (cells : List ℕ) (empty : (p : ℕ) → p < n * n → code_at cells p ≡ 0) where

@@ -1,12 +1,12 @@
 -- How many points pass a test: as many as a list has that names each of them once.
 use Rattle.std.specs.Prelude.{AllPairs, Contains, filter, count_by}
 use Rattle.std.specs.List.{range_with_len}
-use Rattle.std.proofs.Common.{ℕ, ◌+◌, ◌*◌, ◌<◌, ◌≤◌, ◌≡◌, ◌≢◌, zero, suc, refl, sym, ap, ◌∙◌, subst, arith, inl, inr, Bool, true, false, cond, List, [], ◌∷◌, ◌++◌, length, get_or}
+use Rattle.std.proofs.Common.{ℕ, ◌+◌, ◌*◌, ◌<◌, ◌≤◌, ◌≡◌, ◌≢◌, refl, sym, ap, ◌∙◌, subst, arith, inl, inr, Bool, true, List, [], ◌∷◌, length, get_or}
 use Rattle.std.proofs.lemmas.Bool.{cases_Bool, cases_eq}
 use Rattle.std.proofs.lemmas.List.Elements.{All-contains, All-contains_itself, All-filter, Contains-append_right, filter_passes}
 use Rattle.std.proofs.lemmas.List.FromFn.{get_or-range_with_len, length-range_with_len}
 use Rattle.std.proofs.lemmas.List.Kept.{AllPairs-filter}
-use Rattle.std.proofs.lemmas.List.Sums.{length-filter, sum_by-append}
+use Rattle.std.proofs.lemmas.List.Sums.{length-filter}
 use Rattle.std.proofs.lemmas.Map.Made.{Contains-tail}
 use Rattle.go_board.specs.Reaching.{points}
 use Rattle.go_chains.proofs.tables.Tidy.{length-le_members}
@@ -75,28 +75,3 @@ counted n test xs apart pass has =
 pub counted_by : (n : ℕ) (test : ℕ → Bool) (xs : List ℕ) → AllPairs (λ x y. x ≢ y) xs → ((q : ℕ) → Contains xs q → (q < n * n) × (test q ≡ true))
     → ((q : ℕ) → q < n * n → test q ≡ true → Contains xs q) → count_by test (points n) ≡ length xs
 counted_by n test xs apart pass has = sym (length-filter test (points n)) ∙ counted n test xs apart pass has
-
--- two tests that agree on the points leave as many
-pub counted_alike : (n : ℕ) (a b : ℕ → Bool) → ((q : ℕ) → q < n * n → a q ≡ true → b q ≡ true) → ((q : ℕ) → q < n * n → b q ≡ true → a q ≡ true)
-    → count_by a (points n) ≡ length (filter b (points n))
-counted_alike n a b there back =
-    counted_by n a (filter b (points n)) (passing-apart n b) (λ q inside. let is = passing-is n b q inside in (is.0, back q is.0 is.1))
-    (λ q below passes. passing-has n b q below (there q below passes))
-
--- a range is its first part and then the rest
-pub range-append : (a m k : ℕ) → range_with_len a (m + k) ≡ range_with_len a m ++ range_with_len (a + m) k
-range-append a zero k = ap (λ i. range_with_len a i) (let e : 0 + k ≡ k = omega arith in e) ∙ ap (λ i. range_with_len i k) (let e : a ≡ a + 0 = omega arith in e)
-range-append a (suc m) k =
-    ap (λ i. range_with_len a i) (let e : suc m + k ≡ suc (m + k) = omega arith in e)
-    ∙ ap (λ l. a ∷ l) (range-append (a + 1) m k ∙ ap (λ i. range_with_len (a + 1) m ++ range_with_len i k) (let e : a + 1 + m ≡ a + suc m = omega arith in e))
-
-pub count-range : (test : ℕ → Bool) (a m k : ℕ) → count_by test (range_with_len a (m + k)) ≡ count_by test (range_with_len a m) + count_by test (range_with_len (a + m) k)
-count-range test a m k = ap (count_by test) (range-append a m k) ∙ sum_by-append (λ x. let i : ℕ = cond (test x) 1 0 in i) (range_with_len a m) (range_with_len (a + m) k)
-
--- where nothing passes there is nothing to count
-pub count_none : (test : ℕ → Bool) (a k : ℕ) → ((q : ℕ) → a ≤ q → test q ≡ false) → count_by test (range_with_len a k) ≡ 0
-count_none test a zero fails = refl
-count_none test a (suc k) fails =
-    let rest : count_by test (range_with_len (a + 1) k) ≡ 0 = count_none test (a + 1) k (λ q past. fails q (omega arith)) in
-    let one : count_by test (range_with_len a 1) ≡ 0 = ap (λ b. let i : ℕ = 0 + cond b 1 0 in i) (fails a (omega arith)) in
-    ap (λ i. count_by test (range_with_len a i)) (let e : suc k ≡ 1 + k = omega arith in e) ∙ count-range test a 1 k ∙ (let z : count_by test (range_with_len a 1) + count_by test (range_with_len (a + 1) k) ≡ 0 = omega arith in z)

@@ -4,12 +4,14 @@ use Rattle.std.proofs.Common.{ℕ, ◌+◌, ◌*◌, ◌/◌, ◌%◌, ◌<◌, 
 use Rattle.std.proofs.lemmas.Bool.{cases_lt, cases_eq}
 use Rattle.go_board.specs.Paths.{IsAdjacent}
 use Rattle.go_board.specs.declared.size.TheConstants.{MAX_POINTS}
-use Rattle.go_chains.specs.declared.cells.TheConstants.{LABELS, LINKS, SIZES, LIBERTIES, WORDS}
+use Rattle.go_chains.specs.declared.cells.TheConstants.{LABELS, LINKS, SIZES, LIBERTIES}
+use Rattle.go_board.specs.declared.point_set.TheConstants.{WORDS}
 use Rattle.go_chains.specs.inner.Beside.{AreBeside}
 use Rattle.go_chains.specs.inner.Tables.{IsStone, IsTidy, tables_of}
 use Rattle.go_chains.specs.inner.Steps.{IsPlaced}
 use Rattle.go_chains.specs.Cells.{IsWritten, code_at, label_of, lib_of, word_of}
-use Rattle.go_chains.specs.inner.Writes.{IsDeprived, IsFilled, IsStoneBeside, MarksEmpty, mask_bit}
+use Rattle.go_chains.specs.inner.Writes.{IsDeprived, IsFilled, IsStoneBeside, MarksEmpty}
+use Rattle.go_board.specs.PointSets.{bit_of}
 use Rattle.go_chains.proofs.writes.Depriving.{unset}
 use Rattle.go_board.specs.lemmas.Paths.{flip}
 
@@ -38,7 +40,7 @@ module _ (n : ℕ) (small : n * n ≤ MAX_POINTS) (c0 c1 c2 c3 c4 c5 c6 words be
   lib_kept : (s q : ℕ) → IsStone (n * n) (tables_of c0) s → q < n * n → lib_of c6 (label_of c0 s) q ≡ lib_of c1 (label_of c0 s) q
   lib_kept s q stone q_in = ap (λ x. bit_at x (q % 64)) (word_kept (label_of c0 s) (q / 64) (tidy.head_in s stone) (label_apart s stone) (omega arith))
 
-  own_mark : (q : ℕ) → q < n * n → lib_of c6 p q ≡ mask_bit words q
+  own_mark : (q : ℕ) → q < n * n → lib_of c6 p q ≡ bit_of words q
   own_mark q q_in = ap (λ x. bit_at x (q % 64)) (filled.words_are (q / 64) (omega arith) (omega arith))
 
   lost : (s : ℕ) → IsStone (n * n) (tables_of c0) s → lib_of c1 (label_of c0 s) p ≡ 0
@@ -81,5 +83,5 @@ module _ (n : ℕ) (small : n * n ≤ MAX_POINTS) (c0 c1 c2 c3 c4 c5 c6 words be
         (o.1, (let A : ℕ → Type 0 = IsAdjacent n p in subst A o.0.2 (near.are o.0.0 o.0.1)));
     has_lib = λ q q_in none beside_p.
         let at = near.all q beside_p in
-        own_mark q q_in ∙ ap (mask_bit words) (sym at.2) ∙ marks.are at.0 at.1 (ap (code_at c0) at.2 ∙ none);
+        own_mark q q_in ∙ ap (bit_of words) (sym at.2) ∙ marks.are at.0 at.1 (ap (code_at c0) at.2 ∙ none);
   }

@@ -2,7 +2,8 @@
 use Rattle.std.specs.Prelude.{ℕ, List, ◌≡◌, ◌≢◌, ◌<◌, ◌*◌, ◌⊎◌, length}
 use Rattle.go_board.specs.Paths.{IsAdjacent}
 use Rattle.go_board.specs.declared.size.TheConstants.{MAX_POINTS}
-use Rattle.go_chains.specs.Cells.{CellsValue, code_at, label_of, next_of, words_for}
+use Rattle.go_chains.specs.Cells.{CellsValue, code_at, label_of, next_of}
+use Rattle.go_board.specs.PointSets.{words_for}
 use Rattle.go_chains.specs.inner.Steps.{CountsTaken, IsCapturing, IsConnected, IsConnectedTo, IsJoin, IsPlaced, IsRemoved}
 use Rattle.go_chains.specs.inner.Tables.{IsDead, IsStone, IsTidy, AreChainsWhole, Tables, tables_of}
 use Rattle.go_chains.specs.inner.Writes.{IsDeprived, IsFilled, IsGiven, IsGivenBeside, IsMerged, IsRelabelled, IsStoneBeside}

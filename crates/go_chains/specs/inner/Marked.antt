@@ -1,37 +1,27 @@
--- Points that words have a bit for, in point order, those of a chain that are still to come, and its label.
-use Rattle.std.specs.Prelude.{ℕ, Bool, false, List, None, Option, Some, ◌-◌, ◌*◌, drop, filter, map, nat_eq}
-use Rattle.std.specs.List.{range_with_len}
+-- The points of a chain that are still to come, and its label.
+use Rattle.std.specs.Prelude.{ℕ, Bool, false, List, None, Option, Some, drop, nat_eq}
 use Rattle.go_board.specs.declared.colour.Colour.{Colour}
 use Rattle.go_board.specs.declared.point.Point.{Point}
 use Rattle.go_board.specs.Grids.{chain_liberties, chain_stones}
 use Rattle.go_board.specs.Packs.{colour_coded}
-use Rattle.go_board.specs.Points.{point_at}
+use Rattle.go_board.specs.PointSets.{points_from}
 use Rattle.go_chains.specs.Boards.{BoardValue, shown}
 use Rattle.go_chains.specs.Cells.{code_at, label_of}
 use Rattle.go_chains.specs.declared.chain_points.Given.{Given}
 use Rattle.go_chains.specs.declared.chain_points.Given.TheVariants.{Nothing, First, Before}
 use Rattle.go_chains.specs.declared.chain_points.Part.{Part}
 use Rattle.go_chains.specs.declared.chain_points.Part.TheVariants.{Stones, Liberties}
-use Rattle.go_chains.specs.inner.Writes.{mask_bit}
-
--- the words have the bit of q
-abbrev pub is_marked : List ℕ → ℕ → Bool
-is_marked words q = nat_eq (mask_bit words q) 1
-
--- the points of a board of n lines that are in words, from number k on
-unfoldable pub points_left : ℕ → List ℕ → ℕ → List Point
-points_left n words k = map (point_at n) (filter (is_marked words) (range_with_len k (n * n - k)))
 
 -- the points of this part of the chain of the stone on p
 abbrev pub points_of : BoardValue → Part → Point → List Point
 points_of b Stones p = chain_stones (shown b) p
 points_of b Liberties p = chain_liberties (shown b) p
 
--- the points of this part that are to come: all, all but the first, or those in words from number k on
+-- the points of this part that are to come: all, all but the first, or those in a set from number k on
 abbrev pub to_come : BoardValue → Part → Point → List ℕ → Given → List Point
-to_come b part p words Nothing = points_of b part p
-to_come b part p words First = drop 1 (points_of b part p)
-to_come b part p words (Before k) = points_left b.lines words k
+to_come b part p set Nothing = points_of b part p
+to_come b part p set First = drop 1 (points_of b part p)
+to_come b part p set (Before k) = points_from b.lines set k
 
 -- a point of this colour and label is a stone with label l
 abbrev pub is_labelled : Option Colour → ℕ → ℕ → Bool

@@ -2,7 +2,7 @@
 use Rattle.std.specs.Prelude.{ℕ, List, ◌≡◌, ◌≢◌, ◌<◌, ◌*◌, ◌⊎◌}
 use Rattle.go_board.specs.Paths.{IsAdjacent}
 use Rattle.go_chains.specs.declared.quiet.Outlook.{Outlook}
-use Rattle.go_chains.specs.declared.quiet.Outlook.TheVariants.{Taken, Stays, Breathes}
+use Rattle.go_chains.specs.declared.quiet.Outlook.TheVariants.{Falls, Stays, Breathes}
 use Rattle.go_chains.specs.Cells.{code_at, label_of, lib_of}
 
 -- a label has another liberty than p
@@ -19,7 +19,7 @@ BreathesAt n cells p own q = (code_at cells q ≡ 0) ⊎ ((code_at cells q ≡ o
 
 -- what an outlook says of q
 abbrev pub IsOutlook : ℕ → List ℕ → ℕ → ℕ → ℕ → Outlook → Type 0
-IsOutlook n cells p own q Taken = Unit {0}
+IsOutlook n cells p own q Falls = Unit {0}
 IsOutlook n cells p own q Stays = StaysAt n cells p own q
 IsOutlook n cells p own q Breathes = BreathesAt n cells p own q
 

@@ -1,10 +1,11 @@
 -- What loops over the cells have written so far. For the contracts of the steps of a play.
-use Rattle.std.specs.Prelude.{ℕ, List, ◌≡◌, ◌≢◌, ◌≤◌, ◌<◌, ◌+◌, ◌*◌, ◌/◌, ◌%◌, ◌⊎◌, slice_index}
-use Rattle.std.specs.Int.{bit_at}
+use Rattle.std.specs.Prelude.{ℕ, List, ◌≡◌, ◌≢◌, ◌≤◌, ◌<◌, ◌+◌, ◌*◌, ◌⊎◌, slice_index}
 use Rattle.std.specs.Int.RustNames.{bit_or}
 use Rattle.go_board.specs.Paths.{IsAdjacent}
+use Rattle.go_board.specs.PointSets.{HasPoint}
 use Rattle.go_board.specs.declared.size.TheConstants.{MAX_POINTS}
-use Rattle.go_chains.specs.declared.cells.TheConstants.{LABELS, LINKS, LIBERTIES, WORDS}
+use Rattle.go_chains.specs.declared.cells.TheConstants.{LABELS, LINKS, LIBERTIES}
+use Rattle.go_board.specs.declared.point_set.TheConstants.{WORDS}
 use Rattle.go_chains.specs.Rings.{steps}
 use Rattle.go_chains.specs.Cells.{code_at, label_of, word_of, lib_of}
 
@@ -72,17 +73,13 @@ abbrev pub IsStoneBeside : List ℕ → List ℕ → ℕ → ℕ → Type 0
 IsStoneBeside cells beside upto l =
     (i : ℕ) × (i < upto) × (0 < code_at cells (slice_index beside i)) × (label_of cells (slice_index beside i) ≡ l)
 
--- the bit of a point in words of liberties
-abbrev pub mask_bit : List ℕ → ℕ → ℕ
-mask_bit words q = bit_at (slice_index words (q / 64)) (q % 64)
-
 -- one point is marked too, where it is empty
 pub record MarksOne (cells old new : List ℕ) (near : ℕ) : Type 0 where
-  pub kept : (q : ℕ) → q < MAX_POINTS → mask_bit old q ≡ 1 → mask_bit new q ≡ 1
-  pub given : code_at cells near ≡ 0 → mask_bit new near ≡ 1
-  pub was : (q : ℕ) → q < MAX_POINTS → mask_bit new q ≡ 1 → (mask_bit old q ≡ 1) ⊎ ((q ≡ near) × (code_at cells near ≡ 0))
+  pub kept : (q : ℕ) → q < MAX_POINTS → HasPoint old q → HasPoint new q
+  pub given : code_at cells near ≡ 0 → HasPoint new near
+  pub was : (q : ℕ) → q < MAX_POINTS → HasPoint new q → HasPoint old q ⊎ ((q ≡ near) × (code_at cells near ≡ 0))
 
 -- the marked points are exactly the empty ones among the first so many listed
-pub record MarksEmpty (cells words beside : List ℕ) (upto : ℕ) : Type 0 where
-  pub are : (i : ℕ) → i < upto → code_at cells (slice_index beside i) ≡ 0 → mask_bit words (slice_index beside i) ≡ 1
-  pub only : (q : ℕ) → q < MAX_POINTS → mask_bit words q ≡ 1 → ((i : ℕ) × (i < upto) × (slice_index beside i ≡ q)) × (code_at cells q ≡ 0)
+pub record MarksEmpty (cells set beside : List ℕ) (upto : ℕ) : Type 0 where
+  pub are : (i : ℕ) → i < upto → code_at cells (slice_index beside i) ≡ 0 → HasPoint set (slice_index beside i)
+  pub only : (q : ℕ) → q < MAX_POINTS → HasPoint set q → ((i : ℕ) × (i < upto) × (slice_index beside i ≡ q)) × (code_at cells q ≡ 0)

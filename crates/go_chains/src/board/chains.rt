@@ -1,24 +1,21 @@
 //! What a board tells of its chains and their liberties.
-ghost use Rattle.std.specs.Prelude.{◌≡◌, ◌<◌, ◌≤◌, ◌+◌, ◌*◌, ◌/◌, ◌∷◌, if◌then◌else◌, ℕ, None, Some, drop, length};
-ghost use Rattle.std.specs.Int.{bit_at};
+ghost use Rattle.std.specs.Prelude.{◌≡◌, ◌<◌, ◌≤◌, ◌+◌, ◌*◌, ◌/◌, ◌∷◌, if◌then◌else◌, ℕ, None, Some, drop, replicate};
 ghost use Rattle.go_board.specs.Points.{IsOn, number_of, point_at};
+ghost use Rattle.go_board.specs.PointSets.{points_from};
+ghost use Rattle.go_board.specs.declared.point_set.TheConstants.{WORDS};
 ghost use Rattle.go_board.specs.declared.size.TheConstants.{MAX_POINTS};
-ghost use Rattle.go_chains.specs.declared.cells.TheConstants.{WORDS};
 ghost use Rattle.go_chains.specs.Cells.{label_of};
 ghost use Rattle.go_chains.specs.Sound.{IsKept};
 ghost use Rattle.go_chains.specs.Boards.{HoldsStone, shown};
-ghost use Rattle.go_chains.specs.inner.Marked.{has_label, points_left, points_of};
-ghost use Rattle.go_chains.specs.inner.Words.{free_in_word};
+ghost use Rattle.go_chains.specs.inner.Marked.{has_label, points_of};
 ghost use Rattle.go_board.specs.Grids.{are_joined, chain_liberties, chain_stones, has_liberty, liberty_count, stone_count};
 
 use super::Board;
-use crate::cells::{LABELS, SIZES, WORDS, word_place};
+use crate::cells::{LABELS, SIZES, word_place};
 use crate::chain_points::{ChainPoints, Part};
-use crate::marks::{liberties_of, lowest_on_ring, next_in, ring_of};
-use crate::masks::mask_of;
-use crate::occupy::Words;
+use crate::marks::{lowest_on_ring, put_liberties, put_ring};
 use go_board::laws::{joined_by_a_path, liberty_by_a_path, points_by_number};
-use go_board::{Colour, Meter, Point};
+use go_board::{Colour, Meter, Point, PointSet};
 
 impl Board {
     /// Whether two stones are in one chain: a path of their colour joins them.
@@ -91,14 +88,11 @@ impl Board {
         points_by_number();
         liberty_by_a_path();
         let mut meter = Meter::new();
+        let size = self.size();
         let label = self.label_at(p, &mut meter);
-        let points = usize::from(self.size().points());
-        let mut count = 0;
-        let full = points / 64;
-        for word in 0..full {
-            count += self.liberties_in(points, label, word, u64::MAX, &mut meter);
-        }
-        count + self.liberties_in(points, label, full, mask_of(points, full), &mut meter)
+        let mut free = PointSet::new();
+        put_liberties(&self.cells, &mut meter, size, label, &mut free);
+        free.count(size)
     }
 
     /// The first stone of the chain of a stone. As many of the board's first points as the chain has
@@ -124,36 +118,36 @@ impl Board {
         lowest_on_ring(&self.cells, usize::from(p.index(self.size)), stones) as u16
     }
 
-    /// Puts the points of a part of the chain of a stone into words, and gives the number from which
-    /// on they are to come: the one behind the first point, where that was passed. It stays out of
-    /// the loop that walks over the words, which is short without it.
+    /// Makes a set the points of a part of the chain of a stone, and gives the number from which on
+    /// they are to come: the one behind the first point, where that was passed. It stays out of the
+    /// loop that walks over the set, which is short without it.
     #[inline(never)]
-    pub(crate) fn mark(&self, part: Part, p: Point, passed: bool, words: &mut Words) -> u16
+    pub(crate) fn mark(&self, part: Part, p: Point, passed: bool, set: &mut PointSet) -> u16
         requires on { IsOn self.now.lines p }
         requires stone { HoldsStone self.now p }
-        ensures points { points_left self.now.lines words.new result
+        ensures { points_from self.now.lines set.new result
             ≡ (if passed then drop 1 (points_of self.now part p) else points_of self.now part p) }
-        ensures words { length words.new ≡ WORDS }
     {
-        *words = match part {
-            Part::Stones => self.marked_stones(p),
-            Part::Liberties => self.marked_liberties(p),
-        };
+        *set = PointSet::new();
+        match part {
+            Part::Stones => self.mark_stones(p, set),
+            Part::Liberties => self.mark_liberties(p, set),
+        }
         if !passed {
             return 0;
         }
-        match next_in(words, self.size, 0) {
+        match set.next(self.size, 0) {
             Some(first) => first + 1,
             None => 0,
         }
     }
 
-    /// The stones of the chain of a stone, as words.
-    fn marked_stones(&self, p: Point) -> Words
+    /// Puts the stones of the chain of a stone into a set that has none.
+    fn mark_stones(&self, p: Point, set: &mut PointSet)
         requires on { IsOn self.now.lines p }
         requires stone { HoldsStone self.now p }
-        ensures points { points_left self.now.lines result 0 ≡ chain_stones (shown self.now) p }
-        ensures words { length result ≡ WORDS }
+        requires none { set.old ≡ replicate WORDS 0 }
+        ensures { points_from self.now.lines set.new 0 ≡ chain_stones (shown self.now) p }
     {
         points_by_number();
         joined_by_a_path();
@@ -161,20 +155,21 @@ impl Board {
         let label = self.label_at(p, &mut meter);
         let stones = self.cells.get(SIZES + label, &mut meter) as usize;
         let first = usize::from(p.index(self.size));
-        ring_of(&self.cells, first, stones)
+        put_ring(&self.cells, first, stones, set);
     }
 
-    /// The liberties of the chain of a stone, as words.
-    fn marked_liberties(&self, p: Point) -> Words
+    /// Puts the liberties of the chain of a stone into a set that has none.
+    fn mark_liberties(&self, p: Point, set: &mut PointSet)
         requires on { IsOn self.now.lines p }
         requires stone { HoldsStone self.now p }
-        ensures points { points_left self.now.lines result 0 ≡ chain_liberties (shown self.now) p }
-        ensures words { length result ≡ WORDS }
+        requires none { set.old ≡ replicate WORDS 0 }
+        ensures { points_from self.now.lines set.new 0 ≡ chain_liberties (shown self.now) p }
     {
         points_by_number();
         liberty_by_a_path();
-        let label = self.label_at(p, &mut Meter::new());
-        liberties_of(&self.cells, self.size(), label)
+        let mut meter = Meter::new();
+        let label = self.label_at(p, &mut meter);
+        put_liberties(&self.cells, &mut meter, self.size(), label, set);
     }
 
     /// The label of a stone's chain.
@@ -200,26 +195,5 @@ impl Board {
             Some(_) => label == self.cells.get(LABELS + number, &mut meter) as usize,
             None => false,
         }
-    }
-
-    /// How many of the first so many points have their bit in one word of a label's liberties. The
-    /// mask has the bits of those in that word.
-    fn liberties_in(
-        &self,
-        points: usize,
-        label: usize,
-        word: usize,
-        mask: u64,
-        meter: &mut Meter,
-    ) -> u16
-        requires label { label < MAX_POINTS }
-        requires word { word < WORDS }
-        requires inside { (i : ℕ) → i < 64 → 64 * word + i < points → bit_at mask i ≡ 1 }
-        requires outside { (i : ℕ) → i < 64 → points ≤ 64 * word + i → bit_at mask i ≡ 0 }
-        ensures counted { result ≡ free_in_word self.now.cells points label word }
-        ensures few { result ≤ 64 }
-    {
-        let bits = self.cells.get(word_place(label, word), meter);
-        (bits & mask).count_ones() as u16
     }
 }

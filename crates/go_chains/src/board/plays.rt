@@ -3,7 +3,8 @@ ghost use Rattle.std.specs.Prelude.{◌≡◌, ◌<◌, ◌≤◌, ◌+◌, ◌*
 ghost use Rattle.go_board.specs.Chains.{liberties};
 ghost use Rattle.go_board.specs.Colours.{other};
 ghost use Rattle.go_board.specs.Points.{IsOn, number_of};
-ghost use Rattle.go_chains.specs.declared.cells.TheConstants.{COUNT, WORDS};
+ghost use Rattle.go_chains.specs.declared.cells.TheConstants.{COUNT};
+ghost use Rattle.go_board.specs.declared.point_set.TheConstants.{WORDS};
 ghost use Rattle.go_chains.specs.declared.change.Change.{Change};
 ghost use Rattle.go_chains.specs.Playing.{most_at, played, reads_around, went};
 ghost use Rattle.go_chains.specs.Rewound.{ForLast, IsRewound, NamesCells, PlayLogged, rewound};
@@ -12,14 +13,13 @@ ghost use Rattle.go_chains.specs.Boards.{HoldsStone, grid_of};
 
 use super::Board;
 use crate::beside::put_beside;
-use crate::cells::WORDS;
 use crate::error::PlaceError;
 use crate::log::{Log, reserve_play, seal};
 use crate::place::{ROOM, place};
-use crate::quiet::{count_points, is_quiet, put_lent};
+use crate::quiet::{put_lent, takes_nothing};
 use arrayvec::ArrayVec;
 use go_board::laws::{liberty_by_a_path, points_by_number, reaches_by_a_path};
-use go_board::{Colour, Meter, Point, Taken};
+use go_board::{Colour, Meter, Point, PointSet, Taken};
 use std::alloc::Allocator;
 
 impl Board {
@@ -91,7 +91,7 @@ impl Board {
         let mut near = ArrayVec::new();
         put_beside(size, p, &mut near);
         let point = usize::from(p.index(size));
-        is_quiet(
+        takes_nothing(
             &self.cells,
             meter,
             size,
@@ -117,7 +117,7 @@ impl Board {
         let mut near = ArrayVec::new();
         put_beside(size, p, &mut near);
         let point = usize::from(p.index(size));
-        let mut words = [0; WORDS];
+        let mut lent = PointSet::new();
         put_lent(
             &self.cells,
             meter,
@@ -125,9 +125,9 @@ impl Board {
             colour.code(),
             point,
             near.as_slice(),
-            &mut words,
+            &mut lent,
         );
-        count_points(&words, size)
+        lent.count(size)
     }
 
     /// Takes back the last play of a log, change by change from the last to the first. It takes no

@@ -1,7 +1,7 @@
 use Rattle.std.proofs.Common.{◌≡◌, ◌<◌, ◌≤◌, ◌+◌, ◌*◌, ℕ, slice_index}
 use Rattle.go_board.specs.Paths.{IsAdjacent}
 use Rattle.go_board.specs.declared.size.TheConstants.{MAX_POINTS}
-use Rattle.go_chains.specs.declared.cells.TheConstants.{WORDS}
+use Rattle.go_board.specs.declared.point_set.TheConstants.{WORDS}
 use Rattle.go_chains.specs.Cells.{code_at, label_of}
 use Rattle.go_chains.specs.inner.Edits.{Edited}
 use Rattle.go_chains.specs.inner.Steps.{CountsTaken, IsCapturing}

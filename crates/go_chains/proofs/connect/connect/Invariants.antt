@@ -1,6 +1,6 @@
 use Rattle.std.proofs.Common.{◌+◌, ◌*◌}
 use Rattle.go_board.specs.Paths.{IsAdjacent}
-use Rattle.go_chains.specs.declared.cells.TheConstants.{WORDS}
+use Rattle.go_board.specs.declared.point_set.TheConstants.{WORDS}
 use Rattle.go_chains.specs.Cells.{growth}
 use Rattle.go_chains.specs.inner.Edits.{Edited}
 use Rattle.go_chains.specs.inner.Steps.{IsConnectedTo}

@@ -1,4 +1,4 @@
-use Rattle.std.proofs.Common.{arith, ℕ, slice_index, subst, refl}
+use Rattle.std.proofs.Common.{arith, ℕ, subst}
 use Rattle.go_chains.specs.Cells.{IsWritten}
 use Rattle.go_chains.proofs.writes.Depriving.{IsFilled_more}
 use Rattle.go_chains.proofs.writes.Editing.{Edited_then, Edited_within}
@@ -9,9 +9,9 @@ loop-word-preserved g c =
     let inv = c.loop-word.invariant in
     let one = c.put.ensures in
     let i = c.loop-word.word in
-    let P : ℕ → Type 0 = λ k. IsWritten c.loop-word.cells.numbers c.put.new.cells.numbers k (slice_index c.args.words.now i) in
+    let P : ℕ → Type 0 = λ k. IsWritten c.loop-word.cells.numbers c.put.new.cells.numbers k c.word.result in
     record {
-      filled = IsFilled_more c.args.cells.now.numbers c.loop-word.cells.numbers c.put.new.cells.numbers c.args.label c.args.words.now i (slice_index c.args.words.now i) (omega arith) inv.filled (subst P c.word_place-place.ensures.value one.written) refl;
+      filled = IsFilled_more c.args.cells.now.numbers c.loop-word.cells.numbers c.put.new.cells.numbers c.args.label c.args.set.now i c.word.result (omega arith) inv.filled (subst P c.word_place-place.ensures.value one.written) c.word.ensures;
       edited = Edited_then inv.edited one.edited (omega arith) (omega arith) (omega arith);
     }
 

@@ -3,7 +3,8 @@ use Rattle.go_board.specs.lemmas.Squares.{square-le}
 use Rattle.std.proofs.lemmas.List.{get_or_default}
 use Rattle.go_board.specs.Paths.{IsAdjacent}
 use Rattle.go_board.specs.declared.size.TheConstants.{MAX_POINTS}
-use Rattle.go_chains.specs.Cells.{code_at, label_of, words_for}
+use Rattle.go_chains.specs.Cells.{code_at, label_of}
+use Rattle.go_board.specs.PointSets.{words_for}
 use Rattle.go_chains.specs.inner.Tables.{tables_of}
 use Rattle.go_chains.proofs.writes.Occupying.{IsPlaced_written}
 use Rattle.go_chains.proofs.writes.Editing.{Edited_next, Edited_within}
@@ -23,7 +24,7 @@ returns-clause-occupied g c =
     let n = c.args.size in
     IsPlaced_written n (square-le n (omega arith))
     c.args.cells.now.numbers c.deprive.new.cells.numbers c.replace.new.cells.numbers c.put.new.cells.numbers c.put-2.new.cells.numbers c.put-3.new.cells.numbers c.fill_words.new.cells.numbers
-    c.put_empty.new.words c.args.beside.now c.args.point c.args.colour
+    c.put_empty.new.set c.args.beside.now c.args.point c.args.colour
     c.requires.tidy c.requires.point c.requires.empty c.requires.colour c.requires.beside c.put_empty.ensures.marks c.deprive.ensures.deprived
     c.replace.ensures.written c.put.ensures.written c.put-2.ensures.written c.put-3.ensures.written (words_for (n * n)) (omega arith) c.fill_words.ensures.filled
 

@@ -2,6 +2,7 @@ use Rattle.std.proofs.Common.{arith}
 use Rattle.go_chains.proofs.rules.Quiet.{label_low}
 use Rattle.go_chains.proofs.quiet.add_own.Goals as goal
 
-pub add_liberties-requires-clause-label : goal.add_liberties-requires-clause-label
-add_liberties-requires-clause-label c =
-    omega (arith, c.get-label.ensures.value, label_low c.args.size c.args.cells.now.numbers c.requires.kept c.args.near c.requires.near (λ e. omega (arith, c.requires.own, c.get.ensures.value, c.if-get-own.false, e)))
+pub put_liberties-requires : goal.put_liberties-requires
+put_liberties-requires c = record {
+  label = omega (arith, c.get-label.ensures.value, label_low c.args.size c.args.cells.now.numbers c.requires.kept c.args.near c.requires.near (λ e. omega (arith, c.requires.own, c.get.ensures.value, c.if-get-own.false, e)));
+}

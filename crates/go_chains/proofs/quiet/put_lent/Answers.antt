@@ -26,7 +26,6 @@ loop-near-preserved c =
           ]
         ]),
       );
-      words = c.add_own.ensures.words;
       count = omega (arith, kept.count, c.add_own.ensures.count);
       onward = omega (arith, kept.onward, c.add_own.ensures.onward);
     }
@@ -34,7 +33,7 @@ loop-near-preserved c =
 pub returns-clause-lent : goal.returns-clause-lent
 returns-clause-lent c q low =
     let cells = c.args.cells.now.numbers in
-    let left = c.leave_out.ensures.left q in
+    let left = c.leave_out.ensures q in
     let is = c.loop-near.invariant.lent q low in (
       λ set. (
         (left.0 set).0,

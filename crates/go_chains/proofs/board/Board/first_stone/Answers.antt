@@ -8,7 +8,7 @@ use Rattle.go_chains.specs.Cells.{label_of, next_of, size_of}
 use Rattle.go_chains.specs.Rings.{IsOnRing, steps}
 use Rattle.go_chains.specs.inner.Marked.{has_label}
 use Rattle.go_chains.specs.Sound.{IsKept}
-use Rattle.go_chains.proofs.answers.ChainPoints.{first-is}
+use Rattle.go_board.specs.lemmas.PointSets.{first-is}
 use Rattle.go_chains.proofs.answers.Queries.{lowest_is, points-kept, ring_in, size_fits, stone_answers}
 use Rattle.go_chains.proofs.board.Board.first_stone.Goals as goal
 

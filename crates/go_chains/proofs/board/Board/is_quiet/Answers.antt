@@ -15,5 +15,5 @@ returns-clause-quiet c is =
     let point = c.from-point.ensures ∙ c.index.ensures.value ∙ ap (λ (k : ℕ). number_of k c.args.p) c.size-size.ensures.lines in
     quiet_moved n cells kept c.args.colour c.code.result p low (vacant_code n cells kept p low c.requires.empty)
     (ap colour_coded c.code.ensures.value ∙ coded_back c.args.colour)
-    (quiet_on c.size-size.result n c.from-point.result p c.code.result c.self.inside.cells.numbers cells c.size-size.ensures.lines (ap (λ (b : BoardValue). b.cells) c.self.view_is) point (c.is_quiet.ensures.quiet is))
+    (quiet_on c.size-size.result n c.from-point.result p c.code.result c.self.inside.cells.numbers cells c.size-size.ensures.lines (ap (λ (b : BoardValue). b.cells) c.self.view_is) point (c.takes_nothing.ensures.quiet is))
     c.reaches_by_a_path.ensures
