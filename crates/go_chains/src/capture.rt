@@ -7,31 +7,13 @@ ghost use Rattle.go_chains.specs.inner.Edits.{Edited};
 ghost use Rattle.go_chains.specs.inner.Tables.{IsDead, tables_of};
 ghost use Rattle.go_chains.specs.inner.CellSteps.{AreColours, AreTidy, AreWhole, Captures, CapturesMore, TakesDead, TakesStones};
 
-use crate::cells::{Cells, LABELS, word_place};
+use crate::cells::{Cells, LABELS};
 use crate::change::Change;
 use crate::lift::take_off;
+use crate::masks::has_liberty_in;
 use go_board::point_set::{mask_of, words_of};
 use go_board::{Meter, Size};
 use std::alloc::Allocator;
-
-/// Whether one word of a label has the bit of one of the first so many points.
-fn has_liberty_in(
-    cells: &Cells,
-    meter: &mut Meter,
-    points: usize,
-    label: usize,
-    word: usize,
-) -> bool
-    requires points { points ≤ MAX_POINTS }
-    requires label { label < MAX_POINTS }
-    requires word { word < WORDS }
-    ensures some { IsTrue result → (q : ℕ) × (q < points) × (lib_of cells.now.numbers label q ≡ 1) }
-    ensures none { result ≡ false → (q : ℕ) → q < points → q / 64 ≡ word
-        → lib_of cells.now.numbers label q ≡ 1 → ⊥ }
-    ensures count { meter.new ≡ meter.old + 1 }
-{
-    cells.get(word_place(label, word), meter) & mask_of(points, word) != 0
-}
 
 /// Whether no point of the board is a liberty of a label. Liberties are mostly close by, so the
 /// word with the bit of a near point is looked at first.
@@ -43,11 +25,11 @@ pub fn is_dead(cells: &Cells, meter: &mut Meter, size: Size, label: usize, near:
     ensures onward { meter.old ≤ meter.new }
 {
     let points = usize::from(size.points());
-    if has_liberty_in(cells, meter, points, label, near / 64) {
+    if has_liberty_in(cells, meter, label, near / 64, mask_of(points, near / 64)) {
         return false;
     }
     for word in 0..words_of(size) {
-        if has_liberty_in(cells, meter, points, label, word) {
+        if has_liberty_in(cells, meter, label, word, mask_of(points, word)) {
             return false;
         }
     }

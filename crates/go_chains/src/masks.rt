@@ -1,16 +1,20 @@
-ghost use Rattle.std.specs.Prelude.{◌≡◌, ◌<◌, ◌≤◌, ◌+◌, ◌*◌, ℕ};
+//! Words of a label's liberties, looked at through a mask.
+ghost use Rattle.std.specs.Prelude.{◌≡◌, ◌≢◌, ◌<◌, ◌≤◌, ◌+◌, ◌*◌, ◌/◌, ◌%◌, ◌↔◌, ℕ, IsTrue, false};
 ghost use Rattle.std.specs.Int.{bit_at};
 ghost use Rattle.go_board.specs.declared.size.TheConstants.{MAX_POINTS};
 ghost use Rattle.go_board.specs.declared.point_set.TheConstants.{WORDS};
+ghost use Rattle.go_chains.specs.Cells.{lib_of};
 
+use crate::cells::{Cells, word_place};
+use go_board::Meter;
 use go_board::point_set::mask_of;
 
 /// The bits of a word that stand for one of the first so many points, but for that of one point.
 pub(crate) fn mask_but(points: usize, word: usize, point: usize) -> u64
     requires points { points ≤ MAX_POINTS }
     requires word { word < WORDS }
-    ensures outside { (i : ℕ) → i < 64 → points ≤ 64 * word + i → bit_at result i ≡ 0 }
-    ensures without { (i : ℕ) → i < 64 → 64 * word + i ≡ point → bit_at result i ≡ 0 }
+    ensures { (i : ℕ) → i < 64 → (bit_at result i ≡ 1)
+        ↔ ((64 * word + i < points) × (64 * word + i ≢ point)) }
 {
     let mask = mask_of(points, word);
     if point / 64 == word {
@@ -18,4 +22,23 @@ pub(crate) fn mask_but(points: usize, word: usize, point: usize) -> u64
     } else {
         mask
     }
+}
+
+/// Whether one word of a label has a liberty that is in a mask.
+pub(crate) fn has_liberty_in(
+    cells: &Cells,
+    meter: &mut Meter,
+    label: usize,
+    word: usize,
+    mask: u64,
+) -> bool
+    requires label { label < MAX_POINTS }
+    requires word { word < WORDS }
+    ensures some { IsTrue result → (q : ℕ) × (q / 64 ≡ word) × (bit_at mask (q % 64) ≡ 1)
+        × (lib_of cells.now.numbers label q ≡ 1) }
+    ensures none { result ≡ false → (q : ℕ) → q / 64 ≡ word → bit_at mask (q % 64) ≡ 1
+        → lib_of cells.now.numbers label q ≡ 1 → ⊥ }
+    ensures count { meter.new ≡ meter.old + 1 }
+{
+    cells.get(word_place(label, word), meter) & mask != 0
 }

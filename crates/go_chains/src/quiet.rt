@@ -9,9 +9,9 @@ ghost use Rattle.go_chains.specs.Sound.{IsKept};
 ghost use Rattle.go_chains.specs.inner.Beside.{AreBeside};
 ghost use Rattle.go_chains.specs.inner.Quiet.{HasOther, IsLent, IsOutlook, IsQuiet};
 
-use crate::cells::{Cells, LABELS, word_place};
+use crate::cells::{Cells, LABELS};
 use crate::marks::put_liberties;
-use crate::masks::mask_but;
+use crate::masks::{has_liberty_in, mask_but};
 use crate::occupy::put_empty;
 use go_board::point_set::words_of;
 use go_board::{Meter, PointSet, Size};
@@ -19,7 +19,7 @@ use go_board::{Meter, PointSet, Size};
 /// What a stone on an empty point means for a point beside it.
 #[derive(Clone, Copy)]
 pub(crate) enum Outlook {
-    /// A chain that it may take.
+    /// A chain that it takes.
     Falls,
     /// Nothing that it takes.
     Stays,
@@ -27,40 +27,22 @@ pub(crate) enum Outlook {
     Breathes,
 }
 
-/// Whether one word of a label has the bit of one of the first so many points but this one.
-fn has_other_in(
-    cells: &Cells,
-    meter: &mut Meter,
-    points: usize,
-    label: usize,
-    word: usize,
-    point: usize,
-) -> bool
-    requires points { points ≤ MAX_POINTS }
-    requires label { label < MAX_POINTS }
-    requires word { word < WORDS }
-    ensures some { IsTrue result
-        → (q : ℕ) × (q < points) × (q ≢ point) × (lib_of cells.now.numbers label q ≡ 1) }
-    ensures count { meter.new ≡ meter.old + 1 }
-{
-    cells.get(word_place(label, word), meter) & mask_but(points, word, point) != 0
-}
-
 /// Whether a label has a liberty but this point. Liberties are mostly close by, so the word with the
-/// bit of the point is looked at first. Its contract speaks of yes alone: a no promises nothing.
+/// bit of the point is looked at first.
 fn has_other(cells: &Cells, meter: &mut Meter, size: Size, label: usize, point: usize) -> bool
     requires label { label < MAX_POINTS }
     requires point { point < size * size }
-    ensures some { IsTrue result → HasOther size cells.now.numbers point label }
+    ensures other { IsTrue result ↔ HasOther size cells.now.numbers point label }
     ensures count { meter.new ≤ meter.old + (WORDS + 1) }
     ensures onward { meter.old ≤ meter.new }
 {
     let points = usize::from(size.points());
-    if has_other_in(cells, meter, points, label, point / 64, point) {
+    let near = point / 64;
+    if has_liberty_in(cells, meter, label, near, mask_but(points, near, point)) {
         return true;
     }
     for word in 0..words_of(size) {
-        if has_other_in(cells, meter, points, label, word, point) {
+        if has_liberty_in(cells, meter, label, word, mask_but(points, word, point)) {
             return true;
         }
     }
@@ -89,17 +71,10 @@ fn outlook_on(
     }
     let label = cells.get(LABELS + near, meter) as usize;
     let lives = has_other(cells, meter, size, label, point);
-    if code == own {
-        return if lives {
-            Outlook::Breathes
-        } else {
-            Outlook::Stays
-        };
-    }
-    if lives {
-        Outlook::Stays
-    } else {
-        Outlook::Falls
+    match (code == own, lives) {
+        (true, true) => Outlook::Breathes,
+        (false, false) => Outlook::Falls,
+        _ => Outlook::Stays,
     }
 }
 
@@ -117,7 +92,7 @@ pub(crate) fn takes_nothing(
     requires kept { IsKept size cells.now.numbers }
     requires point { point < size * size }
     requires beside { AreBeside size point beside.now }
-    ensures quiet { IsTrue result → IsQuiet size cells.now.numbers point own }
+    ensures quiet { IsTrue result ↔ IsQuiet size cells.now.numbers point own }
     ensures count { meter.new ≤ meter.old + reads_around }
     ensures onward { meter.old ≤ meter.new }
 {

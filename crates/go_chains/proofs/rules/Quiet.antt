@@ -2,7 +2,7 @@
 use Rattle.std.specs.Prelude.{Some, None}
 use Rattle.std.specs.Int.{bit_at}
 use Rattle.std.specs.Int.RustNames.{bit_or}
-use Rattle.std.proofs.Common.{arith, ◌≡◌, ◌≢◌, ◌<◌, ◌*◌, ◌∙◌, ◌⊎◌, ◌↔◌, ◌++◌, ◌∷◌, ◌&&◌, [], inl, inr, Bool, true, false, cond, not, IsTrue, ℕ, List, Option, length, refl, sym, ap, subst, slice_set}
+use Rattle.std.proofs.Common.{arith, ◌≡◌, ◌≢◌, ◌<◌, ◌*◌, ◌∙◌, ◌⊎◌, ◌↔◌, ◌++◌, ◌∷◌, ◌&&◌, [], inl, inr, Bool, true, false, cond, not, IsTrue, ℕ, zero, suc, List, Option, length, refl, sym, ap, subst, slice_set}
 use Rattle.std.proofs.lemmas.Bool.{cases_Bool, cases_eq, cases_lt}
 use Rattle.std.proofs.lemmas.List.{ext_get_or, get_or-set_other, get_or-set_same}
 use Rattle.std.proofs.lemmas.List.FromFn.{get_or-map-range_with_len, length-map-range_with_len}
@@ -16,7 +16,7 @@ use Rattle.go_board.specs.Laws.{LibertyByPath, ReachesByPath}
 use Rattle.go_board.specs.Points.{is_adjacent}
 use Rattle.go_board.specs.Packs.{code_of, colour_coded}
 use Rattle.go_board.specs.Paths.{IsAdjacent, Joined, Leads, Reaches}
-use Rattle.go_board.specs.Reaching.{after_clearing, cleared, has_colour, is_liberty_of, is_taken, moved, reaches}
+use Rattle.go_board.specs.Reaching.{after_clearing, cleared, has_colour, is_liberty_of, is_same, is_taken, moved, reaches}
 use Rattle.go_chains.specs.Boards.{IsStoneOf, colouring_of}
 use Rattle.go_chains.specs.Cells.{code_at, label_of}
 use Rattle.go_chains.specs.Sound.{IsKept}
@@ -67,6 +67,12 @@ colours_of Black White = inr refl
 colours_of White White = inl refl
 colours_of White Black = inr refl
 
+coded_colour : (code : ℕ) → code ≢ 0 → code < 3 → (d : Colour) × (colour_coded code ≡ Some d)
+coded_colour zero some small = absurd (some refl)
+coded_colour (suc zero) some small = (Black, refl)
+coded_colour (suc (suc zero)) some small = (White, refl)
+coded_colour (suc (suc (suc k))) some small = absurd (omega arith)
+
 -- where no stone of a colour is taken, clearing it leaves all
 cleared_same : (n : ℕ) (k : Colouring) (d : Colour) → length k ≡ n * n → ((x : ℕ) → x < n * n → is_taken n k d x ≡ false) → cleared n k d ≡ k
 unfolding cleared
@@ -87,6 +93,31 @@ not_taken by n k d x low lives = elim (cases_Bool (has_colour k x (Some d))) [
     and_none : (b : Bool) → (b && false) ≡ false
     and_none true = refl
     and_none false = refl
+
+-- a point after a colour was cleared
+cleared_at : (n : ℕ) (k : Colouring) (d : Colour) (x : ℕ) → x < n * n → colour_at (cleared n k d) x ≡ after_clearing n k d x
+unfolding cleared
+cleared_at n k d x low = get_or-map-range_with_len (after_clearing n k d) 0 (n * n) x x None low (omega arith)
+
+taken_at : (n : ℕ) (k : Colouring) (d : Colour) (x : ℕ) → x < n * n → is_taken n k d x ≡ true → colour_at (cleared n k d) x ≡ None
+taken_at n k d x low taken = cleared_at n k d x low ∙ ap (λ b. let o : Option Colour = cond b None (colour_at k x) in o) taken
+
+empty_still : (n : ℕ) (k : Colouring) (d : Colour) (x : ℕ) → x < n * n → colour_at k x ≡ None → colour_at (cleared n k d) x ≡ None
+empty_still n k d x low none = elim (cases_Bool (is_taken n k d x)) [
+  | inl taken ↦ taken_at n k d x low taken
+  | inr stays ↦ cleared_at n k d x low ∙ ap (λ b. let o : Option Colour = cond b None (colour_at k x) in o) stays ∙ none
+]
+
+-- a stone that doesn't reach empty is taken
+lives_or_taken : ReachesByPath → (n : ℕ) (k : Colouring) (d : Colour) (x : ℕ) → x < n * n → colour_at k x ≡ Some d → Reaches n k x None ⊎ (is_taken n k d x ≡ true)
+lives_or_taken by n k d x low stone = elim (cases_Bool (reaches n k x None)) [
+  | inl lives ↦ inl ((by n k x None low).0 lives)
+  | inr none ↦ inr (ap (λ b. has_colour k x (Some d) && not b) none ∙ ap (λ (o : Option Colour). is_same o (Some d) && true) stone ∙ same_and d)
+]
+  where
+    same_and : (e : Colour) → (is_same (Some e) (Some e) && true) ≡ true
+    same_and Black = refl
+    same_and White = refl
 
 -- a stone of c is put on an empty point of a kept board
 module _ (n : ℕ) (cells : List ℕ) (kept : IsKept n cells) (c : Colour) (own p : ℕ) (low : p < n * n) (empty : code_at cells p ≡ 0)
@@ -182,6 +213,80 @@ module _ (n : ℕ) (cells : List ℕ) (kept : IsKept n cells) (c : Colour) (own 
             ),
       )
 
+  -- a path of the other colour's stones was there before
+  theirs_apart : (x : ℕ) → colour_at (slice_set (colouring_of n cells) p (Some c)) x ≡ Some (other c) → x ≢ p
+  theirs_apart x stone same = differs c (sym at_stone ∙ ap (colour_at (slice_set (colouring_of n cells) p (Some c))) (sym same) ∙ stone)
+
+  leads_back : (x : ℕ) (path : List ℕ) (r : ℕ) → Leads n (slice_set (colouring_of n cells) p (Some c)) x path r
+      → colour_at (slice_set (colouring_of n cells) p (Some c)) x ≡ Some (other c) → Leads n (colouring_of n cells) x path r
+  leads_back x [] r here stone = here
+  leads_back x (y ∷ path) r l stone =
+      let next = l.1 ∙ stone in
+      (l.0, sym (off_stone y (theirs_apart y next)) ∙ l.1 ∙ off_stone x (theirs_apart x stone), leads_back y path r l.2 next)
+
+  -- where the play leaves all stones, each of them reaches empty
+  module _ (by : ReachesByPath)
+      (stays : cleared n (cleared n (slice_set (colouring_of n cells) p (Some c)) (other c)) c ≡ slice_set (colouring_of n cells) p (Some c)) where
+    theirs_live : (x : ℕ) → x < n * n → colour_at (slice_set (colouring_of n cells) p (Some c)) x ≡ Some (other c)
+        → Reaches n (slice_set (colouring_of n cells) p (Some c)) x None
+    theirs_live x x_low stone =
+        let k = slice_set (colouring_of n cells) p (Some c) in
+        elim (lives_or_taken by n k (other c) x x_low stone) [
+          | inl lives ↦ lives
+          | inr taken ↦ absurd (let bad = sym (empty_still n (cleared n k (other c)) c x x_low (taken_at n k (other c) x x_low taken)) ∙ ap (λ m. colour_at m x) stays ∙ stone in cc)
+        ]
+
+    own_lives : Reaches n (slice_set (colouring_of n cells) p (Some c)) p None
+    own_lives =
+        let k = slice_set (colouring_of n cells) p (Some c) in
+        let whole : length k ≡ n * n = length-set (colouring_of n cells) p (Some c) ∙ length-colouring n cells in
+        let theirs = cleared_same n k (other c) whole (λ x x_low. not_taken by n k (other c) x x_low (theirs_live x x_low)) in
+        elim (lives_or_taken by n k c p low at_stone) [
+          | inl lives ↦ lives
+          | inr taken ↦ absurd (let bad = sym (taken_at n k c p low taken) ∙ ap (λ m. colour_at (cleared n m c) p) (sym theirs) ∙ ap (λ m. colour_at m p) stays ∙ at_stone in cc)
+        ]
+
+    -- a chain of the other colour beside the stone has another liberty
+    other_left : (q : ℕ) → q < n * n → colour_at (slice_set (colouring_of n cells) p (Some c)) q ≡ Some (other c) → HasOther n cells p (label_of cells q)
+    other_left q q_low stone =
+        let k = slice_set (colouring_of n cells) p (Some c) in
+        let free = theirs_live q q_low stone in
+        let x = free.1 in
+        let off : x ≢ p = λ same. (let bad = sym at_stone ∙ ap (colour_at k) (sym same) ∙ free.4 in cc) in
+        let was : colour_at (colouring_of n cells) q ≡ Some (other c) = sym (off_stone q (theirs_apart q stone)) ∙ stone in
+        (x, free.3.1, off, (kept.sound.liberties q x (other c, was) free.3.1).1 (sym (off_stone x off) ∙ free.4, (free.0, (free.2.0, leads_back q free.2.0 free.0 free.2.1 stone), free.3)))
+
+    pub stays_quiet : LibertyByPath → own < 3 → IsQuiet n cells p own
+    stays_quiet told own_small =
+        let k = slice_set (colouring_of n cells) p (Some c) in
+        let free = own_lives in
+        let x = free.1 in
+        let lent = (lent_is told own_small x free.3.1).1 ((told n k p x low).1 (free.4, (free.0, free.2, free.3.2))) in
+        record {
+          stay = λ q beside. elim (cases_eq (code_at cells q) 0) [
+            | inl vacant ↦ inl vacant
+            | inr some ↦ elim (cases_eq (code_at cells q) own) [
+              | inl same ↦ inr (inl same)
+              | inr differ ↦
+                  let here = colouring-at n cells q beside.1 in
+                  let off : q ≢ p = λ same. apart n p (subst (IsAdjacent n p) same beside) in
+                  inr (inr (other_left q beside.1 (off_stone q off ∙ here ∙ other_code (code_at cells q) some differ (kept.sound.coded q beside.1))))
+            ]
+          ];
+          breathes = elim lent.1 [
+            | inl vacant ↦ (x, vacant.0, inl vacant.1)
+            | inr lends ↦ (lends.0, lends.1, inr (lends.2, (x, free.3.1, lent.0, lends.3)))
+          ];
+        }
+      where
+        other_code : (code : ℕ) → code ≢ 0 → code ≢ own → code < 3 → colour_coded code ≡ Some (other c)
+        other_code code some differ small =
+            let colour = coded_colour code some small in
+            elim (colours_of c colour.0) [
+              | inl same ↦ absurd (differ (value-injective code own small own_small (colour.1 ∙ ap (λ (e : Colour). let o : Option Colour = Some e in o) same ∙ sym own_is)))
+              | inr is ↦ colour.1 ∙ ap (λ (e : Colour). let o : Option Colour = Some e in o) is
+            ]
+
   module _ (quiet : IsQuiet n cells p own) where
     stone_reaches : Reaches n (slice_set (colouring_of n cells) p (Some c)) p None
     stone_reaches =
@@ -244,6 +349,10 @@ module _ (n : ℕ) (cells : List ℕ) (kept : IsKept n cells) (c : Colour) (own 
         let same = λ (d : Colour). cleared_same n (slice_set (colouring_of n cells) p (Some c)) d whole
         (λ x x_low. not_taken by n (slice_set (colouring_of n cells) p (Some c)) d x x_low (each_reaches d x)) in
         ap (λ k. cleared n k c) (same (other c)) ∙ same c
+
+  pub moved_quiet : ReachesByPath → LibertyByPath → own < 3 → moved n (colouring_of n cells) c p ≡ slice_set (colouring_of n cells) p (Some c) → IsQuiet n cells p own
+  unfolding moved
+  moved_quiet by told own_small same = stays_quiet by same told own_small
 
 pub coded_back : (c : Colour) → colour_coded (code_of (Some c)) ≡ Some c
 coded_back Black = refl

@@ -17,10 +17,10 @@ StaysAt n cells p own q = (code_at cells q ≡ 0) ⊎ ((code_at cells q ≡ own)
 abbrev pub BreathesAt : ℕ → List ℕ → ℕ → ℕ → ℕ → Type 0
 BreathesAt n cells p own q = (code_at cells q ≡ 0) ⊎ ((code_at cells q ≡ own) × HasOther n cells p (label_of cells q))
 
--- what an outlook says of q
+-- what an outlook says of q: whether the stone takes nothing there, and whether q lends it a liberty
 abbrev pub IsOutlook : ℕ → List ℕ → ℕ → ℕ → ℕ → Outlook → Type 0
-IsOutlook n cells p own q Falls = Unit {0}
-IsOutlook n cells p own q Stays = StaysAt n cells p own q
+IsOutlook n cells p own q Falls = StaysAt n cells p own q → ⊥
+IsOutlook n cells p own q Stays = StaysAt n cells p own q × (BreathesAt n cells p own q → ⊥)
 IsOutlook n cells p own q Breathes = BreathesAt n cells p own q
 
 -- a stone of the colour with this code on p takes nothing, and has a liberty

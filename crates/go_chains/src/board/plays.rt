@@ -75,18 +75,18 @@ impl Board {
         Ok(taken)
     }
 
-    /// Whether a stone on an empty point takes nothing, as its neighbours show; it may also say no
-    /// where it takes nothing.
+    /// Whether a stone on an empty point takes nothing, itself included, as its neighbours show.
     pub fn is_quiet(&self, meter: &mut Meter, colour: Colour, p: Point) -> bool
         requires on { IsOn self.now.lines p }
         requires empty { HoldsStone self.now p → ⊥ }
-        ensures quiet { IsTrue result → played self.now colour p
+        ensures quiet { IsTrue result ↔ played self.now colour p
             ≡ slice_set (grid_of self.now) (number_of self.now.lines p) (Some colour) }
         ensures count { meter.new ≤ meter.old + reads_around }
         ensures onward { meter.old ≤ meter.new }
     {
         points_by_number();
         reaches_by_a_path();
+        liberty_by_a_path();
         let size = self.size();
         let mut near = ArrayVec::new();
         put_beside(size, p, &mut near);

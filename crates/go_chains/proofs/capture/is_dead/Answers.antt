@@ -1,4 +1,4 @@
-use Rattle.std.proofs.Common.{arith, ◌≡◌, ◌∙◌, ◌*◌}
+use Rattle.std.proofs.Common.{arith, ◌≡◌, ◌∙◌, ◌*◌, ◌%◌}
 use Rattle.go_chains.proofs.answers.Dead.{dead_more}
 use Rattle.go_chains.proofs.capture.is_dead.Goals as goal
 
@@ -8,7 +8,7 @@ loop-word-preserved c =
     let points_is : c.from-points.result ≡ n * n = c.from-points.ensures ∙ c.points.ensures.value in
     record {
       none = dead_more c.args.cells.now.numbers c.args.label (n * n) c.loop-word.word c.loop-word.invariant.none
-          (λ q q_in. c.has_liberty_in-in-loop-word.ensures.none c.if-has_liberty_in-2.false q (omega (arith, q_in, points_is)));
+          (λ q q_in at. c.has_liberty_in-in-loop-word.ensures.none c.if-has_liberty_in-2.false q at (c.mask_of-in-loop-word.ensures.inside (q % 64) (omega arith) (omega (arith, q_in, at, points_is))));
       count = let e = c.loop-word.invariant.count in omega arith;
       onward = let e = c.loop-word.invariant.onward in omega arith;
     }

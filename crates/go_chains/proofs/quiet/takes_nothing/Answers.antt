@@ -1,4 +1,4 @@
-use Rattle.std.proofs.Common.{arith, ◌∙◌, inl, inr, sym, subst, ℕ, List, slice_index}
+use Rattle.std.proofs.Common.{arith, true≢false, ◌∙◌, inl, inr, sym, subst, ℕ, List, slice_index}
 use Rattle.std.proofs.lemmas.Bool.{cases_eq}
 use Rattle.go_chains.specs.inner.Quiet.{BreathesAt, StaysAt}
 use Rattle.go_chains.proofs.quiet.takes_nothing.Goals as goal
@@ -18,10 +18,14 @@ loop-near-preserved c =
     elim c.match-outlook_on.branch [
       | in-Stays w ↦ record {
         stay = λ i low. elim (cases_eq i k) [
-          | inl at ↦ subst (λ (j : ℕ). StaysAt n cells c.args.point c.args.own (slice_index c.args.beside.now j)) (sym at) w.in-Stays.ensures.outlook
+          | inl at ↦ subst (λ (j : ℕ). StaysAt n cells c.args.point c.args.own (slice_index c.args.beside.now j)) (sym at) w.in-Stays.ensures.outlook.0
           | inr off ↦ kept.stay i (omega (arith, low, off))
         ];
         breathes = λ is. (let h = kept.breathes (sym w.breathes-is ∙ is) in (h.0, omega (arith, h.1), h.2));
+        silent = λ is i low. elim (cases_eq i k) [
+          | inl at ↦ subst (λ (j : ℕ). BreathesAt n cells c.args.point c.args.own (slice_index c.args.beside.now j) → ⊥) (sym at) w.in-Stays.ensures.outlook.1
+          | inr off ↦ kept.silent (sym w.breathes-is ∙ is) i (omega (arith, low, off))
+        ];
         count = omega (arith, kept.count, c.outlook_on.ensures.count);
         onward = omega (arith, kept.onward, c.outlook_on.ensures.onward);
       }
@@ -32,6 +36,7 @@ loop-near-preserved c =
           | inr off ↦ kept.stay i (omega (arith, low, off))
         ];
         breathes = λ is. (k, omega arith, w.in-Breathes.ensures.outlook);
+        silent = λ is. absurd (true≢false (sym w.breathes-is ∙ is));
         count = omega (arith, kept.count, c.outlook_on.ensures.count);
         onward = omega (arith, kept.onward, c.outlook_on.ensures.onward);
       }

@@ -18,7 +18,7 @@ is_quiet-requires-clause-empty g c =
 pub leaves_new-requires-clause-quiet : goal.leaves_new-requires-clause-quiet
 leaves_new-requires-clause-quiet g c =
     let f : ℕ → Colouring → Colouring = λ n k. slice_set k (number_of n c.args.p) (Some c.args.colour) in
-    sym (moved_is c.self.inside.superko c.self.inside.start c.self.inside.komi c.self.inside.first c.self.inside.steps.items c.self.inside.board c.self.inside.log c.self.inside.history c.self.inside.prisoners.black c.self.inside.prisoners.white c.self.invariant.0 c.args.colour c.args.p) ∙ c.if-is_quiet.ensures.quiet refl ∙ seen_as f c.self.inside.superko c.self.inside.start c.self.inside.komi c.self.inside.first c.self.inside.steps.items c.self.inside.board c.self.inside.log c.self.inside.history c.self.inside.prisoners.black c.self.inside.prisoners.white c.self.invariant.0
+    sym (moved_is c.self.inside.superko c.self.inside.start c.self.inside.komi c.self.inside.first c.self.inside.steps.items c.self.inside.board c.self.inside.log c.self.inside.history c.self.inside.prisoners.black c.self.inside.prisoners.white c.self.invariant.0 c.args.colour c.args.p) ∙ c.if-is_quiet.ensures.quiet.0 refl ∙ seen_as f c.self.inside.superko c.self.inside.start c.self.inside.komi c.self.inside.first c.self.inside.steps.items c.self.inside.board c.self.inside.log c.self.inside.history c.self.inside.prisoners.black c.self.inside.prisoners.white c.self.invariant.0
 
 pub returns-in-Err-Repeats-clause-test : goal.returns-in-Err-Repeats-clause-test
 returns-in-Err-Repeats-clause-test g c =
