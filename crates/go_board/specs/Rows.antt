@@ -2,12 +2,19 @@
 use Rattle.std.specs.Prelude.{◌≡◌, ◌<◌, ◌≤◌, ◌+◌, ◌*◌, ◌^◌, ◌⊎◌, ◌↔◌, ◌&&◌, ◌||◌, ℕ, Bool, true, not, nat_eq, List, Some, None, IsTrue, slice_index, sum_by}
 use Rattle.std.specs.Int.{bit_at}
 use Rattle.go_board.specs.declared.colour.Colour.{Colour}
+use Rattle.go_board.specs.declared.colour.Colour.TheVariants.{Black, White}
+use Rattle.go_board.specs.declared.rows.ByColour.{ByColour}
 use Rattle.go_board.specs.Colours.{Colouring, colour_at}
 use Rattle.go_board.specs.Reaching.{has_colour, reaches}
 
 -- the place in this row and column is one of the set: its bit is set in the word of the row
 abbrev pub IsIn : List ℕ → ℕ → ℕ → Type 0
 IsIn rows row col = bit_at (slice_index rows row) col ≡ 1
+
+-- the set of one colour
+abbrev pub rows_of : ByColour (List ℕ) → Colour → List ℕ
+rows_of sets Black = sets.black
+rows_of sets White = sets.white
 
 -- the two places share a side
 abbrev pub IsNext : ℕ → ℕ → ℕ → ℕ → Type 0

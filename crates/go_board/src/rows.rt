@@ -11,7 +11,7 @@ ghost use Rattle.go_board.specs.Reaching.{area};
 ghost use Rattle.go_board.specs.Rows.{AreHeld, AreStones, HasNext, IsClosedAt, IsIn, Spread, is_alone, sum_of_words};
 
 use crate::colour::is_same;
-use crate::{Area, Colour, MAX_LINES};
+use crate::{Area, Colour, MAX_LINES, Point};
 
 /// How many rows the largest board has.
 pub const ROWS: usize = MAX_LINES as usize;
@@ -19,11 +19,54 @@ pub const ROWS: usize = MAX_LINES as usize;
 /// A set of places: a word for each row, with a bit for each column, the lowest for the first.
 pub type Rows = [u32; ROWS];
 
-/// The stones of both colours on a board.
+/// One for each colour.
 #[derive(Clone, Copy)]
-pub struct Stones {
-    pub black: Rows,
-    pub white: Rows,
+pub struct ByColour<T> {
+    pub black: T,
+    pub white: T,
+}
+
+impl ByColour<Rows> {
+    ghost use Rattle.std.specs.Prelude.{replicate};
+    ghost use Rattle.go_board.specs.Rows.{rows_of};
+
+    /// No place of either colour.
+    pub fn none() -> ByColour<Rows>
+        ensures black { result.black ≡ replicate ROWS 0 }
+        ensures white { result.white ≡ replicate ROWS 0 }
+    {
+        ByColour {
+            black: [0; ROWS],
+            white: [0; ROWS],
+        }
+    }
+
+    /// Whether a colour has a point.
+    pub fn has(&self, colour: Colour, p: Point) -> bool
+        requires row { p.row < ROWS }
+        requires col { p.col < ROWS }
+        ensures { IsTrue result ↔ IsIn (rows_of self.now colour) p.row p.col }
+    {
+        let (row, col) = (usize::from(p.row), usize::from(p.col));
+        match colour {
+            Colour::Black => has_place(&self.black, row, col),
+            Colour::White => has_place(&self.white, row, col),
+        }
+    }
+
+    /// Adds a point to those of a colour.
+    pub fn put(&mut self, colour: Colour, p: Point)
+        requires row { p.row < ROWS }
+        requires col { p.col < ROWS }
+        ensures { (c : Colour) (row col : ℕ) → IsIn (rows_of self.new c) row col
+            ↔ (((c ≡ colour) × (row ≡ p.row) × (col ≡ p.col)) ⊎ IsIn (rows_of self.old c) row col) }
+    {
+        let (row, col) = (usize::from(p.row), usize::from(p.col));
+        match colour {
+            Colour::Black => put_place(&mut self.black, row, col),
+            Colour::White => put_place(&mut self.white, row, col),
+        }
+    }
 }
 
 /// Whether a set has a place.

@@ -18,16 +18,9 @@ mod plays;
 
 use crate::cells::Cells;
 use go_board::laws::points_by_number;
-use go_board::rows::{ROWS, Stones, areas_of, with_stone};
+use go_board::rows::{ByColour, Rows, areas_of, with_stone};
 use go_board::{Area, Colour, Grid, Meter, Point, Size};
 use std::marker::Model;
-
-/// The stones of both colours in one row, a bit for each column.
-#[derive(Clone, Copy)]
-struct RowStones {
-    black: u32,
-    white: u32,
-}
 
 /// A board that keeps its chains and their liberties, changed in place by each play.
 #[derive(Drop)]
@@ -115,15 +108,15 @@ impl Board {
         grid
     }
 
-    /// The stones of both colours in one row.
-    fn stones_in(&self, row: usize) -> RowStones
+    /// The stones of both colours in one row, a bit for each column.
+    fn stones_in(&self, row: usize) -> ByColour<u32>
         requires { row < self.now.lines }
         ensures black { IsRowOfStones self.now Colour.Black row result.black }
         ensures white { IsRowOfStones self.now Colour.White row result.white }
     {
         let lines = usize::from(self.size().lines());
         let mut meter = Meter::new();
-        let mut stones = RowStones { black: 0, white: 0 };
+        let mut stones = ByColour { black: 0, white: 0 };
         for col in 0..lines {
             let colour = Colour::coded(self.cells.get(row * lines + col, &mut meter));
             stones.black = with_stone(stones.black, col, colour, Colour::Black);
@@ -133,14 +126,11 @@ impl Board {
     }
 
     /// The stones of both colours, as words of rows.
-    pub fn stones(&self) -> Stones
+    pub fn stones(&self) -> ByColour<Rows>
         ensures black { AreStones self.now.lines (grid_of self.now) Colour.Black result.black }
         ensures white { AreStones self.now.lines (grid_of self.now) Colour.White result.white }
     {
-        let mut stones = Stones {
-            black: [0; ROWS],
-            white: [0; ROWS],
-        };
+        let mut stones = ByColour::none();
         for row in 0..usize::from(self.size().lines()) {
             let here = self.stones_in(row);
             stones.black[row] = here.black;

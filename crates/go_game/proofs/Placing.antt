@@ -12,11 +12,11 @@ use Rattle.go_board.specs.Colours.{Colouring, colour_at, other}
 use Rattle.go_board.specs.Laws.{PointsByNumber}
 use Rattle.go_board.specs.Points.{IsOn, number_of, point_at}
 use Rattle.go_board.specs.Reaching.{after_clearing, cleared, is_taken, moved}
-use Rattle.go_board.specs.Rows.{IsIn}
-use Rattle.go_game.specs.declared.placed.Placed.{Placed}
+use Rattle.go_board.specs.Rows.{IsIn, rows_of}
+use Rattle.go_board.specs.declared.rows.ByColour.{ByColour}
 use Rattle.go_game.specs.declared.superko.Superko.{Superko}
 use Rattle.go_game.specs.Standings.{Seen, after_move, board, seen_by, stood}
-use Rattle.go_game.specs.inner.Placed.{AreOfPlaced, IsOfPlaced, rows_of}
+use Rattle.go_game.specs.inner.Placed.{AreOfPlaced, IsOfPlaced}
 use Rattle.go_game.proofs.Turns.{stood_push}
 
 -- clearing puts no stone
@@ -40,7 +40,7 @@ moved_from n g c p k d whole low e =
     ]
 
 -- what a play leaves, where its point is added
-pub placed_put : PointsByNumber → (n : ℕ) (start now : Colouring) (placed placed' : Placed) (c : Colour) (p : Point) → length now ≡ n * n → IsOn n p
+pub placed_put : PointsByNumber → (n : ℕ) (start now : Colouring) (placed placed' : ByColour (List ℕ)) (c : Colour) (p : Point) → length now ≡ n * n → IsOn n p
     → ((d : Colour) (row col : ℕ) → IsIn (rows_of placed' d) row col ↔ (((d ≡ c) × (row ≡ p.row) × (col ≡ p.col)) ⊎ IsIn (rows_of placed d) row col))
     → IsOfPlaced n start placed now → IsOfPlaced n start placed' (moved n now c (number_of n p))
 placed_put law n start now placed placed' c p whole on added told row col d row_in col_in stone =
@@ -52,13 +52,13 @@ placed_put law n start now placed placed' c p whole on added told row col d row_
       | inr was ↦ grown placed placed' (λ e. (added d row col).1 (inr e)) (told row col d row_in col_in was)
     ]
   where
-    grown : (old new : Placed) → (IsIn (rows_of old d) row col → IsIn (rows_of new d) row col)
+    grown : (old new : ByColour (List ℕ)) → (IsIn (rows_of old d) row col → IsIn (rows_of new d) row col)
         → (colour_at start (row * n + col) ≡ Some d) ⊎ IsIn (rows_of old d) row col → (colour_at start (row * n + col) ≡ Some d) ⊎ IsIn (rows_of new d) row col
     grown old new more (inl was) = inl was
     grown old new more (inr told) = inr (more told)
 
 -- a set that has what another one has
-pub placed_grown : (n : ℕ) (start : Colouring) (old new : Placed) (g : Colouring) → ((c : Colour) (row col : ℕ) → IsIn (rows_of old c) row col → IsIn (rows_of new c) row col)
+pub placed_grown : (n : ℕ) (start : Colouring) (old new : ByColour (List ℕ)) (g : Colouring) → ((c : Colour) (row col : ℕ) → IsIn (rows_of old c) row col → IsIn (rows_of new c) row col)
     → IsOfPlaced n start old g → IsOfPlaced n start new g
 placed_grown n start old new g more told row col c row_in col_in stone = elim (told row col c row_in col_in stone) [
   | inl was ↦ inl was
@@ -67,7 +67,7 @@ placed_grown n start old new g more told row col c row_in col_in stone = elim (t
 
 module _ (rule : Superko) (n : ℕ) (start : Colouring) (first : Colour) where
   -- without a move the start alone was seen
-  pub placed_start : (placed : Placed) (moves : List Move) → moves ≡ [] → AreOfPlaced n start placed (stood rule n start first moves)
+  pub placed_start : (placed : ByColour (List ℕ)) (moves : List Move) → moves ≡ [] → AreOfPlaced n start placed (stood rule n start first moves)
   placed_start placed moves none =
       subst (λ (ms : List Move). AreOfPlaced n start placed (stood rule n start first ms)) (sym none)
       (λ x there row col c row_in col_in stone. inl (ap (λ (g : Colouring). colour_at g (row * n + col)) (start_is x there) ∙ stone))
@@ -85,7 +85,7 @@ module _ (rule : Superko) (n : ℕ) (start : Colouring) (first : Colour) where
     all : stood rule n start first more ≡ stood rule n start first moves ++ last ∷ []
     all = ap (stood rule n start first) is ∙ stood_push rule n start first moves m
 
-    pub placed_more : (old new : Placed) → ((c : Colour) (row col : ℕ) → IsIn (rows_of old c) row col → IsIn (rows_of new c) row col)
+    pub placed_more : (old new : ByColour (List ℕ)) → ((c : Colour) (row col : ℕ) → IsIn (rows_of old c) row col → IsIn (rows_of new c) row col)
         → IsOfPlaced n start new (after_move n (board n start moves) m)
         → AreOfPlaced n start old (stood rule n start first moves) → AreOfPlaced n start new (stood rule n start first more)
     placed_more old new grown here before =
@@ -95,11 +95,11 @@ module _ (rule : Superko) (n : ℕ) (start : Colouring) (first : Colour) where
           | inr same ↦ subst (λ (y : Seen). IsOfPlaced n start new y.0) same here
         ])
 
-    pub placed_less : (placed : Placed) → AreOfPlaced n start placed (stood rule n start first more) → AreOfPlaced n start placed (stood rule n start first moves)
+    pub placed_less : (placed : ByColour (List ℕ)) → AreOfPlaced n start placed (stood rule n start first more) → AreOfPlaced n start placed (stood rule n start first moves)
     placed_less placed now x there = now x (subst (λ (xs : List Seen). Contains xs x) (sym all) (Contains-append_left (stood rule n start first moves) (last ∷ []) x there))
 
 -- what stands now was seen too
-pub placed_now : (rule : Superko) (n : ℕ) (start g : Colouring) (first : Colour) (moves : List Move) (placed : Placed) → AreOfPlaced n start placed (stood rule n g first moves)
+pub placed_now : (rule : Superko) (n : ℕ) (start g : Colouring) (first : Colour) (moves : List Move) (placed : ByColour (List ℕ)) → AreOfPlaced n start placed (stood rule n g first moves)
     → IsOfPlaced n start placed (board n g moves)
 placed_now rule n start g first [] placed told = told (seen_by rule (g, first)) (0, omega arith, refl)
 placed_now rule n start g first (m ∷ moves) placed told =

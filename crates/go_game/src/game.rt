@@ -1,11 +1,11 @@
 ghost use Rattle.std.specs.Prelude.{◌≡◌, ◌<◌, ◌+◌, ◌*◌, [], pos, false, IsSome, length, map, slice_get};
 
 use crate::Superko;
-use crate::placed::Placed;
 use crate::prisoners::Prisoners;
 use crate::step::Step;
 use go_board::laws::{joined_by_a_path, packs_tell_colourings_apart, points_by_number};
 use go_board::plain::{is_liberty, same_chain};
+use go_board::rows::{ByColour, Rows};
 use go_board::{Area, Colour, Grid, Meter, Move, Point, Size};
 use go_chains::{Board, ChainPoints, Log};
 use go_history::History;
@@ -36,7 +36,7 @@ pub struct Game<A: Allocator + Copy> {
     pub(crate) prisoners: Prisoners,
     /// Where stones were put since the start, by plays that were taken back too: a play that takes
     /// nothing, where none of its colour stood, repeats nothing.
-    pub(crate) placed: Placed,
+    pub(crate) placed: ByColour<Rows>,
 }
 
 impl<A: Allocator + Copy> Model for Game<A> {
@@ -99,7 +99,7 @@ impl<A: Allocator + Copy> Game<A> {
             steps: Vec::new(alloc),
             history,
             prisoners: Prisoners { black: 0, white: 0 },
-            placed: Placed::none(),
+            placed: ByColour::none(),
         }
     }
 
@@ -220,7 +220,7 @@ impl<A: Allocator + Copy> Game<A> {
         let key = self.superko.key(self.start.pack(), self.first);
         self.history.restart(key);
         self.prisoners = Prisoners { black: 0, white: 0 };
-        self.placed = Placed::none();
+        self.placed = ByColour::none();
     }
 
     /// The grid after the last move.

@@ -32,7 +32,6 @@ mod game;
 mod handicap;
 mod holdings;
 pub mod laws;
-mod placed;
 mod play;
 mod prisoners;
 mod score;

@@ -159,7 +159,7 @@ impl<A: Allocator + Copy> Game<A> {
         match note(&key, &mut self.history, &mut self.steps, step) {
             Ok(()) => {
                 self.prisoners.add(colour, taken);
-                self.placed.add(colour, p);
+                self.placed.put(colour, p);
                 Ok(taken)
             }
             Err(error) => {

@@ -1,19 +1,23 @@
-use Rattle.std.proofs.Common.{arith, ℕ, ◌<◌, ◌≡◌, ◌+◌, ◌*◌, ◌∙◌, Some, length-set}
+use Rattle.std.proofs.Common.{arith, ℕ, ◌<◌, ◌≡◌, ◌+◌, ◌*◌, ◌∙◌, Some, List, ap, length, length-set, subst}
 use Rattle.std.proofs.lemmas.List.{length-replicate}
 use Rattle.go_board.specs.declared.rows.TheConstants.{ROWS}
 use Rattle.go_board.specs.declared.colour.Colour.TheVariants.{Black, White}
 use Rattle.go_board.specs.Colours.{colour_at}
+use Rattle.go_board.specs.Rows.{IsIn}
 use Rattle.go_chains.specs.Boards.{grid_of}
 use Rattle.go_chains.proofs.answers.Rows.{none_in, rows_more}
 use Rattle.go_chains.proofs.board.Board.stones.Goals as goal
 
 pub loop-row-init : goal.loop-row-init
-loop-row-init c = record {
-  black_whole = length-replicate {A = ℕ} ROWS 0;
-  white_whole = length-replicate {A = ℕ} ROWS 0;
-  black_done = λ row col. (λ set. absurd (none_in ROWS row col set), λ h. absurd (let low : row < 0 = h.0 in omega arith));
-  white_done = λ row col. (λ set. absurd (none_in ROWS row col set), λ h. absurd (let low : row < 0 = h.0 in omega arith));
-}
+loop-row-init c =
+    let black = c.none-stones.ensures.black in
+    let white = c.none-stones.ensures.white in
+    record {
+      black_whole = ap (length {A = ℕ}) black ∙ length-replicate {A = ℕ} ROWS 0;
+      white_whole = ap (length {A = ℕ}) white ∙ length-replicate {A = ℕ} ROWS 0;
+      black_done = λ row col. (λ set. absurd (none_in ROWS row col (subst (λ (rows : List ℕ). IsIn rows row col) black set)), λ h. absurd (let low : row < 0 = h.0 in omega arith));
+      white_done = λ row col. (λ set. absurd (none_in ROWS row col (subst (λ (rows : List ℕ). IsIn rows row col) white set)), λ h. absurd (let low : row < 0 = h.0 in omega arith));
+    }
 
 pub loop-row-preserved : goal.loop-row-preserved
 loop-row-preserved c =

@@ -75,9 +75,9 @@ invariant_of-self-in-Ok-note g c =
           })
           (played_put c.self.inside.superko c.self.inside.start c.self.inside.komi c.self.inside.first c.self.inside.steps.items c.self.inside.board c.self.inside.log c.self.inside.history c.self.inside.prisoners.black c.self.inside.prisoners.white c.self.invariant.0 c.args.colour c.args.p c.play.new.self c.in-Ok.ensures.moved c.in-Ok.taken c.in-Ok.ensures.theirs c.in-Ok.ensures.own playable)
           (legal_put c.self.inside.superko c.self.inside.start c.self.inside.komi c.self.inside.first c.self.inside.steps.items c.self.inside.board c.self.inside.log c.self.inside.history c.self.inside.prisoners.black c.self.inside.prisoners.white c.self.invariant.0 c.args.colour c.args.p c.play.new.self c.in-Ok.ensures.moved c.key-key.result (ap bytes_of c.key-key.ensures.pack ∙ c.pack.ensures) (c.key-key.ensures.mover ∙ ap (mover_by c.self.inside.superko) c.other.ensures) playable c.in-Ok-note.ensures.lacked) c.add.ensures.black c.add.ensures.white,
-      placed_more c.self.inside.superko start.lines start.colours c.self.inside.first (map made_of c.self.inside.steps.items) (map made_of c.note.new.steps.items) (made_of (placed c.args.colour c.args.p c.in-Ok.taken)) made c.self.inside.placed c.add-in-Ok-note.new.self
-          (λ d row col there. (c.add-in-Ok-note.ensures d row col).1 (inr there))
-          (placed_put c.points_by_number.ensures start.lines start.colours (board start.lines start.colours (map made_of c.self.inside.steps.items)) c.self.inside.placed c.add-in-Ok-note.new.self c.args.colour c.args.p (whole_board start.lines start.colours (map made_of c.self.inside.steps.items) c.self.invariant.0.held.sound.whole) playable.0 c.add-in-Ok-note.ensures
+      placed_more c.self.inside.superko start.lines start.colours c.self.inside.first (map made_of c.self.inside.steps.items) (map made_of c.note.new.steps.items) (made_of (placed c.args.colour c.args.p c.in-Ok.taken)) made c.self.inside.placed c.put.new.self
+          (λ d row col there. (c.put.ensures d row col).1 (inr there))
+          (placed_put c.points_by_number.ensures start.lines start.colours (board start.lines start.colours (map made_of c.self.inside.steps.items)) c.self.inside.placed c.put.new.self c.args.colour c.args.p (whole_board start.lines start.colours (map made_of c.self.inside.steps.items) c.self.invariant.0.held.sound.whole) playable.0 c.put.ensures
           (placed_now c.self.inside.superko start.lines start.colours start.colours c.self.inside.first (map made_of c.self.inside.steps.items) c.self.inside.placed c.self.invariant.1)) c.self.invariant.1,
     )
 
