@@ -57,7 +57,7 @@ pub use colour::Colour;
 pub use decimals::{MAX_INT, MAX_KOMI, are_digits, read_int, value_of_digits, with_digit};
 pub use device::{Failed, Sink, Source, WriteFault};
 pub use grid::Grid;
-pub use meter::Meter;
+pub use meter::{Meter, Open};
 pub use pack::{PACK_BYTES, Packed, packed_byte};
 pub use pen::{Pen, send};
 pub use point::{Point, neighbours, put_neighbours};

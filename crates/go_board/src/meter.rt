@@ -1,6 +1,6 @@
 ghost use Rattle.std.specs.Prelude.{◌≡◌, ◌+◌, ℕ};
 
-use std::marker::Model;
+use std::marker::{Model, PhantomData};
 use std::mem;
 use std::snapshot::Snapshot;
 
@@ -21,29 +21,38 @@ impl Model for Number {
     ghost size = { λ n. n };
 }
 
-/// A count of calls that contracts see and that has no bytes when the program runs.
+/// The kind of meters that anyone may make.
+pub struct Open;
+
+/// A count of calls that contracts see and that has no bytes when the program runs. Only an open
+/// meter can be made. So a body that stands for meters of each kind counts with the one that it was
+/// handed: it can make no other to hide a call.
 #[derive(Drop)]
-pub struct Meter {
+pub struct Meter<K = Open> {
     /// The count, which contracts alone see.
     at: Snapshot<Number>,
+    kind: PhantomData<K>,
 }
 
-impl Model for Meter {
+impl<K> Model for Meter<K> {
     ghost Value = { ℕ };
 
     ghost view = { λ m. m.at.value };
 }
 
-impl Meter {
+impl Meter<Open> {
     /// A meter that stands at 0.
-    pub fn new() -> Meter
+    pub fn new() -> Meter<Open>
         ensures { result ≡ 0 }
     {
         Meter {
             at: Snapshot::of(&Number { before: None }),
+            kind: PhantomData,
         }
     }
+}
 
+impl<K> Meter<K> {
     /// Counts one more.
     pub fn tick(&mut self)
         ensures { self.new ≡ self.old + 1 }

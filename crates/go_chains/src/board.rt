@@ -19,18 +19,21 @@ mod plays;
 use crate::cells::Cells;
 use go_board::laws::points_by_number;
 use go_board::rows::{ByColour, Rows, areas_of, with_stone};
-use go_board::{Area, Colour, Grid, Meter, Point, Size};
+use go_board::{Area, Colour, Grid, Meter, Open, Point, Size};
 use std::marker::Model;
 
-/// A board that keeps its chains and their liberties, changed in place by each play.
+/// A board that keeps its chains and their liberties, changed in place by each play. A play, its way
+/// back and a look around a point stand for boards of each kind: such a body can ask no question
+/// that counts nothing, nor make a meter, so the meter that it was handed counts all its reads and
+/// writes.
 #[derive(Drop)]
-pub struct Board {
+pub struct Board<K = Open> {
     size: Size,
     /// The tables of colours, labels, links, sizes and liberties.
-    cells: Cells,
+    cells: Cells<K>,
 }
 
-impl Model for Board {
+impl<K> Model for Board<K> {
     ghost use Rattle.go_chains.specs.Sound.{IsKept};
     ghost use Rattle.go_chains.specs.Boards.{BoardValue};
 
@@ -45,9 +48,20 @@ impl Model for Board {
     ghost invariant = { λ b. IsKept b.size b.cells.numbers };
 }
 
-impl Board {
+impl<K> Board<K> {
+    /// The size of the board.
+    pub fn size(&self) -> Size
+        ensures lines { result ≡ self.now.lines }
+        ensures whole { length (grid_of self.now) ≡ result * result }
+        ensures kept { IsKept self.now.lines self.now.cells }
+    {
+        self.size
+    }
+}
+
+impl Board<Open> {
     /// A board of this size with no stone.
-    pub fn new(size: Size) -> Board
+    pub fn new(size: Size) -> Board<Open>
         ensures lines { result.lines ≡ size }
         ensures colours { grid_of result ≡ replicate (size * size) None }
         ensures cells { result.cells ≡ replicate COUNT 0 }
@@ -72,15 +86,6 @@ impl Board {
     {
         empty_points(&mut self.cells, usize::from(size.points()));
         self.size = size;
-    }
-
-    /// The size of the board.
-    pub fn size(&self) -> Size
-        ensures lines { result ≡ self.now.lines }
-        ensures whole { length (grid_of self.now) ≡ result * result }
-        ensures kept { IsKept self.now.lines self.now.cells }
-    {
-        self.size
     }
 
     /// The colour of a point of the board, or none where it is empty.

@@ -17,7 +17,7 @@ use std::alloc::Allocator;
 
 /// Whether no point of the board is a liberty of a label. Liberties are mostly close by, so the
 /// word with the bit of a near point is looked at first.
-pub fn is_dead(cells: &Cells, meter: &mut Meter, size: Size, label: usize, near: usize) -> bool
+pub fn is_dead<K>(cells: &Cells<K>, meter: &mut Meter<K>, size: Size, label: usize, near: usize) -> bool
     requires label { label < MAX_POINTS }
     requires near { near < size * size }
     ensures dead { IsTrue result ↔ IsDead (size * size) (tables_of cells.now.numbers) label }
@@ -38,10 +38,10 @@ pub fn is_dead(cells: &Cells, meter: &mut Meter, size: Size, label: usize, near:
 
 /// Takes the chain on a point off, if it has this colour and no liberty, and says how many stones
 /// that were.
-pub fn take_one<A: Allocator + Copy>(
-    cells: &mut Cells,
+pub fn take_one<K, A: Allocator + Copy>(
+    cells: &mut Cells<K>,
     changes: &mut Vec<Change, A>,
-    meter: &mut Meter,
+    meter: &mut Meter<K>,
     size: Size,
     near: usize,
     own: u64,
@@ -72,10 +72,10 @@ pub fn take_one<A: Allocator + Copy>(
 
 /// Takes off the chains of this colour beside a point that have no liberty, and says how many
 /// stones that were.
-pub fn capture<A: Allocator + Copy>(
-    cells: &mut Cells,
+pub fn capture<K, A: Allocator + Copy>(
+    cells: &mut Cells<K>,
     changes: &mut Vec<Change, A>,
-    meter: &mut Meter,
+    meter: &mut Meter<K>,
     size: Size,
     beside: &[usize],
     own: u64,

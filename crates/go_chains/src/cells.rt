@@ -11,7 +11,7 @@ ghost use Rattle.go_chains.specs.inner.Codes.{code_in};
 use crate::numbers::Numbers;
 use crate::trace::Trace;
 use go_board::point_set::WORDS;
-use go_board::{Colour, MAX_POINTS, Meter, Packed};
+use go_board::{Colour, MAX_POINTS, Meter, Open, Packed};
 use std::marker::Model;
 
 /// Where the labels begin, after the colours.
@@ -31,16 +31,16 @@ pub const COUNT: usize = LIBERTIES + WORDS * MAX_POINTS;
 
 /// The cells of a board: the colour, the label and the ring link of each point, and the size and
 /// the words of liberties of each label. Nothing else reads or writes them, each write is in their
-/// trace, and each read and each write is counted. Beside them is the pack of the colours, as if the
+/// trace, and each read and each write is counted, with a meter of the cells' kind. Beside them is the pack of the colours, as if the
 /// board had the most lines.
 #[derive(Drop)]
-pub struct Cells {
-    numbers: Numbers,
+pub struct Cells<K = Open> {
+    numbers: Numbers<K>,
     pack: Packed,
-    trace: Trace,
+    trace: Trace<K>,
 }
 
-impl Model for Cells {
+impl<K> Model for Cells<K> {
     ghost use Rattle.std.specs.Prelude.{◌≡◌};
     ghost use Rattle.go_board.specs.PackBytes.{bytes_of};
     ghost use Rattle.go_board.specs.Packs.{packed_of};
@@ -55,12 +55,11 @@ impl Model for Cells {
     ghost invariant = { λ c. bytes_of c.pack ≡ packed_of (colouring_of MAX_LINES c.numbers) };
 }
 
-impl Cells {
+impl Cells<Open> {
     ghost use Rattle.std.specs.Prelude.{replicate};
-    ghost use Rattle.go_chains.specs.Cells.{IsWritten};
 
     /// Cells that are all 0.
-    pub fn new() -> Cells
+    pub fn new() -> Cells<Open>
         ensures numbers { result.numbers ≡ replicate COUNT 0 }
         ensures trace { result.trace ≡ [] }
     {
@@ -73,8 +72,20 @@ impl Cells {
         }
     }
 
+    /// The pack of the colours, as if the board had the most lines. Open cells alone tell it, so that
+    /// no play looks at colours that it doesn't count.
+    pub fn pack(&self) -> Packed
+        ensures { bytes_of result ≡ packed_of (colouring_of MAX_LINES self.now.numbers) }
+    {
+        self.pack
+    }
+}
+
+impl<K> Cells<K> {
+    ghost use Rattle.go_chains.specs.Cells.{IsWritten};
+
     /// The number in a cell.
-    pub fn get(&self, place: usize, meter: &mut Meter) -> u64
+    pub fn get(&self, place: usize, meter: &mut Meter<K>) -> u64
         requires { place < COUNT }
         ensures value { result ≡ slice_index self.now.numbers place }
         ensures count { meter.new ≡ meter.old + 1 }
@@ -83,7 +94,7 @@ impl Cells {
     }
 
     /// Writes a number into a cell.
-    pub fn set(&mut self, place: usize, number: u64, meter: &mut Meter)
+    pub fn set(&mut self, place: usize, number: u64, meter: &mut Meter<K>)
         requires { place < COUNT }
         ensures value { self.new.numbers ≡ slice_set self.old.numbers place number }
         ensures written { IsWritten self.old.numbers self.new.numbers place number }
@@ -98,13 +109,6 @@ impl Cells {
             let code = colour_code(number);
             self.pack.set(place / 4, with_code(byte, place % 4, code));
         }
-    }
-
-    /// The pack of the colours, as if the board had the most lines.
-    pub fn pack(&self) -> Packed
-        ensures { bytes_of result ≡ packed_of (colouring_of MAX_LINES self.now.numbers) }
-    {
-        self.pack
     }
 }
 

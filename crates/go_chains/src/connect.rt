@@ -16,10 +16,10 @@ use std::alloc::Allocator;
 
 /// Makes one chain of a stone's and that of a point beside it, where they are two of one colour.
 /// The smaller of the two is relabelled.
-fn connect_one<A: Allocator + Copy>(
-    cells: &mut Cells,
+fn connect_one<K, A: Allocator + Copy>(
+    cells: &mut Cells<K>,
     changes: &mut Vec<Change, A>,
-    meter: &mut Meter,
+    meter: &mut Meter<K>,
     size: Size,
     point: usize,
     near: usize,
@@ -50,10 +50,10 @@ fn connect_one<A: Allocator + Copy>(
 }
 
 /// Makes one chain of a stone's and all chains of its colour beside it.
-pub fn connect<A: Allocator + Copy>(
-    cells: &mut Cells,
+pub fn connect<K, A: Allocator + Copy>(
+    cells: &mut Cells<K>,
     changes: &mut Vec<Change, A>,
-    meter: &mut Meter,
+    meter: &mut Meter<K>,
     size: Size,
     point: usize,
     beside: &[usize],

@@ -10,10 +10,10 @@ use go_board::Meter;
 use std::alloc::Allocator;
 
 /// Writes a number into a cell whose number is known, and logs that if it is another one.
-pub(crate) fn replace<A: Allocator + Copy>(
-    cells: &mut Cells,
+pub(crate) fn replace<K, A: Allocator + Copy>(
+    cells: &mut Cells<K>,
     changes: &mut Vec<Change, A>,
-    meter: &mut Meter,
+    meter: &mut Meter<K>,
     place: usize,
     old: u64,
     number: u64,
@@ -34,10 +34,10 @@ pub(crate) fn replace<A: Allocator + Copy>(
 }
 
 /// Writes a number into a cell, and logs that if the cell has another one.
-pub(crate) fn put<A: Allocator + Copy>(
-    cells: &mut Cells,
+pub(crate) fn put<K, A: Allocator + Copy>(
+    cells: &mut Cells<K>,
     changes: &mut Vec<Change, A>,
-    meter: &mut Meter,
+    meter: &mut Meter<K>,
     place: usize,
     number: u64,
 )

@@ -15,10 +15,10 @@ use go_board::{Meter, Size};
 use std::alloc::Allocator;
 
 /// Gives so many points along a ring one label.
-fn relabel<A: Allocator + Copy>(
-    cells: &mut Cells,
+fn relabel<K, A: Allocator + Copy>(
+    cells: &mut Cells<K>,
     changes: &mut Vec<Change, A>,
-    meter: &mut Meter,
+    meter: &mut Meter<K>,
     from: usize,
     stones: usize,
     to: usize,
@@ -37,10 +37,10 @@ fn relabel<A: Allocator + Copy>(
 }
 
 /// Gives one label the liberties of another too.
-fn merge_words<A: Allocator + Copy>(
-    cells: &mut Cells,
+fn merge_words<K, A: Allocator + Copy>(
+    cells: &mut Cells<K>,
     changes: &mut Vec<Change, A>,
-    meter: &mut Meter,
+    meter: &mut Meter<K>,
     size: Size,
     keep: usize,
     gone: usize,
@@ -62,10 +62,10 @@ fn merge_words<A: Allocator + Copy>(
 }
 
 /// Makes the second stone's chain part of the first one's, which keeps its label.
-pub fn join<A: Allocator + Copy>(
-    cells: &mut Cells,
+pub fn join<K, A: Allocator + Copy>(
+    cells: &mut Cells<K>,
     changes: &mut Vec<Change, A>,
-    meter: &mut Meter,
+    meter: &mut Meter<K>,
     size: Size,
     first: usize,
     second: usize,

@@ -15,10 +15,10 @@ use go_board::{Meter, Point, Size};
 use std::alloc::Allocator;
 
 /// Makes a point a liberty of a label too.
-fn set_liberty<A: Allocator + Copy>(
-    cells: &mut Cells,
+fn set_liberty<K, A: Allocator + Copy>(
+    cells: &mut Cells<K>,
     changes: &mut Vec<Change, A>,
-    meter: &mut Meter,
+    meter: &mut Meter<K>,
     label: usize,
     point: usize,
 )
@@ -34,10 +34,10 @@ fn set_liberty<A: Allocator + Copy>(
 }
 
 /// Makes a point a liberty of the stone on another point, if one of this colour is there.
-fn give_one<A: Allocator + Copy>(
-    cells: &mut Cells,
+fn give_one<K, A: Allocator + Copy>(
+    cells: &mut Cells<K>,
     changes: &mut Vec<Change, A>,
-    meter: &mut Meter,
+    meter: &mut Meter<K>,
     near: usize,
     point: usize,
     colour: u64,
@@ -57,10 +57,10 @@ fn give_one<A: Allocator + Copy>(
 }
 
 /// Makes a point a liberty of the stones of this colour beside it.
-fn give_back<A: Allocator + Copy>(
-    cells: &mut Cells,
+fn give_back<K, A: Allocator + Copy>(
+    cells: &mut Cells<K>,
     changes: &mut Vec<Change, A>,
-    meter: &mut Meter,
+    meter: &mut Meter<K>,
     beside: &[usize],
     point: usize,
     colour: u64,
@@ -79,10 +79,10 @@ fn give_back<A: Allocator + Copy>(
 }
 
 /// Takes one stone off, and makes its point a liberty of the stones of the other colour beside it.
-fn lift<A: Allocator + Copy>(
-    cells: &mut Cells,
+fn lift<K, A: Allocator + Copy>(
+    cells: &mut Cells<K>,
     changes: &mut Vec<Change, A>,
-    meter: &mut Meter,
+    meter: &mut Meter<K>,
     size: Size,
     point: usize,
     own: u64,
@@ -102,10 +102,10 @@ fn lift<A: Allocator + Copy>(
 }
 
 /// Takes the chain of a stone off, and says how many stones that were.
-pub fn take_off<A: Allocator + Copy>(
-    cells: &mut Cells,
+pub fn take_off<K, A: Allocator + Copy>(
+    cells: &mut Cells<K>,
     changes: &mut Vec<Change, A>,
-    meter: &mut Meter,
+    meter: &mut Meter<K>,
     size: Size,
     stone: usize,
     own: u64,

@@ -51,7 +51,7 @@ impl<A: Allocator + Copy> Log<A> {
     }
 
     /// Puts the last play's changes back, from the last to the first, and drops that play.
-    pub(crate) fn put_back(&mut self, cells: &mut Cells, meter: &mut Meter)
+    pub(crate) fn put_back<K>(&mut self, cells: &mut Cells<K>, meter: &mut Meter<K>)
         requires play { 0 < length self.old }
         requires names { ForLast self.old (λ earlier changes. NamesCells COUNT changes) }
         ensures { ForLast self.old (λ earlier changes.
@@ -64,10 +64,10 @@ impl<A: Allocator + Copy> Log<A> {
 }
 
 /// Puts the last changes back, so many of them, from the last to the first.
-fn put_back_changes<A: Allocator + Copy>(
-    cells: &mut Cells,
+fn put_back_changes<K, A: Allocator + Copy>(
+    cells: &mut Cells<K>,
     changes: &mut Vec<Change, A>,
-    meter: &mut Meter,
+    meter: &mut Meter<K>,
     count: usize,
 )
     requires enough { count ≤ length changes.old.items }

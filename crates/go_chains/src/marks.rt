@@ -44,9 +44,9 @@ pub(crate) fn lowest_on_ring(cells: &Cells, from: usize, points: usize) -> usize
 }
 
 /// Puts a label's liberties into a set.
-pub(crate) fn put_liberties(
-    cells: &Cells,
-    meter: &mut Meter,
+pub(crate) fn put_liberties<K>(
+    cells: &Cells<K>,
+    meter: &mut Meter<K>,
     size: Size,
     label: usize,
     set: &mut PointSet,

@@ -25,9 +25,9 @@ pub(crate) fn mask_but(points: usize, word: usize, point: usize) -> u64
 }
 
 /// Whether one word of a label has a liberty that is in a mask.
-pub(crate) fn has_liberty_in(
-    cells: &Cells,
-    meter: &mut Meter,
+pub(crate) fn has_liberty_in<K>(
+    cells: &Cells<K>,
+    meter: &mut Meter<K>,
     label: usize,
     word: usize,
     mask: u64,

@@ -2,17 +2,18 @@ ghost use Rattle.std.specs.Prelude.{◌≡◌, ◌<◌, ◌+◌, replicate, slic
 ghost use Rattle.go_chains.specs.declared.cells.TheConstants.{COUNT};
 
 use crate::cells::COUNT;
-use go_board::Meter;
-use std::marker::Model;
+use go_board::{Meter, Open};
+use std::marker::{Model, PhantomData};
 
 /// The numbers in the cells of a board. Only the calls below reach them: each reads or writes one
-/// number, and counts that.
+/// number, and counts that with a meter of their kind.
 #[derive(Drop)]
-pub struct Numbers {
+pub struct Numbers<K> {
     items: [u64; COUNT],
+    kind: PhantomData<K>,
 }
 
-impl Model for Numbers {
+impl<K> Model for Numbers<K> {
     ghost use Rattle.std.specs.Prelude.{◌≡◌, ℕ, List, length};
     ghost use Rattle.go_chains.specs.declared.cells.TheConstants.{COUNT};
 
@@ -23,18 +24,23 @@ impl Model for Numbers {
     ghost invariant = { λ n. length n.items ≡ COUNT };
 }
 
-impl Numbers {
-    ghost use Rattle.go_chains.specs.Cells.{IsWritten};
-
+impl Numbers<Open> {
     /// Numbers that are all 0.
-    pub fn new() -> Numbers
+    pub fn new() -> Numbers<Open>
         ensures { result ≡ replicate COUNT 0 }
     {
-        Numbers { items: [0; COUNT] }
+        Numbers {
+            items: [0; COUNT],
+            kind: PhantomData,
+        }
     }
+}
+
+impl<K> Numbers<K> {
+    ghost use Rattle.go_chains.specs.Cells.{IsWritten};
 
     /// The number in a cell.
-    pub fn get(&self, place: usize, meter: &mut Meter) -> u64
+    pub fn get(&self, place: usize, meter: &mut Meter<K>) -> u64
         requires { place < COUNT }
         ensures value { result ≡ slice_index self.now place }
         ensures count { meter.new ≡ meter.old + 1 }
@@ -44,7 +50,7 @@ impl Numbers {
     }
 
     /// Writes a number into a cell.
-    pub fn set(&mut self, place: usize, number: u64, meter: &mut Meter)
+    pub fn set(&mut self, place: usize, number: u64, meter: &mut Meter<K>)
         requires { place < COUNT }
         ensures value { self.new ≡ slice_set self.old place number }
         ensures written { IsWritten self.old self.new place number }

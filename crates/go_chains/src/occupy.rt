@@ -16,7 +16,7 @@ use go_board::{MAX_POINTS, Meter, PointSet, Size};
 use std::alloc::Allocator;
 
 /// Puts a point into a set if it is empty.
-fn put_if_empty(cells: &Cells, meter: &mut Meter, near: usize, set: &mut PointSet)
+fn put_if_empty<K>(cells: &Cells<K>, meter: &mut Meter<K>, near: usize, set: &mut PointSet)
     requires near { near < MAX_POINTS }
     ensures marked { MarksOne cells.now.numbers set.old set.new near }
     ensures count { meter.new ≡ meter.old + 1 }
@@ -27,7 +27,7 @@ fn put_if_empty(cells: &Cells, meter: &mut Meter, near: usize, set: &mut PointSe
 }
 
 /// Puts the empty ones among these points into a set that has none.
-pub(crate) fn put_empty(cells: &Cells, meter: &mut Meter, beside: &[usize], set: &mut PointSet)
+pub(crate) fn put_empty<K>(cells: &Cells<K>, meter: &mut Meter<K>, beside: &[usize], set: &mut PointSet)
     requires few { length beside.now ≤ 4 }
     requires on { All (λ near. near < MAX_POINTS) beside.now }
     requires none { set.old ≡ replicate WORDS 0 }
@@ -40,10 +40,10 @@ pub(crate) fn put_empty(cells: &Cells, meter: &mut Meter, beside: &[usize], set:
 }
 
 /// Takes a point out of the liberties of a label.
-fn clear_liberty<A: Allocator + Copy>(
-    cells: &mut Cells,
+fn clear_liberty<K, A: Allocator + Copy>(
+    cells: &mut Cells<K>,
     changes: &mut Vec<Change, A>,
-    meter: &mut Meter,
+    meter: &mut Meter<K>,
     label: usize,
     point: usize,
 )
@@ -66,10 +66,10 @@ fn clear_liberty<A: Allocator + Copy>(
 }
 
 /// Takes a point out of the liberties of the stone on another point, if one is there.
-fn deprive_one<A: Allocator + Copy>(
-    cells: &mut Cells,
+fn deprive_one<K, A: Allocator + Copy>(
+    cells: &mut Cells<K>,
     changes: &mut Vec<Change, A>,
-    meter: &mut Meter,
+    meter: &mut Meter<K>,
     near: usize,
     point: usize,
 )
@@ -88,10 +88,10 @@ fn deprive_one<A: Allocator + Copy>(
 }
 
 /// Takes a point out of the liberties of the stones beside it.
-fn deprive<A: Allocator + Copy>(
-    cells: &mut Cells,
+fn deprive<K, A: Allocator + Copy>(
+    cells: &mut Cells<K>,
     changes: &mut Vec<Change, A>,
-    meter: &mut Meter,
+    meter: &mut Meter<K>,
     beside: &[usize],
     point: usize,
 )
@@ -109,10 +109,10 @@ fn deprive<A: Allocator + Copy>(
 }
 
 /// Writes a set as a label's liberties, as many words as the board has.
-fn fill_words<A: Allocator + Copy>(
-    cells: &mut Cells,
+fn fill_words<K, A: Allocator + Copy>(
+    cells: &mut Cells<K>,
     changes: &mut Vec<Change, A>,
-    meter: &mut Meter,
+    meter: &mut Meter<K>,
     size: Size,
     label: usize,
     set: &PointSet,
@@ -130,10 +130,10 @@ fn fill_words<A: Allocator + Copy>(
 }
 
 /// Puts a stone of this colour on an empty point.
-pub fn occupy<A: Allocator + Copy>(
-    cells: &mut Cells,
+pub fn occupy<K, A: Allocator + Copy>(
+    cells: &mut Cells<K>,
     changes: &mut Vec<Change, A>,
-    meter: &mut Meter,
+    meter: &mut Meter<K>,
     size: Size,
     colour: u64,
     point: usize,

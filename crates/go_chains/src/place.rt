@@ -26,10 +26,10 @@ use std::alloc::Allocator;
 pub const ROOM: usize = (WORDS + 8) + 4 * (MAX_POINTS + WORDS + 3) + 25 * MAX_POINTS;
 
 /// Plays a stone on an empty point, whose neighbours are given, and says what that took.
-pub fn place<A: Allocator + Copy>(
-    cells: &mut Cells,
+pub fn place<K, A: Allocator + Copy>(
+    cells: &mut Cells<K>,
     changes: &mut Vec<Change, A>,
-    meter: &mut Meter,
+    meter: &mut Meter<K>,
     size: Size,
     colour: Colour,
     point: usize,

@@ -29,7 +29,7 @@ pub(crate) enum Outlook {
 
 /// Whether a label has a liberty but this point. Liberties are mostly close by, so the word with the
 /// bit of the point is looked at first.
-fn has_other(cells: &Cells, meter: &mut Meter, size: Size, label: usize, point: usize) -> bool
+fn has_other<K>(cells: &Cells<K>, meter: &mut Meter<K>, size: Size, label: usize, point: usize) -> bool
     requires label { label < MAX_POINTS }
     requires point { point < size * size }
     ensures other { IsTrue result ↔ HasOther size cells.now.numbers point label }
@@ -50,9 +50,9 @@ fn has_other(cells: &Cells, meter: &mut Meter, size: Size, label: usize, point: 
 }
 
 /// What a stone of the colour with this code on an empty point means for a point beside it.
-fn outlook_on(
-    cells: &Cells,
-    meter: &mut Meter,
+fn outlook_on<K>(
+    cells: &Cells<K>,
+    meter: &mut Meter<K>,
     size: Size,
     own: u64,
     point: usize,
@@ -81,9 +81,9 @@ fn outlook_on(
 /// Whether a stone of the colour with this code on an empty point takes nothing, itself included, as
 /// its neighbours show: none of them is a chain of the other colour without another liberty, and one
 /// of them lends it a liberty.
-pub(crate) fn takes_nothing(
-    cells: &Cells,
-    meter: &mut Meter,
+pub(crate) fn takes_nothing<K>(
+    cells: &Cells<K>,
+    meter: &mut Meter<K>,
     size: Size,
     own: u64,
     point: usize,
@@ -108,7 +108,7 @@ pub(crate) fn takes_nothing(
 }
 
 /// Adds the liberties of the stone on a point, if it has the colour with this code.
-fn add_own(cells: &Cells, meter: &mut Meter, size: Size, own: u64, near: usize, set: &mut PointSet)
+fn add_own<K>(cells: &Cells<K>, meter: &mut Meter<K>, size: Size, own: u64, near: usize, set: &mut PointSet)
     requires kept { IsKept size cells.now.numbers }
     requires own { 0 < own }
     requires near { near < size * size }
@@ -127,9 +127,9 @@ fn add_own(cells: &Cells, meter: &mut Meter, size: Size, own: u64, near: usize, 
 
 /// Puts the points but this one that are empty beside it, or liberties of a chain of the colour with
 /// this code beside it, into a set that has none.
-pub(crate) fn put_lent(
-    cells: &Cells,
-    meter: &mut Meter,
+pub(crate) fn put_lent<K>(
+    cells: &Cells<K>,
+    meter: &mut Meter<K>,
     size: Size,
     own: u64,
     point: usize,

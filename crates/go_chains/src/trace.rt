@@ -1,6 +1,7 @@
 ghost use Rattle.std.specs.Prelude.{◌≡◌, ◌++◌, ◌∷◌, [], slice_index};
 
 use crate::numbers::Numbers;
+use go_board::Open;
 use std::marker::Model;
 use std::mem;
 use std::snapshot::Snapshot;
@@ -9,13 +10,13 @@ use std::snapshot::Snapshot;
 /// is no list before. The last one is told by its cell and by what stood in all cells before it, so
 /// that no cell is read for it.
 #[derive(Drop)]
-struct Writes {
-    before: Option<Snapshot<Writes>>,
+struct Writes<K> {
+    before: Option<Snapshot<Writes<K>>>,
     place: usize,
-    numbers: Snapshot<Numbers>,
+    numbers: Snapshot<Numbers<K>>,
 }
 
-impl Model for Writes {
+impl<K> Model for Writes<K> {
     ghost use Rattle.std.specs.Prelude.{List, length};
     ghost use Rattle.go_chains.specs.inner.Traces.{writes_of};
     ghost use Rattle.go_chains.specs.declared.change.Change.{Change};
@@ -30,12 +31,12 @@ impl Model for Writes {
 /// All writes to some cells, in their order, each by the cell and the number that it wrote over.
 /// Contracts see them, and they have no bytes when the program runs.
 #[derive(Drop)]
-pub struct Trace {
+pub struct Trace<K> {
     /// The list of all writes so far.
-    at: Snapshot<Writes>,
+    at: Snapshot<Writes<K>>,
 }
 
-impl Model for Trace {
+impl<K> Model for Trace<K> {
     ghost use Rattle.std.specs.Prelude.{List};
     ghost use Rattle.go_chains.specs.declared.change.Change.{Change};
 
@@ -44,9 +45,9 @@ impl Model for Trace {
     ghost view = { λ t. t.at.value };
 }
 
-impl Trace {
+impl<K> Trace<K> {
     /// The trace of no write to these numbers.
-    pub fn new(numbers: &Numbers) -> Trace
+    pub fn new(numbers: &Numbers<K>) -> Trace<K>
         ensures { result ≡ [] }
     {
         Trace {
@@ -59,7 +60,7 @@ impl Trace {
     }
 
     /// Adds at the end a write that is made next to these numbers.
-    pub fn add(&mut self, place: usize, numbers: &Numbers)
+    pub fn add(&mut self, place: usize, numbers: &Numbers<K>)
         ensures { self.new ≡ self.old
             ++ record { place = place; old = slice_index numbers.now place } ∷ [] }
     {
@@ -73,4 +74,4 @@ impl Trace {
     }
 }
 
-const _: () = prove!(mem::size_of::<Trace>() == 0);
+const _: () = prove!(mem::size_of::<Trace<Open>>() == 0);

@@ -15,9 +15,9 @@ use crate::cells::{LABELS, SIZES, word_place};
 use crate::chain_points::{ChainPoints, Part};
 use crate::marks::{lowest_on_ring, put_liberties, put_ring};
 use go_board::laws::{joined_by_a_path, liberty_by_a_path, points_by_number};
-use go_board::{Colour, Meter, Point, PointSet};
+use go_board::{Colour, Meter, Open, Point, PointSet};
 
-impl Board {
+impl Board<Open> {
     /// Whether two stones are in one chain: a path of their colour joins them.
     pub fn same_chain(&self, p: Point, q: Point) -> bool
         requires p_on { IsOn self.now.lines p }

@@ -10,9 +10,9 @@ ghost use Rattle.go_chains.specs.Boards.{colouring_of, grid_of};
 use super::Board;
 use crate::cells::with_code;
 use go_board::laws::{bytes_make_a_pack, points_by_number};
-use go_board::{Colour, Meter, PACK_BYTES, Packed, Point, packed_byte};
+use go_board::{Colour, Meter, Open, PACK_BYTES, Packed, Point, packed_byte};
 
-impl Board {
+impl Board<Open> {
     /// The colours in two bits a point, as `Grid::pack` has them.
     pub fn pack(&self) -> Packed
         ensures { bytes_of result ≡ packed_of (grid_of self.now) }

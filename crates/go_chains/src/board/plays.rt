@@ -22,14 +22,14 @@ use go_board::laws::{liberty_by_a_path, points_by_number, reaches_by_a_path};
 use go_board::{Colour, Meter, Point, PointSet, Taken};
 use std::alloc::Allocator;
 
-impl Board {
+impl<K> Board<K> {
     /// Places a stone, takes off the opponent's chains that have no liberty then, and after them
     /// the stone's own chain if that has none. It says how many stones were taken off. Repetitions
     /// aren't looked for, and suicide is a play. The log gets the play's changes.
     pub fn play<A: Allocator + Copy>(
         &mut self,
         log: &mut Log<A>,
-        meter: &mut Meter,
+        meter: &mut Meter<K>,
         colour: Colour,
         p: Point,
     ) -> Result<Taken, PlaceError>
@@ -76,7 +76,7 @@ impl Board {
     }
 
     /// Whether a stone on an empty point takes nothing, itself included, as its neighbours show.
-    pub fn is_quiet(&self, meter: &mut Meter, colour: Colour, p: Point) -> bool
+    pub fn is_quiet(&self, meter: &mut Meter<K>, colour: Colour, p: Point) -> bool
         requires on { IsOn self.now.lines p }
         requires empty { HoldsStone self.now p → ⊥ }
         ensures quiet { IsTrue result ↔ played self.now colour p
@@ -102,7 +102,7 @@ impl Board {
     }
 
     /// How many liberties the chain of a stone on an empty point has, where it takes nothing.
-    pub fn liberties_with(&self, meter: &mut Meter, colour: Colour, p: Point) -> u16
+    pub fn liberties_with(&self, meter: &mut Meter<K>, colour: Colour, p: Point) -> u16
         requires on { IsOn self.now.lines p }
         requires empty { HoldsStone self.now p → ⊥ }
         ensures liberties { result ≡ length (liberties self.now.lines
@@ -132,7 +132,7 @@ impl Board {
 
     /// Takes back the last play of a log, change by change from the last to the first. It takes no
     /// memory.
-    pub fn rewind<A: Allocator + Copy>(&mut self, log: &mut Log<A>, meter: &mut Meter)
+    pub fn rewind<A: Allocator + Copy>(&mut self, log: &mut Log<A>, meter: &mut Meter<K>)
         requires play { 0 < length log.old }
         requires cells { ForLast log.old (λ earlier changes.
             NamesCells COUNT changes × IsKept self.old.lines (rewound self.old.cells changes)) }

@@ -3,7 +3,7 @@ use Rattle.go_chains.proofs.answers.Dead.{dead_more}
 use Rattle.go_chains.proofs.capture.is_dead.Goals as goal
 
 pub loop-word-preserved : goal.loop-word-preserved
-loop-word-preserved c =
+loop-word-preserved g c =
     let n = c.args.size in
     let points_is : c.from-points.result ≡ n * n = c.from-points.ensures ∙ c.points.ensures.value in
     record {

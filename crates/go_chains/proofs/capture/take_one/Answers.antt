@@ -1,4 +1,4 @@
-use Rattle.std.proofs.Common.{arith, ◌≡◌, ◌*◌, ℕ, sym, ◌∙◌, subst}
+use Rattle.std.proofs.Common.{arith, true≢false, ◌≡◌, ◌*◌, ℕ, sym, ◌∙◌, subst}
 use Rattle.go_board.specs.Paths.{IsAdjacent}
 use Rattle.go_chains.specs.Cells.{code_at}
 use Rattle.go_chains.specs.inner.Steps.{CountsTaken}
@@ -32,6 +32,11 @@ take_off-requires-clause-two g c = c.requires.colours.two
 
 pub returns-then-not-is_dead-clause-edited : goal.returns-then-not-is_dead-clause-edited
 returns-then-not-is_dead-clause-edited g c = Edited_none (omega arith) (omega arith)
+
+pub returns-then-not-is_dead-clause-gone : goal.returns-then-not-is_dead-clause-gone
+returns-then-not-is_dead-clause-gone g c is dead =
+    let D : ℕ → Type 0 = λ l. IsDead (c.args.size * c.args.size) (tables_of c.args.cells.now.numbers) l in
+    absurd (true≢false (sym (c.is_dead.ensures.dead.1 (subst D (sym c.get-label.ensures.value) dead)) ∙ c.if-not-is_dead.true))
 
 pub returns-clause-capturing : goal.returns-clause-capturing
 returns-clause-capturing g c t tidy capturing =

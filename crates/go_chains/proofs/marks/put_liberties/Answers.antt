@@ -5,7 +5,7 @@ use Rattle.go_chains.specs.Cells.{lib_of, word_of}
 use Rattle.go_chains.proofs.marks.put_liberties.Goals as goal
 
 pub loop-word-preserved : goal.loop-word-preserved
-loop-word-preserved c =
+loop-word-preserved g c =
     let cells = c.args.cells.now.numbers in
     let label = c.args.label in
     let k = c.loop-word.word in
@@ -33,7 +33,7 @@ loop-word-preserved c =
     }
 
 pub returns-clause-put : goal.returns-clause-put
-returns-clause-put c q low =
+returns-clause-put g c q low =
     let inv = c.loop-word.invariant in (
       λ set. elim ((inv.put q).0 set) [ inl old ↦ inl old | inr lib ↦ inr lib.1 ],
       λ either. (inv.put q).1 (elim either [ inl old ↦ inl old | inr lib ↦ inr (omega (arith, low, c.words_of-word-end.ensures.value, c.loop-word-test.false), lib) ]),

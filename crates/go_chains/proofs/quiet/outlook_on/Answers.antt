@@ -3,5 +3,5 @@ use Rattle.go_chains.proofs.rules.Quiet.{label_low}
 use Rattle.go_chains.proofs.quiet.outlook_on.Goals as goal
 
 pub has_other-lives-requires-clause-label : goal.has_other-lives-requires-clause-label
-has_other-lives-requires-clause-label c =
+has_other-lives-requires-clause-label g c =
     omega (arith, c.get-label.ensures.value, label_low c.args.size c.args.cells.now.numbers c.requires.kept c.args.near c.requires.near (λ e. c.if-code-eq0.false (c.get-code.ensures.value ∙ e)))

@@ -8,7 +8,7 @@ abbrev Lends : List ℕ → ℕ → ℕ → ℕ → Type 0
 Lends cells own q s = (code_at cells s ≡ own) × (lib_of cells (label_of cells s) q ≡ 1)
 
 pub loop-near-preserved : goal.loop-near-preserved
-loop-near-preserved c =
+loop-near-preserved g c =
     let cells = c.args.cells.now.numbers in
     let k = c.loop-near.near-index in
     let kept = c.loop-near.invariant in
@@ -31,7 +31,7 @@ loop-near-preserved c =
     }
 
 pub returns-clause-lent : goal.returns-clause-lent
-returns-clause-lent c q low =
+returns-clause-lent g c q low =
     let cells = c.args.cells.now.numbers in
     let left = c.leave_out.ensures q in
     let is = c.loop-near.invariant.lent q low in (

@@ -6,7 +6,7 @@ use Rattle.go_board.specs.PointSets.{HasPoint}
 use Rattle.go_chains.proofs.quiet.put_lent.Given as goal
 
 abbrev pub invariant-loop-near : goal.invariant-loop-near
-invariant-loop-near l = record {
+invariant-loop-near g l = record {
   lent : (q : ℕ) → q < l.fn.size * l.fn.size → HasPoint l.set q ↔ ((IsAdjacent l.fn.size l.fn.point q × (code_at l.fn.cells.numbers q ≡ 0))
       ⊎ ((i : ℕ) × (i < l.near-index) × (code_at l.fn.cells.numbers (slice_index l.fn.beside i) ≡ l.fn.own)
       × (lib_of l.fn.cells.numbers (label_of l.fn.cells.numbers (slice_index l.fn.beside i)) q ≡ 1)));

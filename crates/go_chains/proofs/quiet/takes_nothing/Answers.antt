@@ -10,7 +10,7 @@ stays n cells p own q (inl empty) = inl empty
 stays n cells p own q (inr same) = inr (inl same.0)
 
 pub loop-near-preserved : goal.loop-near-preserved
-loop-near-preserved c =
+loop-near-preserved g c =
     let n = c.args.size in
     let cells = c.args.cells.now.numbers in
     let k = c.loop-near.near-index in

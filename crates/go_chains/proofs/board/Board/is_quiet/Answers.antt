@@ -6,7 +6,7 @@ use Rattle.go_chains.proofs.rules.Quiet.{coded_back, moved_quiet, quiet_moved, q
 use Rattle.go_chains.proofs.board.Board.is_quiet.Goals as goal
 
 pub returns-clause-quiet : goal.returns-clause-quiet
-returns-clause-quiet c =
+returns-clause-quiet g c =
     let n = c.args.self.now.lines in
     let cells = c.args.self.now.cells in
     let p = number_of n c.args.p in

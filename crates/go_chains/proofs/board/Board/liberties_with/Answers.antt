@@ -11,7 +11,7 @@ use Rattle.go_chains.proofs.rules.Quiet.{coded_back, lent_is, lent_on, vacant_co
 use Rattle.go_chains.proofs.board.Board.liberties_with.Goals as goal
 
 pub returns-clause-liberties : goal.returns-clause-liberties
-returns-clause-liberties c =
+returns-clause-liberties g c =
     let n = c.args.self.now.lines in
     let cells = c.args.self.now.cells in
     let p = number_of n c.args.p in

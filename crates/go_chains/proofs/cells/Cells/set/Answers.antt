@@ -7,7 +7,7 @@ use Rattle.go_chains.proofs.answers.Packs.{pack_left, pack_written, written_byte
 use Rattle.go_chains.proofs.cells.Cells.set.Goals as goal
 
 pub invariant_of-self : goal.invariant_of-self
-invariant_of-self c =
+invariant_of-self g c =
     let cells = c.self.inside.numbers in
     let bytes = bytes_of c.self.inside.pack in
     let byte = written_byte cells bytes c.args.place c.args.number c.byte-byte.result c.with_code.result c.colour_code-code.result c.if-place-lt-MAX_POINTS.true c.self.invariant (omega arith)
@@ -17,6 +17,6 @@ invariant_of-self c =
     ∙ ap (λ (l : List ℕ). packed_of (colouring_of MAX_LINES l)) (sym c.set.ensures.value)
 
 pub invariant_of-self-else-place-lt-MAX_POINTS : goal.invariant_of-self-else-place-lt-MAX_POINTS
-invariant_of-self-else-place-lt-MAX_POINTS c =
+invariant_of-self-else-place-lt-MAX_POINTS g c =
     pack_left c.self.inside.numbers (bytes_of c.self.inside.pack) c.args.place c.args.number (omega (arith, c.if-place-lt-MAX_POINTS.false)) c.self.invariant
     ∙ ap (λ (l : List ℕ). packed_of (colouring_of MAX_LINES l)) (sym c.set.ensures.value)
