@@ -105,11 +105,12 @@ pub fn own_held_with(
     requires lines { lines ≤ ROWS }
     requires row { row < lines }
     requires col { col < lines }
-    ensures { (g : Colouring) (c : Colour) → length g ≡ lines * lines
+    ensures held { (g : Colouring) (c : Colour) → length g ≡ lines * lines
         → colour_at g (row * lines + col) ≡ None → AreHeld lines g c own_held.now
         → AreStones lines (slice_set g (row * lines + col) (Some c)) c own.now
         → AreStones lines (slice_set g (row * lines + col) (Some c)) (other c) theirs.now
         → AreHeld lines (slice_set g (row * lines + col) (Some c)) c result }
+    ensures same { IsIn own_held.now row col → result ≡ own_held.now }
 {
     if has_place(own_held, row, col) {
         return *own_held;
@@ -130,11 +131,12 @@ pub fn theirs_held_with(
     requires lines { lines ≤ ROWS }
     requires row { row < lines }
     requires col { col < lines }
-    ensures { (g : Colouring) (c : Colour) → length g ≡ lines * lines
+    ensures held { (g : Colouring) (c : Colour) → length g ≡ lines * lines
         → colour_at g (row * lines + col) ≡ None → AreHeld lines g (other c) theirs_held.now
         → AreStones lines (slice_set g (row * lines + col) (Some c)) c own.now
         → AreStones lines (slice_set g (row * lines + col) (Some c)) (other c) theirs.now
         → AreHeld lines (slice_set g (row * lines + col) (Some c)) (other c) result }
+    ensures same { (IsIn theirs_held.now row col → ⊥) → result ≡ theirs_held.now }
 {
     if !has_place(theirs_held, row, col) {
         return *theirs_held;

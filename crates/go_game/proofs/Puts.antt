@@ -53,6 +53,11 @@ module _ (rule : Superko) (start : GridValue) (komi : ℤ) (first : Colour) (ste
   pub moved_is : moved b.lines (grid_of b) c (number_of b.lines p) ≡ moved start.lines now c (number_of start.lines p)
   moved_is = let f : ℕ → Colouring → Colouring = λ m g. moved m g c (number_of m p) in seen_as f rule start komi first steps b log history black white k
 
+  -- the play takes nothing on the board where it does by the standing
+  pub still_is : moved start.lines now c (number_of start.lines p) ≡ slice_set now (number_of start.lines p) (Some c)
+      → moved b.lines (grid_of b) c (number_of b.lines p) ≡ slice_set (grid_of b) (number_of b.lines p) (Some c)
+  still_is quiet = let f : ℕ → Colouring → Colouring = λ m g. slice_set g (number_of m p) (Some c) in moved_is ∙ quiet ∙ sym (seen_as f rule start komi first steps b log history black white k)
+
   pub most_is : most_of b.lines (grid_of b) c (number_of b.lines p) ≡ most_of start.lines now c (number_of start.lines p)
   most_is = let f : ℕ → Colouring → ℕ = λ m g. most_of m g c (number_of m p) in seen_as f rule start komi first steps b log history black white k
 

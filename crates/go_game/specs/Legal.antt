@@ -1,14 +1,16 @@
 -- Whether a move is legal, as a test.
-use Rattle.std.specs.Prelude.{◌&&◌, nat_lt, Bool, true, false, not, None}
+use Rattle.std.specs.Prelude.{◌≡◌, ◌&&◌, nat_lt, Bool, true, false, not, None, Some, slice_set}
 use Rattle.std.specs.List.{list_any}
 use Rattle.std.specs.Cmp.Lexicographic.{pointwise}
 use Rattle.go_board.specs.declared.colour.Colour.{Colour}
 use Rattle.go_board.specs.declared.vertex.Vertex.{Vertex}
 use Rattle.go_board.specs.declared.vertex.Vertex.TheVariants.{Pass, At}
 use Rattle.go_board.specs.Colours.{Colouring}
-use Rattle.go_board.specs.Points.{number_of}
+use Rattle.go_board.specs.declared.point.Point.{Point}
+use Rattle.go_board.specs.Grids.{stone_at}
+use Rattle.go_board.specs.Points.{IsOn, number_of}
 use Rattle.go_board.specs.Reaching.{has_colour, is_same}
-use Rattle.go_game.specs.Standings.{Seen, Standing, board_of, seen_after, stood_of}
+use Rattle.go_game.specs.Standings.{Seen, Standing, after_vertex, board_of, present, seen_after, stood_of}
 
 -- whether two colourings are the same
 abbrev pub same_colours : Colouring → Colouring → Bool
@@ -35,3 +37,8 @@ is_repeat s c (At p) = has_stood s (seen_after s c (number_of s.lines p))
 -- a pass, or a play on an empty point of the board that leaves what the rule didn't see before
 abbrev pub is_legal : Standing → Colour → Vertex → Bool
 is_legal s c v = is_open s v && not (is_repeat s c v)
+
+-- a play on an empty point of the board takes nothing, itself included: it leaves what stood with the stone
+abbrev pub TakesNothing : Standing → Colour → Point → Type 0
+TakesNothing s c p = IsOn s.lines p × (stone_at (present s) p ≡ None)
+    × (after_vertex s.lines (board_of s) c (At p) ≡ slice_set (board_of s) (number_of s.lines p) (Some c))

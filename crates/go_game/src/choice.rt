@@ -45,7 +45,7 @@ impl<A: Allocator + Copy> Game<A> {
     ghost use Rattle.go_chains.specs.Playing.{reads_around};
     ghost use Rattle.go_game.specs.Choices.{chosen, lead_of};
     ghost use Rattle.go_game.specs.Counts.{IsAsBefore, IsLogged, most_for, most_on_all};
-    ghost use Rattle.go_game.specs.Legal.{is_legal};
+    ghost use Rattle.go_game.specs.Legal.{TakesNothing, is_legal};
     ghost use Rattle.go_game.specs.Standings.{IsLegal, IsOccupied, IsOffBoard, Seen, after_vertex, board_of, present, stood_of, with_move};
     ghost use Rattle.go_board.specs.Colours.{colour_at};
     ghost use Rattle.go_game.specs.inner.Trials.{AreHoldings, IsBestTrial, tried_on};
@@ -65,6 +65,9 @@ impl<A: Allocator + Copy> Game<A> {
         ensures same { IsAsBefore self.old self.new }
         ensures count { self.new.count
             ≤ self.old.count + 4 * most_for self.old.standing made.colour made.vertex }
+        ensures glance { (p : Point) → made.vertex ≡ Vertex.At p
+            → TakesNothing self.old.standing made.colour p
+            → self.new.count ≤ self.old.count + reads_around }
     {
         match made.vertex {
             Vertex::At(p) if self.is_open(p) => self.legal_on(made.colour, p),
@@ -74,8 +77,8 @@ impl<A: Allocator + Copy> Game<A> {
 
     /// Whether a point is on the board and empty.
     fn is_open(&self, p: Point) -> bool
-        ensures on { IsTrue result → IsOn self.now.standing.lines p }
-        ensures vacant { IsTrue result → stone_at (present self.now.standing) p ≡ None }
+        ensures { IsTrue result ↔ (IsOn self.now.standing.lines p
+            × (stone_at (present self.now.standing) p ≡ None)) }
     {
         p.on(self.size()) && self.colour_at(p).is_none()
     }
@@ -90,6 +93,8 @@ impl<A: Allocator + Copy> Game<A> {
         ensures same { IsAsBefore self.old self.new }
         ensures count { self.new.count
             ≤ self.old.count + 4 * most_for self.old.standing colour (Vertex.At p) }
+        ensures glance { TakesNothing self.old.standing colour p
+            → self.new.count ≤ self.old.count + reads_around }
     {
         if self.board.is_quiet(&mut self.meter, colour, p) {
             return Ok(self.leaves_new(colour, p));
@@ -209,6 +214,8 @@ impl<A: Allocator + Copy> Game<A> {
         ensures same { IsAsBefore self.old self.new }
         ensures count { self.new.count
             ≤ self.old.count + 4 * most_for self.old.standing colour (Vertex.At point) }
+        ensures glance { TakesNothing self.old.standing colour point
+            → self.new.count ≤ self.old.count + 2 * reads_around }
     {
         prove!(point.on(self.size()));
         if self.colour_at(point).is_some() {

@@ -1,13 +1,13 @@
-use Rattle.std.proofs.Common.{◌∙◌, ℕ, Err, Some, refl, sym, ap, subst, slice_set}
+use Rattle.std.proofs.Common.{true≢false, ◌∙◌, ℕ, Err, Some, refl, sym, ap, subst, slice_set}
 use Rattle.go_board.specs.declared.vertex.Vertex.TheVariants.{At}
 use Rattle.go_board.specs.Colours.{Colouring}
 use Rattle.go_board.specs.Points.{number_of}
 use Rattle.go_game.specs.inner.Held.{IsPlayable, standing_of}
-use Rattle.go_game.specs.Legal.{is_legal}
+use Rattle.go_game.specs.Legal.{TakesNothing, is_legal}
 use Rattle.go_game.specs.Standings.{GameValue, board_of}
 use Rattle.go_game.proofs.Keeping.{seen_as}
 use Rattle.go_game.proofs.Legal.{legal_passes, repeat_fails}
-use Rattle.go_game.proofs.Puts.{moved_is, no_stone}
+use Rattle.go_game.proofs.Puts.{moved_is, no_stone, still_is}
 use Rattle.go_game.proofs.game.Game.legal_on.Goals as goal
 
 pub is_quiet-requires-clause-empty : goal.is_quiet-requires-clause-empty
@@ -32,3 +32,19 @@ returns-clause-test g c =
     let s = standing_of c.self.inside.superko c.self.inside.start c.self.inside.komi c.self.inside.first c.self.inside.steps.items in
     sym (legal_passes s c.args.colour (At c.args.p) c.in-Ok.ensures.legal)
     ∙ ap (λ (v : GameValue). is_legal v.standing c.args.colour (At c.args.p)) c.self.view_is
+
+-- a play that takes nothing isn't played
+pub returns-in-Err-Repeats-clause-glance : goal.returns-in-Err-Repeats-clause-glance
+returns-in-Err-Repeats-clause-glance g c nothing =
+    let still = subst (λ (v : GameValue). TakesNothing v.standing c.args.colour c.args.p) (sym c.self.view_is) nothing in
+    absurd (true≢false (sym (c.is_quiet.ensures.quiet.1 (still_is c.self.inside.superko c.self.inside.start c.self.inside.komi c.self.inside.first c.self.inside.steps.items c.self.inside.board c.self.inside.log c.self.inside.history c.self.inside.prisoners.black c.self.inside.prisoners.white c.self.invariant.0 c.args.colour c.args.p still.2)) ∙ c.if-is_quiet.false))
+
+pub returns-in-Err-clause-glance : goal.returns-in-Err-clause-glance
+returns-in-Err-clause-glance g c nothing =
+    let still = subst (λ (v : GameValue). TakesNothing v.standing c.args.colour c.args.p) (sym c.self.view_is) nothing in
+    absurd (true≢false (sym (c.is_quiet.ensures.quiet.1 (still_is c.self.inside.superko c.self.inside.start c.self.inside.komi c.self.inside.first c.self.inside.steps.items c.self.inside.board c.self.inside.log c.self.inside.history c.self.inside.prisoners.black c.self.inside.prisoners.white c.self.invariant.0 c.args.colour c.args.p still.2)) ∙ c.if-is_quiet.false))
+
+pub returns-clause-glance : goal.returns-clause-glance
+returns-clause-glance g c nothing =
+    let still = subst (λ (v : GameValue). TakesNothing v.standing c.args.colour c.args.p) (sym c.self.view_is) nothing in
+    absurd (true≢false (sym (c.is_quiet.ensures.quiet.1 (still_is c.self.inside.superko c.self.inside.start c.self.inside.komi c.self.inside.first c.self.inside.steps.items c.self.inside.board c.self.inside.log c.self.inside.history c.self.inside.prisoners.black c.self.inside.prisoners.white c.self.invariant.0 c.args.colour c.args.p still.2)) ∙ c.if-is_quiet.false))
