@@ -45,16 +45,16 @@ impl<A: Allocator + Copy> Game<A> {
     ghost use Rattle.go_chains.specs.Playing.{reads_around};
     ghost use Rattle.go_game.specs.Choices.{chosen, lead_of};
     ghost use Rattle.go_game.specs.Counts.{IsAsBefore, IsLogged, most_for, most_on_all};
-    ghost use Rattle.go_game.specs.Legal.{TakesNothing, is_legal};
+    ghost use Rattle.go_game.specs.Legal.{MayTake, TakesNothing, is_legal};
     ghost use Rattle.go_game.specs.Standings.{IsLegal, IsOccupied, IsOffBoard, Seen, after_vertex, board_of, present, stood_of, with_move};
     ghost use Rattle.go_board.specs.Colours.{colour_at};
     ghost use Rattle.go_game.specs.inner.Trials.{AreHoldings, IsBestTrial, tried_on};
     ghost use Rattle.go_board.specs.Grids.{stone_at};
     ghost use Rattle.go_board.specs.Points.{IsOn, number_of};
 
-    /// Whether the rules allow a move; one off the board isn't legal. A pass, and a play that may take
+    /// Whether the rules allow a move; one off the board isn't legal. A pass, and a play that takes
     /// stones, are tried on the game, and taken back also where there was no memory for them. That
-    /// can't be so off the board or on a stone, where nothing is tried.
+    /// can't be so where nothing is tried: off the board, on a stone, or where no stone is taken.
     pub fn legal(&mut self, made: Move) -> Result<bool, AllocError>
         ensures rules { IfOk result
             (λ legal. IsTrue legal ↔ IsLegal self.old.standing made.colour made.vertex) }
@@ -62,6 +62,7 @@ impl<A: Allocator + Copy> Game<A> {
             (λ legal. legal ≡ is_legal self.old.standing made.colour made.vertex) }
         ensures tried { OnErr result ((IsOffBoard self.old.standing made.vertex → ⊥)
             × (IsOccupied self.old.standing made.vertex → ⊥)) }
+        ensures memory { OnErr result (MayTake self.old.standing made.colour made.vertex) }
         ensures same { IsAsBefore self.old self.new }
         ensures count { self.new.count
             ≤ self.old.count + 4 * most_for self.old.standing made.colour made.vertex }
@@ -90,6 +91,7 @@ impl<A: Allocator + Copy> Game<A> {
         requires vacant { stone_at (present self.old.standing) p ≡ None }
         ensures test { IfOk result
             (λ legal. legal ≡ is_legal self.old.standing colour (Vertex.At p)) }
+        ensures memory { OnErr result (MayTake self.old.standing colour (Vertex.At p)) }
         ensures same { IsAsBefore self.old self.new }
         ensures count { self.new.count
             ≤ self.old.count + 4 * most_for self.old.standing colour (Vertex.At p) }
@@ -157,6 +159,8 @@ impl<A: Allocator + Copy> Game<A> {
     /// may take stones is tried on the game, and taken back also where there was no memory for it.
     pub fn choose(&mut self, colour: Colour) -> Result<Vertex, AllocError>
         ensures ok { IfOk result (λ vertex. vertex ≡ chosen self.old.standing colour) }
+        ensures memory { OnErr result
+            ((p : Point) × MayTake self.old.standing colour (Vertex.At p)) }
         ensures same { IsAsBefore self.old self.new }
         ensures count { self.new.count
             ≤ self.old.count + 4 * most_on_all self.old.standing colour }
@@ -186,6 +190,8 @@ impl<A: Allocator + Copy> Game<A> {
             holdings.now }
         ensures ok { IfOk result (IsBestTrial self.old.standing colour
             (self.old.standing.lines * self.old.standing.lines)) }
+        ensures memory { OnErr result
+            ((p : Point) × MayTake self.old.standing colour (Vertex.At p)) }
         ensures same { IsAsBefore self.old self.new }
         ensures count { self.new.count
             ≤ self.old.count + 4 * most_on_all self.old.standing colour }
@@ -211,6 +217,7 @@ impl<A: Allocator + Copy> Game<A> {
         requires holdings { AreHoldings self.old.standing.lines (board_of self.old.standing) colour
             holdings.now }
         ensures ok { IfOk result (λ trial. trial ≡ tried_on self.old.standing colour point) }
+        ensures memory { OnErr result (MayTake self.old.standing colour (Vertex.At point)) }
         ensures same { IsAsBefore self.old self.new }
         ensures count { self.new.count
             ≤ self.old.count + 4 * most_for self.old.standing colour (Vertex.At point) }
