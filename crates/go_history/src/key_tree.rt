@@ -1,4 +1,4 @@
-ghost use Rattle.std.specs.Prelude.{◌≡◌, ◌≢◌, ◌<◌, ◌-◌, ◌++◌, ◌∷◌, [], ℕ, cond, IfNone, IfOk, IfSome, None, Ok, OnErr, OnOk, Some, length, slice_index, slice_index_or, take, true};
+ghost use Rattle.std.specs.Prelude.{◌≡◌, ◌≢◌, ◌<◌, ◌-◌, ◌++◌, ◌∷◌, [], ℕ, cond, IfNone, IfOk, IfSome, None, Ok, OnErr, OnOk, Some, length, slice_index, slice_index_or, take, false, true};
 ghost use Rattle.std.specs.Map.{lookup};
 ghost use Rattle.go_history.specs.Keys.{key_eq};
 ghost use Rattle.go_history.specs.declared.key.Key.{Key};
@@ -180,6 +180,8 @@ fn link_to_last(entries: &[Entry], ranked: &Ranked) -> Option<Option<usize>>
         (slice_index_or entries.now (length entries.now - 1) d).ranked ≡ true) }
     ensures link { IfSome result (λ link. (d : Entry)
         → link ≡ (slice_index_or entries.now (length entries.now - 1) d).link) }
+    ensures none { IfNone result ((d : Entry) → 0 < length entries.now → ranked_eq ranked.now
+        (slice_index_or entries.now (length entries.now - 1) d).ranked ≡ false) }
 {
     let last = &entries[entries.len().checked_sub(1)?];
     if *ranked == last.ranked {
