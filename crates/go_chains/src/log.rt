@@ -1,4 +1,4 @@
-ghost use Rattle.std.specs.Prelude.{◌≡◌, ◌<◌, ◌≤◌, ◌+◌, ◌++◌, ◌∷◌, [], List, OnOk, length, vec_capacity, vec_len};
+ghost use Rattle.std.specs.Prelude.{◌≡◌, ◌<◌, ◌≤◌, ◌+◌, ◌++◌, ◌∷◌, ◌⊎◌, [], List, OnErr, OnOk, length, vec_capacity, vec_len};
 ghost use Rattle.go_chains.specs.declared.cells.TheConstants.{COUNT};
 ghost use Rattle.go_chains.specs.Rewound.{ForLast, IsPutBack, NamesCells, before_end, end_of, rewound, undone};
 
@@ -85,7 +85,9 @@ fn put_back_changes<K, A: Allocator + Copy>(
     }
 }
 
-/// Makes room for one play more, of at most so many changes.
+/// Makes room for one play more, of at most so many changes. An allocator may move a list that grows
+/// with all its room, of which a game's first play uses next to nothing; so the changes of that play
+/// are moved alone, to where there is room for twice as many as a play makes at most.
 pub(crate) fn reserve_play<A: Allocator + Copy>(
     changes: &mut Vec<Change, A>,
     lengths: &mut Vec<usize, A>,
@@ -95,28 +97,29 @@ pub(crate) fn reserve_play<A: Allocator + Copy>(
     ensures lengths { lengths.new.items ≡ lengths.old.items }
     ensures room { OnOk result (vec_len changes.new + most ≤ vec_capacity changes.new) }
     ensures play { OnOk result (vec_len lengths.new < vec_capacity lengths.new) }
+    ensures needed { OnErr result ((vec_capacity changes.old < vec_len changes.old + most)
+        ⊎ (vec_capacity lengths.old ≤ vec_len lengths.old)) }
 {
     lengths.reserve(1)?;
-    if changes.capacity() == most && !changes.is_empty() {
-        widen(changes, most)
-    } else {
-        changes.reserve(most)
+    if changes.capacity() != most || changes.is_empty() {
+        return changes.reserve(most);
     }
+    let wider = Vec::with_capacity(*changes.allocator(), most.saturating_mul(2))?;
+    widen(changes, wider);
+    Ok(())
 }
 
-/// Gives changes room for twice as many as a play makes at most. An allocator may move a list that
-/// grows with all its room, of which a game's first play uses next to nothing; this moves the changes
-/// alone.
-fn widen<A: Allocator + Copy>(changes: &mut Vec<Change, A>, most: usize) -> Result<(), AllocError>
-    requires few { vec_len changes.old ≤ most }
+/// Moves changes to an empty list that has room for them.
+fn widen<A: Allocator + Copy>(changes: &mut Vec<Change, A>, mut wider: Vec<Change, A>)
+    requires empty { wider.items ≡ [] }
+    requires room { vec_len changes.old ≤ vec_capacity wider }
     ensures changes { changes.new.items ≡ changes.old.items }
-    ensures room { OnOk result (vec_len changes.new + most ≤ vec_capacity changes.new) }
+    ensures room { vec_capacity wider ≤ vec_capacity changes.new }
 {
-    let mut wider = Vec::new(*changes.allocator());
-    wider.reserve(most.saturating_mul(2))?;
-    wider.extend_from_slice(changes.as_slice())?;
+    let moved = wider.extend_from_slice(changes.as_slice());
+    prove!(moved.is_ok());
+    let _ = moved;
     *changes = wider;
-    Ok(())
 }
 
 /// Closes a play of so many changes, for which there is room.

@@ -1,3 +1,4 @@
 pub mod Noting
 pub mod Noted
 pub mod Trees
+pub mod Places

@@ -41,7 +41,7 @@ impl<A: Allocator + Copy> Model for History<A> {
 
     ghost view = { λ h. record {
       start = h.start;
-      later = h.first.entries ++ h.further;
+      later = h.first.entries ++ h.further.noted;
     } };
 }
 

@@ -1,4 +1,4 @@
-ghost use Rattle.std.specs.Prelude.{◌≡◌, ◌≢◌, ◌<◌, ◌-◌, ◌++◌, ◌∷◌, [], ℕ, cond, IfNone, IfOk, IfSome, None, Ok, OnErr, OnOk, Some, length, slice_index, slice_index_or, take, true};
+ghost use Rattle.std.specs.Prelude.{◌≡◌, ◌≢◌, ◌<◌, ◌-◌, ◌++◌, ◌∷◌, ◌⊎◌, [], ℕ, List, cond, IfNone, IfOk, IfSome, None, Ok, OnErr, OnOk, Some, length, slice_index, slice_index_or, take, false, true};
 ghost use Rattle.std.specs.Map.{lookup};
 ghost use Rattle.go_history.specs.Keys.{key_eq};
 ghost use Rattle.go_history.specs.declared.key.Key.{Key};
@@ -44,13 +44,14 @@ pub struct KeyTree<A: Allocator + Copy> {
 }
 
 impl<A: Allocator + Copy> Model for KeyTree<A> {
-    ghost use Rattle.std.specs.Prelude.{ℕ, List};
-    ghost use Rattle.go_history.specs.declared.key.Key.{Key};
-    ghost use Rattle.go_history.specs.inner.Trees.{IsTree, noted};
+    ghost use Rattle.go_history.specs.inner.Trees.{IsTree, TreeValue, noted, places_of};
 
-    ghost Value = { List (Key × ℕ) };
+    ghost Value = { TreeValue };
 
-    ghost view = { λ t. noted t.entries.items };
+    ghost view = { λ t. record {
+      noted = noted t.entries.items;
+      places = places_of t.entries.items;
+    } };
 
     ghost invariant = { λ t. IsTree t.entries.items t.links.items };
 }
@@ -60,7 +61,8 @@ impl<A: Allocator + Copy> KeyTree<A> {
 
     /// A tree without keys. It takes no memory.
     pub fn new(alloc: A) -> KeyTree<A>
-        ensures { result ≡ [] }
+        ensures noted { result.noted ≡ [] }
+        ensures places { result.places ≡ [] }
     {
         KeyTree {
             entries: Vec::new(alloc),
@@ -70,14 +72,14 @@ impl<A: Allocator + Copy> KeyTree<A> {
 
     /// Whether no key was noted, but for those that were taken out in the opposite order.
     pub fn is_empty(&self) -> bool
-        ensures { IsTrue result → self.now ≡ [] }
+        ensures { IsTrue result → self.now.noted ≡ [] }
     {
         self.entries.is_empty()
     }
 
     /// The number of a key, or none where it has none.
     pub fn get(&self, key: &Key) -> Option<usize>
-        ensures { result ≡ lookup (key_eq key.now) self.now }
+        ensures { result ≡ lookup (key_eq key.now) self.now.noted }
     {
         match find(&self.entries, &self.links, &Ranked::new(key)).entry {
             Some(at) => self.entries[at].number,
@@ -87,11 +89,13 @@ impl<A: Allocator + Copy> KeyTree<A> {
 
     /// The number of a key, or none where it has none, and then it is noted with this one.
     pub fn note(&mut self, key: &Key, number: usize) -> Result<Option<usize>, AllocError>
-        ensures known { IfOk result (λ known. known ≡ lookup (key_eq key.now) self.old) }
-        ensures noted { result ≡ Ok None → (q : Key) → lookup (key_eq q) self.new
-            ≡ cond (key_eq key.now q) (Some number) (lookup (key_eq q) self.old) }
+        ensures known { IfOk result (λ known. known ≡ lookup (key_eq key.now) self.old.noted) }
+        ensures noted { result ≡ Ok None → (q : Key) → lookup (key_eq q) self.new.noted
+            ≡ cond (key_eq key.now q) (Some number) (lookup (key_eq q) self.old.noted) }
         ensures stood { (k : ℕ) → result ≡ Ok (Some k) → self.new ≡ self.old }
         ensures err { OnErr result (self.new ≡ self.old) }
+        ensures places { (self.new.places ≡ self.old.places)
+            ⊎ (self.new.places ≡ self.old.places ++ key.now ∷ []) }
     {
         let ranked = Ranked::new(key);
         let place = find(&self.entries, &self.links, &ranked);
@@ -120,8 +124,10 @@ impl<A: Allocator + Copy> KeyTree<A> {
     /// Takes a key out. The last that was noted leaves its place, another one is noted there without
     /// a number. It takes no memory.
     pub fn remove(&mut self, key: &Key)
-        ensures { (q : Key) → lookup (key_eq q) self.new
-            ≡ cond (key_eq key.now q) None (lookup (key_eq q) self.old) }
+        ensures noted { (q : Key) → lookup (key_eq q) self.new.noted
+            ≡ cond (key_eq key.now q) None (lookup (key_eq q) self.old.noted) }
+        ensures last { (k : Key) (places : List Key) → self.old.places ≡ places ++ k ∷ []
+            → key_eq key.now k ≡ true → self.new.places ≡ places }
     {
         let ranked = Ranked::new(key);
         if let Some(link) = link_to_last(&self.entries, &ranked) {
@@ -180,6 +186,8 @@ fn link_to_last(entries: &[Entry], ranked: &Ranked) -> Option<Option<usize>>
         (slice_index_or entries.now (length entries.now - 1) d).ranked ≡ true) }
     ensures link { IfSome result (λ link. (d : Entry)
         → link ≡ (slice_index_or entries.now (length entries.now - 1) d).link) }
+    ensures none { IfNone result ((d : Entry) → 0 < length entries.now → ranked_eq ranked.now
+        (slice_index_or entries.now (length entries.now - 1) d).ranked ≡ false) }
 {
     let last = &entries[entries.len().checked_sub(1)?];
     if *ranked == last.ranked {

@@ -1,5 +1,5 @@
 -- A tree of keys: entries in a list, and the links between them.
-use Rattle.std.specs.Prelude.{◌≡◌, ◌≢◌, ◌<◌, ◌≤◌, ◌+◌, ◌++◌, ◌*◌, ◌/◌, ◌%◌, ◌^◌, ◌&&◌, ℕ, zero, suc, nat_eq, Bool, true, false, List, [], ◌∷◌, Option, Some, None, length, slice_index, slice_index_or}
+use Rattle.std.specs.Prelude.{◌≡◌, ◌≢◌, ◌<◌, ◌≤◌, ◌+◌, ◌++◌, ◌*◌, ◌/◌, ◌%◌, ◌^◌, ◌&&◌, ℕ, zero, suc, nat_eq, Bool, true, false, List, [], ◌∷◌, Option, Some, None, length, map, slice_index, slice_index_or}
 use Rattle.std.specs.Hash.FoldHasher.{initial, write, finish}
 use Rattle.go_board.specs.PackBytes.{bytes_of}
 use Rattle.go_history.specs.declared.key.Key.{Key}
@@ -74,6 +74,16 @@ noted_by k (Some n) = (k, n) ∷ []
 abbrev pub noted : List Entry → List (Key × ℕ)
 noted [] = []
 noted (e ∷ entries) = noted_by e.ranked.key e.number ++ noted entries
+
+-- the key of each entry
+abbrev pub places_of : List Entry → List Key
+places_of entries = map (λ e. e.ranked.key) entries
+
+-- what contracts see of a tree: the keys with their numbers, and the keys that have places, also those without a number,
+-- in the order in which they were noted
+pub record TreeValue : Type 0 where
+  pub noted : List (Key × ℕ)
+  pub places : List Key
 
 -- so many steps, of which the last leads to no entry of so many; none, where there is no entry
 pub record EndsAt (links : List ℕ) (count : ℕ) (r : Ranked) (n : ℕ) : Type 0 where

@@ -5,8 +5,9 @@ use Rattle.go_history.specs.Keys.{key_eq}
 use Rattle.go_history.specs.declared.key.Key.{Key}
 use Rattle.go_history.specs.declared.key_tree.Entry.{Entry}
 use Rattle.go_history.specs.declared.ranked.Ranked.{Ranked}
-use Rattle.go_history.specs.inner.Trees.{IsTree, StandsAt, noted, ranked, ranked_eq}
+use Rattle.go_history.specs.inner.Trees.{IsTree, StandsAt, TreeValue, noted, places_of, ranked, ranked_eq}
 use Rattle.go_history.proofs.Noted.{none_taken, noted_less, noted_written, tree_written}
+use Rattle.go_history.proofs.Places.{not_last, places_less}
 use Rattle.go_history.proofs.Trees.{link_to_last, stands_last}
 use Rattle.go_history.proofs.key_tree.KeyTree.remove.Goals as goal
 
@@ -27,32 +28,48 @@ cut-requires-clause-leads g c =
     let stands = stands_found entries c.deref.result.now c.self.inside.links.items c.args.key.now c.new-ranked.result c.in-Some.link d c.self.invariant c.deref.ensures.value c.new-ranked.ensures c.in-Some.ensures.some (c.in-Some.ensures.key d) (c.in-Some.ensures.link d) in
     link_to_last entries c.self.inside.links.items c.args.key.now (length entries - 1) c.in-Some.link (omega (arith, stands.within)) stands
 
-pub returns-in-Some : goal.returns-in-Some
-returns-in-Some g c q =
+pub returns-in-Some-clause-noted : goal.returns-in-Some-clause-noted
+returns-in-Some-clause-noted g c q =
     let entries = c.self.inside.entries.items in
     let d : Entry = record { ranked = c.new-ranked.result; number = None; link = None } in
     let stands = stands_found entries c.deref.result.now c.self.inside.links.items c.args.key.now c.new-ranked.result c.in-Some.link d c.self.invariant c.deref.ensures.value c.new-ranked.ensures c.in-Some.ensures.some (c.in-Some.ensures.key d) (c.in-Some.ensures.link d) in
     let less : c.cut.new.entries.items ≡ take (length entries - 1) entries = search rules in
     ap (λ es. lookup (key_eq q) (noted es)) less
     ∙ noted_less entries c.self.inside.links.items c.args.key.now (length entries - 1) c.in-Some.link d c.self.invariant stands (omega (arith, stands.within)) q
-    ∙ ap (λ (v : List (Key × ℕ)). cond (key_eq c.args.key.now q) None (lookup (key_eq q) v)) c.self.view_is
+    ∙ ap (λ (v : TreeValue). cond (key_eq c.args.key.now q) None (lookup (key_eq q) v.noted)) c.self.view_is
 
 pub invariant_of-self-in-Some-entry : goal.invariant_of-self-in-Some-entry
 invariant_of-self-in-Some-entry g c =
     let stands = (rw (c.in-Some-entry.is, c.deref-2.ensures.value, c.deref-3.ensures.value, c.new-ranked.ensures) at c.find.ensures.stands) in
     tree_written c.self.inside.entries.items c.self.inside.links.items c.in-Some-entry.at _ c.index_mut.result.now stands.within (ap (λ (e : Entry). e.ranked) c.index_mut.ensures.value) (ap (λ (e : Entry). e.link) c.index_mut.ensures.value) c.self.invariant
 
-pub returns-in-Some-entry : goal.returns-in-Some-entry
-returns-in-Some-entry g c q =
+pub returns-in-Some-entry-clause-noted : goal.returns-in-Some-entry-clause-noted
+returns-in-Some-entry-clause-noted g c q =
     let stands = (rw (c.in-Some-entry.is, c.deref-2.ensures.value, c.deref-3.ensures.value, c.new-ranked.ensures) at c.find.ensures.stands) in
     let same = ap (λ (e : Entry). e.ranked) c.index_mut.ensures.value in
     let linked = ap (λ (e : Entry). e.link) c.index_mut.ensures.value in
     noted_written c.self.inside.entries.items c.self.inside.links.items c.args.key.now c.in-Some-entry.at (record { ranked = c.index_mut.result.now.ranked; number = None; link = c.index_mut.result.now.link }) c.index_mut.result.now c.self.invariant stands.within same
     linked (ap (λ (r : Ranked). key_eq c.args.key.now r.key) same ∙ stands.same c.index_mut.result.now) q
-    ∙ ap (λ (v : List (Key × ℕ)). cond (key_eq c.args.key.now q) None (lookup (key_eq q) v)) c.self.view_is
+    ∙ ap (λ (v : TreeValue). cond (key_eq c.args.key.now q) None (lookup (key_eq q) v.noted)) c.self.view_is
 
-pub returns-in_default-entry : goal.returns-in_default-entry
-returns-in_default-entry g c q =
-    ap (λ (v : List (Key × ℕ)). lookup (key_eq q) v) (sym c.self.view_is)
+pub returns-in_default-entry-clause-noted : goal.returns-in_default-entry-clause-noted
+returns-in_default-entry-clause-noted g c q =
+    ap (λ (v : TreeValue). lookup (key_eq q) v.noted) (sym c.self.view_is)
     ∙ none_taken c.self.inside.entries.items c.self.inside.links.items c.args.key.now c.find.result.link (rw (c.in_default-entry.is, c.deref-2.ensures.value, c.deref-3.ensures.value, c.new-ranked.ensures) at c.find.ensures.none) q
-    ∙ ap (λ (v : List (Key × ℕ)). cond (key_eq c.args.key.now q) None (lookup (key_eq q) v)) c.self.view_is
+    ∙ ap (λ (v : TreeValue). cond (key_eq c.args.key.now q) None (lookup (key_eq q) v.noted)) c.self.view_is
+
+pub returns-in-Some-clause-last : goal.returns-in-Some-clause-last
+returns-in-Some-clause-last g c k places ends same =
+    ap places_of c.cut.ensures.cut ∙ places_less c.self.inside.entries.items places k (ap (λ (v : TreeValue). v.places) c.self.view_is ∙ ends)
+
+pub returns-in-Some-entry-clause-last : goal.returns-in-Some-entry-clause-last
+returns-in-Some-entry-clause-last g c k places ends same =
+    let d : Entry = record { ranked = c.new-ranked.result; number = None; link = None } in
+    absurd (not_last c.self.inside.entries.items c.deref.result.now c.self.inside.links.items c.args.key.now c.new-ranked.result places k d c.self.invariant c.deref.ensures.value c.new-ranked.ensures
+    (c.in_default.ensures.none d) (ap (λ (v : TreeValue). v.places) c.self.view_is ∙ ends) same)
+
+pub returns-in_default-entry-clause-last : goal.returns-in_default-entry-clause-last
+returns-in_default-entry-clause-last g c k places ends same =
+    let d : Entry = record { ranked = c.new-ranked.result; number = None; link = None } in
+    absurd (not_last c.self.inside.entries.items c.deref.result.now c.self.inside.links.items c.args.key.now c.new-ranked.result places k d c.self.invariant c.deref.ensures.value c.new-ranked.ensures
+    (c.in_default.ensures.none d) (ap (λ (v : TreeValue). v.places) c.self.view_is ∙ ends) same)
