@@ -17,7 +17,13 @@ use std::alloc::Allocator;
 
 /// Whether no point of the board is a liberty of a label. Liberties are mostly close by, so the
 /// word with the bit of a near point is looked at first.
-pub fn is_dead<K>(cells: &Cells<K>, meter: &mut Meter<K>, size: Size, label: usize, near: usize) -> bool
+pub fn is_dead<K>(
+    cells: &Cells<K>,
+    meter: &mut Meter<K>,
+    size: Size,
+    label: usize,
+    near: usize,
+) -> bool
     requires label { label < MAX_POINTS }
     requires near { near < size * size }
     ensures dead { IsTrue result ↔ IsDead (size * size) (tables_of cells.now.numbers) label }

@@ -27,7 +27,12 @@ fn put_if_empty<K>(cells: &Cells<K>, meter: &mut Meter<K>, near: usize, set: &mu
 }
 
 /// Puts the empty ones among these points into a set that has none.
-pub(crate) fn put_empty<K>(cells: &Cells<K>, meter: &mut Meter<K>, beside: &[usize], set: &mut PointSet)
+pub(crate) fn put_empty<K>(
+    cells: &Cells<K>,
+    meter: &mut Meter<K>,
+    beside: &[usize],
+    set: &mut PointSet,
+)
     requires few { length beside.now ≤ 4 }
     requires on { All (λ near. near < MAX_POINTS) beside.now }
     requires none { set.old ≡ replicate WORDS 0 }

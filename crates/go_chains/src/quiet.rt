@@ -29,7 +29,13 @@ pub(crate) enum Outlook {
 
 /// Whether a label has a liberty but this point. Liberties are mostly close by, so the word with the
 /// bit of the point is looked at first.
-fn has_other<K>(cells: &Cells<K>, meter: &mut Meter<K>, size: Size, label: usize, point: usize) -> bool
+fn has_other<K>(
+    cells: &Cells<K>,
+    meter: &mut Meter<K>,
+    size: Size,
+    label: usize,
+    point: usize,
+) -> bool
     requires label { label < MAX_POINTS }
     requires point { point < size * size }
     ensures other { IsTrue result ↔ HasOther size cells.now.numbers point label }
@@ -108,7 +114,14 @@ pub(crate) fn takes_nothing<K>(
 }
 
 /// Adds the liberties of the stone on a point, if it has the colour with this code.
-fn add_own<K>(cells: &Cells<K>, meter: &mut Meter<K>, size: Size, own: u64, near: usize, set: &mut PointSet)
+fn add_own<K>(
+    cells: &Cells<K>,
+    meter: &mut Meter<K>,
+    size: Size,
+    own: u64,
+    near: usize,
+    set: &mut PointSet,
+)
     requires kept { IsKept size cells.now.numbers }
     requires own { 0 < own }
     requires near { near < size * size }

@@ -1,7 +1,7 @@
 -- Whether a label has a liberty, word by word.
 use Rattle.std.specs.Int.{bit_at, trailing_zeros}
 use Rattle.std.specs.Prelude.{bit_and}
-use Rattle.std.proofs.Common.{ℕ, ◌+◌, ◌*◌, ◌/◌, ◌%◌, ◌^◌, ◌<◌, ◌≤◌, ◌≡◌, ◌≢◌, sym, ap, ◌∙◌, arith, List, w64, min, inl, inr}
+use Rattle.std.proofs.Common.{ℕ, ◌+◌, ◌*◌, ◌/◌, ◌%◌, ◌^◌, ◌<◌, ◌≡◌, ◌≢◌, sym, ap, ◌∙◌, arith, List, w64, min, inl, inr}
 use Rattle.std.proofs.lemmas.Bool.{cases_lt}
 use Rattle.std.proofs.lemmas.Nat.Bits.{bit_at_and, bit_at-lt, bit_at-zero, bit_at-trailing_zeros}
 use Rattle.go_chains.specs.Cells.{word_of, lib_of}
@@ -39,6 +39,9 @@ some_in cells label word mask read small read_is some =
     let m : bit_at mask i < 2 = bit_at-lt mask i in
     let q = 64 * word + i in
     let q_word : q / 64 ≡ word = omega arith in
-    let q_bit : q % 64 ≡ i = omega arith in
-    (q, q_word, ap (bit_at mask) q_bit ∙ (let o : bit_at mask i ≡ 1 = omega arith in o),
-    ap (λ w. bit_at (word_of cells label w) (q % 64)) q_word ∙ ap (bit_at (word_of cells label word)) q_bit ∙ ap (λ x. bit_at x i) (sym read_is) ∙ (let o : bit_at read i ≡ 1 = omega arith in o))
+    let q_bit : q % 64 ≡ i = omega arith in (
+      q,
+      q_word,
+      ap (bit_at mask) q_bit ∙ (let o : bit_at mask i ≡ 1 = omega arith in o),
+      ap (λ w. bit_at (word_of cells label w) (q % 64)) q_word ∙ ap (bit_at (word_of cells label word)) q_bit ∙ ap (λ x. bit_at x i) (sym read_is) ∙ (let o : bit_at read i ≡ 1 = omega arith in o),
+    )

@@ -1,6 +1,6 @@
 use Rattle.std.specs.Int.{bit_at, bit_not}
 use Rattle.std.specs.Prelude.{bit_and}
-use Rattle.std.proofs.Common.{arith, ◌≡◌, ◌+◌, ◌*◌, ◌%◌, ◌^◌, ◌∙◌, ap, inl, inr, w64}
+use Rattle.std.proofs.Common.{arith, ◌+◌, ◌*◌, ◌%◌, ◌^◌, ◌∙◌, ap, inl, inr, w64}
 use Rattle.std.proofs.lemmas.Bool.{cases_eq, cases_lt}
 use Rattle.std.proofs.lemmas.Nat.Bits.{bit_at_clear_other, bit_at_clear_same}
 use Rattle.go_chains.proofs.masks.mask_but.Goals as goal
