@@ -1,8 +1,9 @@
 use go_board::{Colour, Grid, Packed, Point, Size};
 use go_history::{History, Key};
-use std::alloc::{AllocError, Global};
+use std::alloc::{AllocError, Allocator, Global};
 use std::process::Abort;
 use std::test::Fail;
+use test_allocator::Limited;
 
 /// The pack of a board with one stone, or of one with none where no point has this number.
 fn pack_with(rt: &impl Abort, number: u16) -> Packed {
@@ -200,5 +201,62 @@ fn many_keys_are_found_and_taken_back(rt: HostRuntime) -> Result<(), Fail> {
     note_many(&rt, &mut history, [true; 3])?;
     history.restart(key_with(&rt, NO_STONE));
     note_many(&rt, &mut history, [false; 3])?;
+    Ok(())
+}
+
+/// What a history of so many keys may ask for in all.
+const HISTORY: u64 = 3_000_000;
+
+/// Of the many, those that are kept, and then those that are noted and taken back, one lot after the
+/// other: of each lot the last are in the tree.
+const KEPT: u16 = 4_000;
+
+const FIRST_LOT: (u16, u16) = (4_000, 4_200);
+
+const LATER_LOTS: &[(u16, u16)] = &[
+    (4_200, 4_400),
+    (4_400, 4_600),
+    (4_600, 4_800),
+    (4_800, 5_000),
+];
+
+/// Notes the keys from one of the many to another, none of which is found.
+fn note_new<A: Allocator + Copy>(
+    rt: &impl Abort,
+    history: &mut History<A>,
+    from: u16,
+    to: u16,
+) -> Result<(), AllocError> {
+    for number in from..to {
+        let found = history.note(&key_of_two(rt, number), usize::from(number) + 1)?;
+        assert!(rt; found.is_none(), "board {number}");
+    }
+    Ok(())
+}
+
+/// Notes a lot, and takes it out in the opposite order.
+fn note_and_forget<A: Allocator + Copy>(
+    rt: &impl Abort,
+    history: &mut History<A>,
+    lot: (u16, u16),
+) -> Result<(), AllocError> {
+    note_new(rt, history, lot.0, lot.1)?;
+    for number in (lot.0..lot.1).rev() {
+        history.forget(&key_of_two(rt, number));
+    }
+    Ok(())
+}
+
+#[test]
+fn keys_that_are_taken_back_leave_their_room(rt: HostRuntime) -> Result<(), Fail> {
+    let limited = Limited::new(rt.alloc(), HISTORY);
+    let mut history = History::new(&limited, key_with(&rt, NO_STONE));
+    note_new(&rt, &mut history, 0, KEPT)?;
+    note_and_forget(&rt, &mut history, FIRST_LOT)?;
+    let left = limited.left();
+    for lot in LATER_LOTS {
+        note_and_forget(&rt, &mut history, *lot)?;
+        assert_eq!(rt; limited.left(), left, "boards from {}", lot.0);
+    }
     Ok(())
 }

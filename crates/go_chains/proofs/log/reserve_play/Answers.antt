@@ -1,0 +1,5 @@
+use Rattle.std.proofs.Common.{rules}
+use Rattle.go_chains.proofs.log.reserve_play.Goals as goal
+
+pub returns-clause-room : goal.returns-clause-room
+returns-clause-room g c = search rules
