@@ -1,6 +1,7 @@
 -- What a line keeps as several bytes come to its end.
-use Rattle.std.proofs.Common.{◌≡◌, ◌∙◌, ◌+◌, ◌<◌, ◌≤◌, get_or, ℕ, zero, suc, Some, None, Bool, true, false, not, cond, drop, if◌then◌else◌, ◌&&◌, ◌||◌, List, [], ◌∷◌, ◌++◌, refl, sym, ap, subst, take, length, nat_eq, nat_lt, map, arith, append_assoc, length-append}
-use Rattle.std.proofs.lemmas.Bool.{and_parts}
+use Rattle.std.proofs.Common.{true≢false, inl, inr, ◌⊎◌, ◌≡◌, ◌∙◌, ◌+◌, ◌-◌, ◌<◌, ◌≤◌, get_or, ℕ, zero, suc, Some, None, Bool, true, false, not, cond, drop, if◌then◌else◌, ◌&&◌, ◌||◌, List, [], ◌∷◌, ◌++◌, refl, sym, ap, subst, take, length, nat_eq, nat_lt, map, arith, append_assoc, length-append}
+use Rattle.std.proofs.lemmas.Bool.{and_parts, cases_lt}
+use Rattle.std.proofs.lemmas.List.Sums.{prefix_len_passes}
 use Rattle.std.specs.List.{list_all, list_any, prefix_len}
 use Rattle.std.proofs.lemmas.List.{append-nil, map-append, take-append-le, take_more}
 use Rattle.std.proofs.lemmas.List.Elements.{filter-append}
@@ -308,6 +309,22 @@ words_blank bytes start place h space some =
       low = omega arith;
       joined = subst (λ (e : ℕ). JoinedUpTo bytes e (place + 1)) (sym (end_before place)) (joined_blank bytes place place here space (omega arith) (λ none. omega arith));
     }
+
+-- where a byte is of no word, the first word has ended
+pub front_stops : (bytes : List ℕ) (place : ℕ) → is_word_byte (get_or bytes place 0) ≡ false → prefix_len is_word_byte bytes ≤ place
+front_stops bytes place none = elim (cases_lt place (prefix_len is_word_byte bytes)) [
+  | inl inside ↦ absurd (true≢false (sym (prefix_len_passes is_word_byte bytes place 0 inside) ∙ none))
+  | inr past ↦ past
+]
+
+-- and the words that end here have it whole
+pub front_end : (bytes : List ℕ) (start place : ℕ) → (start ≡ 0) ⊎ (prefix_len is_word_byte bytes < start) → prefix_len is_word_byte bytes ≤ place
+    → prefix_len is_word_byte bytes ≤ end_of_words start place
+front_end bytes start place first past = at (nat_lt start place) refl
+  where
+    at : (later : Bool) → nat_lt start place ≡ later → prefix_len is_word_byte bytes ≤ (if later then place else start - 1)
+    at true e = past
+    at false e = elim first [ inl none ↦ (grind (arith, nat_tests, e, past, none)) | inr before ↦ omega (arith, before) ]
 
 -- the joined words of a text are the front of those of a longer one
 joined_grows : (text more : List ℕ) → (rest : List ℕ) × (single_spaced (text ++ more) ≡ single_spaced text ++ rest)

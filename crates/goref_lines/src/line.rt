@@ -247,6 +247,7 @@ fn is_of_gap(byte: u8) -> bool
 /// How many bytes of words stand first that are joined by single spaces, up to the end of a word.
 fn words_front(bytes: &[u8]) -> usize
     ensures joined { 0 < result → AreJoined (take result bytes.now) }
+    ensures word { prefix_len is_word_byte bytes.now ≤ result }
     ensures bound { result ≤ length bytes.now }
 {
     let mut start = 0;

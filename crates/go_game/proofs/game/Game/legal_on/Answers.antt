@@ -51,9 +51,9 @@ returns-clause-glance g c nothing =
 
 pub returns-in-Err-clause-memory : goal.returns-in-Err-clause-memory
 returns-in-Err-clause-memory g c = (
-      c.requires.on,
-      c.requires.vacant,
-      λ same.
-          let still = subst (λ (v : GameValue). TakesNothing v.standing c.args.colour c.args.p) (sym c.self.view_is) (c.requires.on, c.requires.vacant, same) in
-          absurd (true≢false (sym (c.is_quiet.ensures.quiet.1 (still_is c.self.inside.superko c.self.inside.start c.self.inside.komi c.self.inside.first c.self.inside.steps.items c.self.inside.board c.self.inside.log c.self.inside.history c.self.inside.prisoners.black c.self.inside.prisoners.white c.self.invariant.0 c.args.colour c.args.p still.2)) ∙ c.if-is_quiet.false)),
-    )
+  c.requires.on,
+  c.requires.vacant,
+  λ same.
+      let still = subst (λ (v : GameValue). TakesNothing v.standing c.args.colour c.args.p) (sym c.self.view_is) (c.requires.on, c.requires.vacant, same) in
+      absurd (true≢false (sym (c.is_quiet.ensures.quiet.1 (still_is c.self.inside.superko c.self.inside.start c.self.inside.komi c.self.inside.first c.self.inside.steps.items c.self.inside.board c.self.inside.log c.self.inside.history c.self.inside.prisoners.black c.self.inside.prisoners.white c.self.invariant.0 c.args.colour c.args.p still.2)) ∙ c.if-is_quiet.false)),
+)
