@@ -91,6 +91,23 @@ fn legal_plays_after_a_capture(rt: HostRuntime) {
     example(&rt, game, &[CAPTURE, AFTER_A_CAPTURE]);
 }
 
+/// Black's A1 would make anew what stood before the suicide, and take nothing.
+const AFTER_A_SUICIDE: &[Step] = &[
+    Step::Plays(Colour::Black, b"A1"),
+    Step::Plays(Colour::White, b"A2"),
+    Step::Plays(Colour::White, b"B2"),
+    Step::Plays(Colour::White, b"C1"),
+    Step::Takes(Colour::Black, b"B1", Taken { theirs: 0, own: 2 }),
+    Step::Forbids(Colour::Black, b"A1"),
+    Step::Chooses(Colour::Black, b"B3"),
+];
+
+#[test]
+fn choice_beside_a_quiet_repetition(rt: HostRuntime) {
+    let game = Game::new(rt.alloc(), size_of(&rt, 3));
+    example(&rt, game, &[AFTER_A_SUICIDE]);
+}
+
 /// Asks for the choice, which is this move; and again where there was no memory. How many times
 /// there was none. The game answers as its twin does, before and after.
 fn asks_choice<A: Allocator + Copy>(
