@@ -1,13 +1,17 @@
 -- What a task comes to on its devices.
-use Rattle.std.specs.Prelude.{ℕ, List, Option}
+use Rattle.std.specs.Prelude.{◌≡◌, ◌+◌, ℕ, IfSome, List, Option, Result, Err}
 use Rattle.goref.specs.Conversation.{Converses}
-use Rattle.goref.specs.Judging.{Judges}
+use Rattle.goref.specs.Judging.{BeginsToJudge, Judges}
 use Rattle.goref.specs.Lines.{lines}
+use Rattle.goref.specs.Runs.{AnswersComplete, AnswersFront}
 use Rattle.goref.specs.Shelves.{Pair}
 use Rattle.goref.specs.Starts.{begun}
 use Rattle.goref.specs.Task.{Task}
 use Rattle.goref.specs.Task.TheVariants.{Gtp, Judge, Tidy}
-use Rattle.goref.specs.Tidying.{Tidies}
+use Rattle.goref.specs.Tidying.{BeginsToTidy, Tidies}
+use Rattle.goref.specs.ToolError.TheVariants as tool_error
+use Rattle.goref.specs.Tools.{Refuses, RefusesGame}
+use Rattle.goref.specs.declared.error.RunError.TheVariants as run_error
 use Rattle.goref_program.specs.declared.ends.Fault.{Fault}
 use Rattle.goref_program.specs.declared.ends.Fault.TheVariants.{Run, Tool}
 
@@ -23,3 +27,32 @@ IsFaultOf (Gtp size) (Run why) = Unit {0}
 IsFaultOf (Gtp size) (Tool why) = ⊥
 IsFaultOf _ (Run why) = ⊥
 IsFaultOf _ (Tool why) = Unit {0}
+
+-- what was done then: a session answered what it read, or a front of that was written; a tool wrote nothing, or a front of
+-- its text
+abbrev pub Breaks : Task → Fault → Option (List ℕ) → Option (List ℕ) → Option (List Pair) → Option (List Pair) → Option (List ℕ) → Option (List ℕ) → Type 0
+Breaks (Gtp size) (Run run_error.Write) left left' given given' taken taken' = AnswersFront (begun size) left left' given given' taken taken'
+Breaks (Gtp size) (Run _) left left' given given' taken taken' = AnswersComplete (begun size) left left' given given' taken taken'
+Breaks Judge (Tool tool_error.Write) left left' given given' taken taken' = IfSome left (λ input. BeginsToJudge input taken taken')
+Breaks Tidy (Tool tool_error.Write) left left' given given' taken taken' = IfSome left (λ input. BeginsToTidy input taken taken')
+Breaks Judge (Tool _) left left' given given' taken taken' = taken' ≡ taken
+Breaks Tidy (Tool _) left left' given given' taken taken' = taken' ≡ taken
+Breaks task fault left left' given given' taken taken' = ⊥
+
+-- a fault that tells of the input is its refusal
+abbrev pub IsRefused : Option (List ℕ) → Fault → Type 0
+IsRefused left (Tool (tool_error.Sgf why)) = Refuses left why
+IsRefused left (Tool (tool_error.Record why)) = RefusesGame left why
+IsRefused left _ = Unit {0}
+
+-- the count of failed reads after a task: one more where it ended by one
+abbrev pub read_failures_after : {T : Type 0} → Result T Fault → ℕ → ℕ
+read_failures_after (Err (Run run_error.Read)) old = old + 1
+read_failures_after (Err (Tool tool_error.Read)) old = old + 1
+read_failures_after _ old = old
+
+-- the count of failed writes and flushes after a task: one more where it ended by one
+abbrev pub write_failures_after : {T : Type 0} → Result T Fault → ℕ → ℕ
+write_failures_after (Err (Run run_error.Write)) old = old + 1
+write_failures_after (Err (Tool tool_error.Write)) old = old + 1
+write_failures_after _ old = old

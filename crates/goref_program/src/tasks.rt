@@ -1,6 +1,6 @@
 //! What each task does on its streams.
 ghost use Rattle.std.specs.Prelude.{◌≡◌, IfErr, IfSome, OnOk};
-ghost use Rattle.goref_program.specs.Tasks.{Does, IsFaultOf};
+ghost use Rattle.goref_program.specs.Tasks.{Breaks, Does, IsFaultOf, IsRefused, read_failures_after, write_failures_after};
 
 use crate::ends::Fault;
 use go_board::{Sink, Source};
@@ -41,6 +41,13 @@ fn perform<A: Allocator + Copy, R: Source, W: Sink, S: Shelf<A>>(
         (S.given shelf.old) (S.given shelf.new) (W.taken output.old) (W.taken output.new))) }
     ensures held { OnOk result (W.held output.old ≡ 0 → W.held output.new ≡ 0) }
     ensures fault { IfErr result (IsFaultOf task) }
+    ensures refused { IfErr result (IsRefused (R.left input.old)) }
+    ensures breaks { IfErr result (λ fault. Breaks task fault (R.left input.old) (R.left input.new)
+        (S.given shelf.old) (S.given shelf.new) (W.taken output.old) (W.taken output.new)) }
+    ensures read_failures { R.failures input.new ≡ read_failures_after result
+        (R.failures input.old) }
+    ensures write_failures { W.failures output.new ≡ write_failures_after result
+        (W.failures output.old) }
 {
     match task {
         Task::Gtp(size) => run(alloc, size, input, output, shelf)?,
