@@ -1,3 +1,4 @@
+//! Rows of records beside what is wanted of each: one subject, as long as its tables are.
 ghost use Rattle.std.specs.Prelude.{◌≡◌};
 
 use go_board::{Point, Size, Vertex, WriteFault, read_vertex};

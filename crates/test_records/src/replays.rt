@@ -1,3 +1,4 @@
+//! Rows of replays and verdicts beside what is wanted of each: one subject, as long as its tables are.
 use go_board::{Area, Colour, Move, Pen, Point, Size, Vertex, WriteFault, read_vertex};
 use go_game::{Game, PlayError, Superko, hundredths_text, score_text};
 use go_record::{RecordError, Stated, Verdict, judge, put_record, replay, replay_on, write_record};
