@@ -16,7 +16,7 @@ use Rattle.goref_session.specs.declared.decision.Decision.TheVariants.{Done, End
 use Rattle.goref_session.specs.declared.decision.Refusal.{Refusal}
 use Rattle.goref_session.specs.declared.decision.Refusal.TheVariants.{LineTooLong, UnknownCommand, SyntaxError, UnacceptableSize, IllegalMove, CannotUndo, BoardNotEmpty, InvalidNumber, BadVertexList, CannotLoad, GameInProgress, OutOfMemory}
 use Rattle.goref_session.proofs.Decimals.{full_decimal}
-use Rattle.goref_session.proofs.Facts.{fact_goes_on}
+use Rattle.goref_session.proofs.FactTexts.{fact_goes_on}
 use Rattle.goref_session.proofs.Lines.{GoesOn, IsLine, LineState, after, all_append, append_goes_on, broken, by_control, ended, line_goes_on, step, within}
 
 -- ---- where a line end follows another

@@ -3,10 +3,10 @@ pub mod Answering
 pub mod Moves
 pub mod Choices
 pub mod Starting
-pub mod Loading
+pub mod Loads
 pub mod Lines
 pub mod Decimals
-pub mod Facts
+pub mod FactTexts
 pub mod RecordLine
 pub mod Ending
 pub mod Named

@@ -3,6 +3,7 @@ pub mod Contents
 pub mod Commands
 pub mod Decisions
 pub mod Setup
+pub mod Arguments
 pub mod Play
 pub mod Handicap
 pub mod Record

@@ -1,15 +1,14 @@
+//! Answers as they are framed: the sign, the id, what is told or refused, and the two line ends.
 ghost use Rattle.std.specs.Prelude.{◌≡◌, ◌++◌, codes};
 ghost use Rattle.go_board.specs.Device.{Sent, failures_after};
 ghost use Rattle.go_board.specs.Pens.{Writes};
 ghost use Rattle.goref_session.specs.Replies.{decision_text, fact_text, id_text, refusal_text};
 ghost use Rattle.goref_results.specs.Results.{result_text};
 
-use crate::commands::play::put_choice;
-use crate::commands::telling::{put_topic, put_truth};
 use crate::decision::{Decision, Fact, Refusal};
+use crate::facts::put_fact;
 use go_board::{Pen, Sink, WriteFault};
 use go_game::Game;
-use goref_results::{put_places, put_plays};
 use itoa::Buffer;
 use std::alloc::Allocator;
 
@@ -30,6 +29,7 @@ pub fn write_answer<A: Allocator + Copy, W: Sink>(
     pen.finish()
 }
 
+/// Writes the answer by what was decided.
 fn put_answer<A: Allocator + Copy, W: Sink>(
     game: &Game<A>,
     id: Option<u32>,
@@ -46,6 +46,7 @@ fn put_answer<A: Allocator + Copy, W: Sink>(
     }
 }
 
+/// Writes an answer that tells nothing.
 fn put_empty<W: Sink>(id: Option<u32>, pen: &mut Pen<'_, W>)
     ensures { Writes W.Sink pen.old pen.new (codes "=" ++ (id_text id ++ codes "\n\n")) }
 {
@@ -57,6 +58,7 @@ fn put_empty<W: Sink>(id: Option<u32>, pen: &mut Pen<'_, W>)
     put_end(pen);
 }
 
+/// Writes an answer that tells something.
 fn put_told<A: Allocator + Copy, W: Sink>(
     game: &Game<A>,
     id: Option<u32>,
@@ -73,6 +75,7 @@ fn put_told<A: Allocator + Copy, W: Sink>(
     put_end(pen);
 }
 
+/// Writes the answer to a refused command.
 fn put_refused<W: Sink>(id: Option<u32>, why: Refusal, pen: &mut Pen<'_, W>)
     ensures { Writes W.Sink pen.old pen.new (codes "?"
         ++ (id_text id ++ (codes " " ++ (refusal_text why ++ codes "\n\n")))) }
@@ -91,25 +94,13 @@ fn put_end<W: Sink>(pen: &mut Pen<'_, W>)
     pen.put(b"\n\n");
 }
 
+/// Writes the id, if the line had one.
 fn put_id<W: Sink>(id: Option<u32>, pen: &mut Pen<'_, W>)
     ensures { Writes W.Sink pen.old pen.new (id_text id) }
 {
     match id {
         Some(id) => pen.put(Buffer::new().format(id).as_bytes()),
         None => {}
-    }
-}
-
-/// Writes what a fact says, behind a space.
-fn put_fact<A: Allocator + Copy, W: Sink>(game: &Game<A>, fact: &Fact, pen: &mut Pen<'_, W>)
-    ensures { Writes W.Sink pen.old pen.new (result_text (fact_text fact.now game.now.standing)) }
-{
-    match fact {
-        Fact::About(topic) => put_topic(game, *topic, pen),
-        Fact::Known(truth) => put_truth(*truth, pen),
-        Fact::Places(number) => put_places(game, *number, pen),
-        Fact::Choice(vertex) => put_choice(*vertex, pen),
-        Fact::Plays(plays) => put_plays(game.size(), plays, pen),
     }
 }
 

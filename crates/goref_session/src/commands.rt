@@ -1,4 +1,4 @@
-//! The commands by subject: what is decided on each, and the text that it tells.
+//! The commands by subject: what is decided on each.
 pub mod handicap;
 pub mod play;
 pub mod record;

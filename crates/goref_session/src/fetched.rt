@@ -2,7 +2,7 @@ ghost use Rattle.std.specs.Prelude.{◌≡◌, option_copied};
 ghost use Rattle.goref_session.specs.Replies.{wanted};
 ghost use Rattle.goref_session.specs.inner.Wanting.{may_load};
 
-use crate::commands::record::{asks_to_load, load_asked};
+use crate::loading::{asks_to_load, load_asked};
 use goref_lines::{Line, Request};
 use std::alloc::Allocator;
 

@@ -6,9 +6,11 @@ mod arguments;
 mod command;
 mod commands;
 mod decision;
+mod facts;
 mod fetched;
 mod flow;
 pub mod laws;
+mod loading;
 mod session;
 
 pub use fetched::{Fetched, wants};

@@ -145,7 +145,7 @@ fn decide_on<A: Allocator + Copy>(
         Some(Command::Play) => play::decide_play(game, request),
         Some(Command::Genmove) => play::decide_genmove(game, request),
         Some(Command::Undo) => play::decide_undo(game),
-        Some(Command::RegGenmove) => play::decide_choice(game, request),
+        Some(Command::RegGenmove) => play::decide_reg_genmove(game, request),
         Some(Command::Loadsgf) => match record::load_requested(spare, alloc, request, fetched) {
             Ok(()) => {
                 game.clear();
@@ -154,10 +154,10 @@ fn decide_on<A: Allocator + Copy>(
             Err(why) => Decision::Refused(why),
         },
         Some(Command::FixedHandicap) => handicap::decide_fixed(game, alloc, request),
-        Some(Command::PlaceFreeHandicap) => handicap::decide_free(game, alloc, request),
-        Some(Command::SetFreeHandicap) => handicap::decide_stones(game, alloc, request),
-        Some(Command::TimeSettings) => time::decide_settings(request),
-        Some(Command::TimeLeft) => time::decide_left(request),
+        Some(Command::PlaceFreeHandicap) => handicap::decide_place_free(game, alloc, request),
+        Some(Command::SetFreeHandicap) => handicap::decide_set_free(game, alloc, request),
+        Some(Command::TimeSettings) => time::decide_time_settings(request),
+        Some(Command::TimeLeft) => time::decide_time_left(request),
         Some(Command::Legal) => play::decide_legal(game, request),
         Some(Command::Superko) => setup::decide_superko(game, request),
     };

@@ -1,12 +1,11 @@
 //! fixed_handicap, place_free_handicap and set_free_handicap: starts with black stones.
-ghost use Rattle.std.specs.Prelude.{◌≡◌, ◌<◌, ◌*◌, All, IfErr, Ok, OnErr, OnOk, if◌then◌else◌, length, slice_get};
-ghost use Rattle.std.specs.Option.{option_and_then};
+ghost use Rattle.std.specs.Prelude.{◌≡◌, ◌<◌, ◌*◌, All, IfErr, Ok, OnErr, OnOk, if◌then◌else◌, length};
 ghost use Rattle.go_board.specs.Points.{IsOn};
 ghost use Rattle.go_game.specs.Standings.{is_vacant_standing};
+ghost use Rattle.goref_session.specs.Arguments.{int_given};
 ghost use Rattle.goref_session.specs.Decisions.{MayDecide};
 ghost use Rattle.goref_session.specs.Handicap.{decided_fixed, decided_free, decided_handicap, decided_stones, with_stones};
 ghost use Rattle.goref_lines.specs.Stones.{stones_listed};
-ghost use Rattle.go_board.specs.Decimals.{int_of};
 
 use crate::arguments::int_argument;
 use crate::decision::{Decision, Fact, Refusal};
@@ -15,13 +14,14 @@ use go_game::{Game, SetupError, fixed_points, greatest_handicap, stones_on};
 use goref_lines::{ListError, Request, read_stones};
 use std::alloc::Allocator;
 
+/// `fixed_handicap`: begins anew with so many stones on their places, which are told.
 pub fn decide_fixed<A: Allocator + Copy>(
     game: &mut Game<A>,
     alloc: A,
     request: &Request,
 ) -> Decision
     ensures { MayDecide game.old.standing (decided_fixed game.old.standing
-        (option_and_then int_of (slice_get request.now.arguments 0)))
+        (int_given request.now.arguments 0))
         (record { decision = result; standing = game.new.standing }) }
 {
     match int_argument(request, 0) {
@@ -30,9 +30,14 @@ pub fn decide_fixed<A: Allocator + Copy>(
     }
 }
 
-pub fn decide_free<A: Allocator + Copy>(game: &mut Game<A>, alloc: A, request: &Request) -> Decision
+/// `place_free_handicap`: the same, with at most as many stones as have places.
+pub fn decide_place_free<A: Allocator + Copy>(
+    game: &mut Game<A>,
+    alloc: A,
+    request: &Request,
+) -> Decision
     ensures { MayDecide game.old.standing (decided_free game.old.standing
-        (option_and_then int_of (slice_get request.now.arguments 0)))
+        (int_given request.now.arguments 0))
         (record { decision = result; standing = game.new.standing }) }
 {
     let greatest = greatest_handicap(game.size());
@@ -59,7 +64,8 @@ fn decide_handicap<A: Allocator + Copy>(game: &mut Game<A>, alloc: A, number: u3
     }
 }
 
-pub fn decide_stones<A: Allocator + Copy>(
+/// `set_free_handicap`: begins anew with stones on the vertices that are listed.
+pub fn decide_set_free<A: Allocator + Copy>(
     game: &mut Game<A>,
     alloc: A,
     request: &Request,
@@ -75,6 +81,7 @@ pub fn decide_stones<A: Allocator + Copy>(
     }
 }
 
+/// A list that no handicap can have is refused for that where nothing stands.
 fn decide_bad_list<A: Allocator + Copy>(game: &Game<A>) -> Decision
     ensures { result ≡ Decision.Refused (if is_vacant_standing game.now.standing then Refusal.BadVertexList
         else Refusal.BoardNotEmpty) }

@@ -1,26 +1,23 @@
 //! play, genmove, reg_genmove, undo and goref-legal: the moves of a game.
-ghost use Rattle.std.specs.Prelude.{◌≡◌, Some, slice_get};
-ghost use Rattle.std.specs.Option.{option_and_then};
-ghost use Rattle.go_board.specs.Pens.{Writes};
-ghost use Rattle.go_board.specs.Vertices.{vertex_of, vertex_word};
+ghost use Rattle.std.specs.Prelude.{◌≡◌, Some};
+ghost use Rattle.goref_session.specs.Arguments.{colour_given, vertex_given};
 ghost use Rattle.goref_session.specs.Decisions.{MayDecide};
 ghost use Rattle.goref_session.specs.Play.{DecidesPlay, decided_choice, decided_genmove, decided_legal, decided_undo, move_refusal};
-ghost use Rattle.go_board.specs.Colours.{colour_named};
-ghost use Rattle.goref_results.specs.Results.{result_text};
 
 use crate::arguments::{colour_argument, vertex_argument};
 use crate::decision::{Decision, Fact, Refusal};
-use go_board::{Colour, Move, Pen, Sink, Vertex, VertexError, vertex_text};
+use go_board::{Colour, Move, VertexError};
 use go_game::laws::legal_by_the_rules;
 use go_game::{Game, PlayError};
 use goref_lines::Request;
 use goref_results::legal_plays;
 use std::alloc::Allocator;
 
+/// `play`: makes a move of a colour.
 pub fn decide_play<A: Allocator + Copy>(game: &mut Game<A>, request: &Request) -> Decision
     ensures { DecidesPlay game.old.standing
-        (option_and_then colour_named (slice_get request.now.arguments 0))
-        (option_and_then vertex_of (slice_get request.now.arguments 1))
+        (colour_given request.now.arguments 0)
+        (vertex_given request.now.arguments 1)
         (record { decision = result; standing = game.new.standing }) }
 {
     match colour_argument(request, 0) {
@@ -33,6 +30,7 @@ pub fn decide_play<A: Allocator + Copy>(game: &mut Game<A>, request: &Request) -
     }
 }
 
+/// Makes a move, if it is legal.
 fn decide_move<A: Allocator + Copy>(game: &mut Game<A>, made: Move) -> Decision
     ensures { DecidesPlay game.old.standing (Some made.colour) (Some made.vertex)
         (record { decision = result; standing = game.new.standing }) }
@@ -56,9 +54,10 @@ fn refusal_of(error: PlayError) -> Refusal
     }
 }
 
+/// `genmove`: the choice for a colour is played and told.
 pub fn decide_genmove<A: Allocator + Copy>(game: &mut Game<A>, request: &Request) -> Decision
     ensures { MayDecide game.old.standing (decided_genmove game.old.standing
-        (option_and_then colour_named (slice_get request.now.arguments 0)))
+        (colour_given request.now.arguments 0))
         (record { decision = result; standing = game.new.standing }) }
 {
     match colour_argument(request, 0) {
@@ -82,9 +81,9 @@ fn play_choice<A: Allocator + Copy>(game: &mut Game<A>, colour: Colour) -> Decis
 }
 
 /// `reg_genmove`: the choice is told, and isn't played.
-pub fn decide_choice<A: Allocator + Copy>(game: &mut Game<A>, request: &Request) -> Decision
+pub fn decide_reg_genmove<A: Allocator + Copy>(game: &mut Game<A>, request: &Request) -> Decision
     ensures { MayDecide game.old.standing (decided_choice game.old.standing
-        (option_and_then colour_named (slice_get request.now.arguments 0)))
+        (colour_given request.now.arguments 0))
         (record { decision = result; standing = game.new.standing }) }
 {
     match colour_argument(request, 0) {
@@ -96,14 +95,7 @@ pub fn decide_choice<A: Allocator + Copy>(game: &mut Game<A>, request: &Request)
     }
 }
 
-/// Writes the choice, behind a space.
-pub fn put_choice<W: Sink>(vertex: Vertex, pen: &mut Pen<'_, W>)
-    ensures { Writes W.Sink pen.old pen.new (result_text (vertex_word vertex)) }
-{
-    pen.put(b" ");
-    pen.put(vertex_text(vertex).as_bytes());
-}
-
+/// `undo`: takes back the last move.
 pub fn decide_undo<A: Allocator + Copy>(game: &mut Game<A>) -> Decision
     ensures { record { decision = result; standing = game.new.standing }
         ≡ decided_undo game.old.standing game.old.standing.moves }
@@ -114,9 +106,10 @@ pub fn decide_undo<A: Allocator + Copy>(game: &mut Game<A>) -> Decision
     }
 }
 
+/// `goref-legal`: the legal plays of a colour are told.
 pub fn decide_legal<A: Allocator + Copy>(game: &mut Game<A>, request: &Request) -> Decision
     ensures { MayDecide game.old.standing (decided_legal game.old.standing
-        (option_and_then colour_named (slice_get request.now.arguments 0)))
+        (colour_given request.now.arguments 0))
         (record { decision = result; standing = game.new.standing }) }
 {
     match colour_argument(request, 0) {

@@ -1,52 +1,17 @@
-//! loadsgf and goref-printsgf: games that are read of records, and written as one.
-ghost use Rattle.std.specs.Prelude.{◌≡◌, IsErrOf, OnOk, Some, option_map};
-ghost use Rattle.std.specs.Bool.{Decides};
-ghost use Rattle.std.specs.Option.{option_and_then};
-ghost use Rattle.go_board.specs.Pens.{Writes};
+//! loadsgf: a game that is read of a record.
+ghost use Rattle.std.specs.Prelude.{◌≡◌, IsErrOf, OnOk};
 ghost use Rattle.go_game.specs.Standings.{Standing};
-ghost use Rattle.go_record.specs.Records.{record_body};
-ghost use Rattle.goref_session.specs.Commands.{command_of};
 ghost use Rattle.goref_session.specs.Contents.{content_of};
 ghost use Rattle.goref_session.specs.Record.{DecidesBytes, DecidesContent, DecidesLoad, Loads, LoadsNone, after_load, load_error_of, load_of, of_sgf};
-ghost use Rattle.goref_session.specs.declared.command.Command.{Command};
-ghost use Rattle.goref_results.specs.Results.{result_text};
 
-use crate::arguments::number_argument;
 use crate::decision::Refusal;
 use crate::fetched::Fetched;
-use go_board::{Pen, Sink};
+use crate::loading::load_asked;
 use go_game::Game;
-use go_record::{RecordError, put_record, replay_on};
+use go_record::{RecordError, replay_on};
 use go_sgf::{SgfError, read};
 use goref_lines::Request;
 use std::alloc::Allocator;
-
-/// A file that is to be loaded, up to the move of a number where one is given.
-#[derive(Clone, Copy)]
-pub struct Load<'a> {
-    pub name: &'a [u8],
-    pub number: Option<u32>,
-}
-
-/// Whether a request names `loadsgf`. Its name is compared with that of no other command.
-pub fn asks_to_load(request: &Request) -> bool
-    ensures { Decides result (option_and_then command_of request.now.name ≡ Some Command.Loadsgf) }
-{
-    match request.name() {
-        Some(name) => name == b"loadsgf".as_slice(),
-        None => false,
-    }
-}
-
-/// What the arguments of `loadsgf` ask for.
-pub fn load_asked<'a>(request: &Request<'a>) -> Option<Load<'a>>
-    ensures { option_map (λ load. record { name = load.name.now; number = load.number }) result
-        ≡ load_of request.now.arguments }
-{
-    let name = request.argument(0)?;
-    let number = number_argument(request, 1)?;
-    Some(Load { name, number })
-}
 
 /// Loads what a request asks for on a game, or tells why not.
 pub fn load_requested<A: Allocator + Copy>(
@@ -64,6 +29,7 @@ pub fn load_requested<A: Allocator + Copy>(
     }
 }
 
+/// Loads what was fetched, or tells why there is nothing to load.
 fn load_fetched<A: Allocator + Copy>(
     game: &mut Game<A>,
     alloc: A,
@@ -82,6 +48,7 @@ fn load_fetched<A: Allocator + Copy>(
     }
 }
 
+/// Loads a record from its bytes, or tells why not.
 fn load_bytes<A: Allocator + Copy>(
     game: &mut Game<A>,
     alloc: A,
@@ -143,12 +110,4 @@ impl From<RecordError> for LoadError {
             _ => LoadError::Cannot,
         }
     }
-}
-
-/// Writes the record of a game on one line, behind a space.
-pub fn put_game<A: Allocator + Copy, W: Sink>(game: &Game<A>, pen: &mut Pen<'_, W>)
-    ensures { Writes W.Sink pen.old pen.new (result_text (record_body game.now.standing)) }
-{
-    pen.put(b" ");
-    put_record(game, pen);
 }

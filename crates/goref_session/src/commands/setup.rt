@@ -1,11 +1,9 @@
 //! boardsize, clear_board, komi and goref-superko: what is set before a game.
-ghost use Rattle.std.specs.Prelude.{◌≡◌, slice_get};
-ghost use Rattle.std.specs.Option.{option_and_then};
-ghost use Rattle.go_sgf.specs.Numbers.{hundredths_by};
+ghost use Rattle.std.specs.Prelude.{◌≡◌};
+ghost use Rattle.goref_session.specs.Arguments.{int_given, komi_given, rule_given};
 ghost use Rattle.goref_session.specs.Decisions.{comes_to};
-ghost use Rattle.goref_session.specs.Setup.{decided_komi, decided_size, decided_superko, rule_of};
+ghost use Rattle.goref_session.specs.Setup.{decided_komi, decided_size, decided_superko};
 ghost use Rattle.goref_session.specs.Starts.{emptied};
-ghost use Rattle.go_board.specs.Decimals.{int_of};
 
 use crate::arguments::{int_argument, komi_argument, rule_argument};
 use crate::decision::{Decision, Refusal};
@@ -14,10 +12,11 @@ use go_game::Game;
 use goref_lines::Request;
 use std::alloc::Allocator;
 
+/// `boardsize`: begins anew on an empty board of this many lines.
 pub fn decide_size<A: Allocator + Copy>(game: &mut Game<A>, request: &Request) -> Decision
     ensures { record { decision = result; standing = game.new.standing }
         ≡ decided_size game.old.standing
-        (option_and_then int_of (slice_get request.now.arguments 0)) }
+        (int_given request.now.arguments 0) }
 {
     match int_argument(request, 0) {
         None => Decision::Refused(Refusal::SyntaxError),
@@ -31,6 +30,7 @@ pub fn decide_size<A: Allocator + Copy>(game: &mut Game<A>, request: &Request) -
     }
 }
 
+/// `clear_board`: begins anew on an empty board.
 pub fn decide_clear<A: Allocator + Copy>(game: &mut Game<A>) -> Decision
     ensures { record { decision = result; standing = game.new.standing }
         ≡ comes_to (emptied game.old.standing game.old.standing.lines) }
@@ -39,10 +39,11 @@ pub fn decide_clear<A: Allocator + Copy>(game: &mut Game<A>) -> Decision
     Decision::Done
 }
 
+/// `komi`: sets the komi.
 pub fn decide_komi<A: Allocator + Copy>(game: &mut Game<A>, request: &Request) -> Decision
     ensures { record { decision = result; standing = game.new.standing }
         ≡ decided_komi game.old.standing
-        (option_and_then hundredths_by (slice_get request.now.arguments 0)) }
+        (komi_given request.now.arguments 0) }
 {
     match komi_argument(request, 0) {
         None => Decision::Refused(Refusal::SyntaxError),
@@ -53,10 +54,11 @@ pub fn decide_komi<A: Allocator + Copy>(game: &mut Game<A>, request: &Request) -
     }
 }
 
+/// `goref-superko`: sets the superko rule, where no move stands.
 pub fn decide_superko<A: Allocator + Copy>(game: &mut Game<A>, request: &Request) -> Decision
     ensures { record { decision = result; standing = game.new.standing }
         ≡ decided_superko game.old.standing game.old.standing.moves
-        (option_and_then rule_of (slice_get request.now.arguments 0)) }
+        (rule_given request.now.arguments 0) }
 {
     match rule_argument(request, 0) {
         None => Decision::Refused(Refusal::SyntaxError),

@@ -1,20 +1,19 @@
 //! time_settings and time_left: the times are read, and nothing is done with them.
-ghost use Rattle.std.specs.Prelude.{◌≡◌, slice_get};
-ghost use Rattle.std.specs.Option.{option_and_then};
+ghost use Rattle.std.specs.Prelude.{◌≡◌};
 ghost use Rattle.go_game.specs.Standings.{Standing};
+ghost use Rattle.goref_session.specs.Arguments.{colour_given, int_given};
 ghost use Rattle.goref_session.specs.Time.{decided_left, decided_settings};
-ghost use Rattle.go_board.specs.Decimals.{int_of};
-ghost use Rattle.go_board.specs.Colours.{colour_named};
 
 use crate::arguments::{colour_argument, int_argument};
 use crate::decision::{Decision, Refusal};
 use goref_lines::Request;
 
-pub fn decide_settings(request: &Request) -> Decision
+/// `time_settings`: main time, byo-yomi time and its stones.
+pub fn decide_time_settings(request: &Request) -> Decision
     ensures { (s : Standing) → record { decision = result; standing = s } ≡ decided_settings s
-        (option_and_then int_of (slice_get request.now.arguments 0))
-        (option_and_then int_of (slice_get request.now.arguments 1))
-        (option_and_then int_of (slice_get request.now.arguments 2)) }
+        (int_given request.now.arguments 0)
+        (int_given request.now.arguments 1)
+        (int_given request.now.arguments 2) }
 {
     match (
         int_argument(request, 0),
@@ -26,11 +25,12 @@ pub fn decide_settings(request: &Request) -> Decision
     }
 }
 
-pub fn decide_left(request: &Request) -> Decision
+/// `time_left`: a colour, its time and its stones.
+pub fn decide_time_left(request: &Request) -> Decision
     ensures { (s : Standing) → record { decision = result; standing = s } ≡ decided_left s
-        (option_and_then colour_named (slice_get request.now.arguments 0))
-        (option_and_then int_of (slice_get request.now.arguments 1))
-        (option_and_then int_of (slice_get request.now.arguments 2)) }
+        (colour_given request.now.arguments 0)
+        (int_given request.now.arguments 1)
+        (int_given request.now.arguments 2) }
 {
     match (
         colour_argument(request, 0),

@@ -1,4 +1,4 @@
-use Rattle.goref_session.proofs.Loading.{one_load}
+use Rattle.goref_session.proofs.Loads.{one_load}
 use Rattle.goref_session.proofs.laws.one_load.Goals as goal
 
 pub returns : goal.returns

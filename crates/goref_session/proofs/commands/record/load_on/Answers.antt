@@ -1,6 +1,6 @@
 use Rattle.std.proofs.Common.{inr}
 use Rattle.std.proofs.lemmas.Result.{err_from_is_err_and}
-use Rattle.goref_session.proofs.Loading.{other_refusal}
+use Rattle.goref_session.proofs.Loads.{other_refusal}
 use Rattle.goref_session.proofs.commands.record.load_on.Goals as goal
 
 pub returns-in_err-replay_on-clause-cannot : goal.returns-in_err-replay_on-clause-cannot

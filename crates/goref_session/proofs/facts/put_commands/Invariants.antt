@@ -4,7 +4,7 @@ use Rattle.go_board.specs.Pens.{Writes}
 use Rattle.goref_session.specs.Commands.{command_names}
 use Rattle.goref_session.proofs.Named.{listed, named}
 use Rattle.goref_results.specs.Results.{result_text}
-use Rattle.goref_session.proofs.commands.telling.put_commands.Given as goal
+use Rattle.goref_session.proofs.facts.put_commands.Given as goal
 
 abbrev pub invariant-loop-name : goal.invariant-loop-name
 invariant-loop-name g l =

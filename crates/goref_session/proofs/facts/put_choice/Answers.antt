@@ -4,7 +4,7 @@ use Rattle.go_board.specs.declared.vertex.Vertex.TheVariants.{Pass, At}
 use Rattle.go_board.specs.Vertices.{vertex_word}
 use Rattle.go_board.specs.lemmas.Writing.{writes_then}
 use Rattle.goref_results.specs.Results.{result_text}
-use Rattle.goref_session.proofs.commands.play.put_choice.Goals as goal
+use Rattle.goref_session.proofs.facts.put_choice.Goals as goal
 
 behind_space : (v : Vertex) → 32 ∷ vertex_word v ≡ result_text (vertex_word v)
 behind_space Pass = refl

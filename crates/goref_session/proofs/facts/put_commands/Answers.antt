@@ -1,7 +1,7 @@
 use Rattle.std.proofs.Common.{◌∙◌, ◌∷◌, ◌++◌, [], ap, append_assoc, refl, sym}
 use Rattle.go_board.specs.lemmas.Writing.{writes_writes, writes_nothing}
 use Rattle.goref_session.proofs.Named.{listed_more}
-use Rattle.goref_session.proofs.commands.telling.put_commands.Goals as goal
+use Rattle.goref_session.proofs.facts.put_commands.Goals as goal
 
 pub loop-name-init : goal.loop-name-init
 loop-name-init g c = ([], writes_nothing g.W.Sink c.args.pen.now, refl)
