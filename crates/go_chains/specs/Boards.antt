@@ -7,8 +7,7 @@ use Rattle.go_board.specs.Grids.{GridValue}
 use Rattle.go_board.specs.Packs.{colour_coded}
 use Rattle.go_board.specs.Points.{number_of}
 use Rattle.go_board.specs.Reaching.{points}
-use Rattle.go_board.specs.Rows.{AreStonesIn}
-use Rattle.go_chains.specs.Cells.{CellsValue, code_at}
+use Rattle.go_chains.specs.Cells.{code_at}
 use Rattle.go_chains.specs.declared.change.Change.{Change}
 
 -- what contracts see of a board: its lines, its cells, and all writes to them
@@ -20,10 +19,6 @@ pub record BoardValue : Type 0 where
 -- the colouring that the numbers of colour cells say on a board of n lines
 unfoldable pub colouring_of : ℕ → List ℕ → Colouring
 colouring_of n cells = map (λ p. colour_coded (code_at cells p)) (points n)
-
--- the colouring that the cells of a board of n lines say
-abbrev pub colours_in : ℕ → CellsValue → Colouring
-colours_in n cells = colouring_of n cells.numbers
 
 -- the colouring of a board
 abbrev pub grid_of : BoardValue → Colouring
@@ -40,7 +35,3 @@ IsStoneOf g p = (c : Colour) × (colour_at g p ≡ Some c)
 -- a stone stands on the point p of a board
 abbrev pub HoldsStone : BoardValue → Point → Type 0
 HoldsStone b p = IsStoneOf (grid_of b) (number_of b.lines p)
-
--- the bits of the word are the stones of c in a row of a board
-abbrev pub IsRowOfStones : BoardValue → Colour → ℕ → ℕ → Type 0
-IsRowOfStones b c row word = AreStonesIn b.lines (grid_of b) c row word

@@ -1,5 +1,5 @@
 -- How the cells are arranged, and what they say.
-use Rattle.std.specs.Prelude.{ℕ, List, ◌≡◌, ◌≢◌, ◌+◌, ◌-◌, ◌*◌, ◌/◌, ◌%◌, slice_index}
+use Rattle.std.specs.Prelude.{ℕ, List, ◌+◌, ◌*◌, ◌/◌, ◌%◌, slice_index}
 use Rattle.std.specs.Int.{bit_at}
 use Rattle.go_chains.specs.declared.cells.TheConstants.{LABELS, LINKS, SIZES, LIBERTIES}
 use Rattle.go_board.specs.declared.point_set.TheConstants.{WORDS}
@@ -23,21 +23,8 @@ next_of cells p = slice_index cells (LINKS + p)
 abbrev pub size_of : List ℕ → ℕ → ℕ
 size_of cells l = slice_index cells (SIZES + l)
 
--- how many stones the chain of a stone has
-abbrev pub chain_size : List ℕ → ℕ → ℕ
-chain_size cells p = size_of cells (label_of cells p)
-
--- how many stones the chain of a stone has gained
-abbrev pub growth : CellsValue → CellsValue → ℕ → ℕ
-growth old new p = chain_size new.numbers p - chain_size old.numbers p
-
 abbrev pub word_of : List ℕ → ℕ → ℕ → ℕ
 word_of cells l w = slice_index cells (LIBERTIES + WORDS * l + w)
 
 abbrev pub lib_of : List ℕ → ℕ → ℕ → ℕ
 lib_of cells l q = bit_at (word_of cells l (q / 64)) (q % 64)
-
--- one cell is written
-pub record IsWritten (old new : List ℕ) (place value : ℕ) : Type 0 where
-  pub at : slice_index new place ≡ value
-  pub others : (k : ℕ) → k ≢ place → slice_index new k ≡ slice_index old k

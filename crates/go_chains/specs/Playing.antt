@@ -1,5 +1,5 @@
 -- How many stones a play has to do with, how many changes it may make, and how much is read around it.
-use Rattle.std.specs.Prelude.{ℕ, Bool, ◌&&◌, ◌+◌, ◌*◌, Some, count_by, slice_set}
+use Rattle.std.specs.Prelude.{ℕ, Bool, List, Result, [], ◌≡◌, ◌≤◌, ◌&&◌, ◌+◌, ◌*◌, ◌++◌, ◌∷◌, OnErr, OnOk, Some, count_by, length, slice_set}
 use Rattle.go_board.specs.declared.colour.Colour.{Colour}
 use Rattle.go_board.specs.declared.point.Point.{Point}
 use Rattle.go_board.specs.Colours.{Colouring, other}
@@ -7,6 +7,9 @@ use Rattle.go_board.specs.Points.{number_of}
 use Rattle.go_board.specs.Reaching.{has_colour, joined, moved, points, some_neighbour, vanished}
 use Rattle.go_board.specs.declared.point_set.TheConstants.{WORDS}
 use Rattle.go_chains.specs.Boards.{BoardValue, grid_of}
+use Rattle.go_chains.specs.Rewound.{PlayLogged}
+use Rattle.go_chains.specs.declared.change.Change.{Change}
+use Rattle.go_chains.specs.declared.error.PlaceError.{PlaceError}
 
 -- q is a stone of c in a chain with a stone beside p
 abbrev pub is_beside_own : ℕ → Colouring → Colour → ℕ → ℕ → Bool
@@ -43,3 +46,14 @@ lost n old new c p colour = vanished n (slice_set old p (Some c)) new colour
 -- the same of a board where c was played at p
 abbrev pub went : BoardValue → BoardValue → Colour → Point → Colour → ℕ
 went old new c p colour = lost old.lines (grid_of old) (grid_of new) c (number_of old.lines p) colour
+
+-- what a play does to board, log and meter, of at most so many changes: refused it leaves board and log as they were, and
+-- made it is logged; each of its changes is counted, and so is each cell read, with reads to spare for a look around
+pub record PlayCosts {A : Type 0} (result : Result A PlaceError) (old new : BoardValue)
+    (plays plays' : List (List Change)) (before after most : ℕ) : Type 0 where
+  pub same : OnErr result (new ≡ old)
+  pub log : OnErr result (plays' ≡ plays)
+  pub logged : OnOk result (PlayLogged old new plays plays' most)
+  pub count : after + reads_around ≤ before + 3 * most
+  pub ticked : (changes : List Change) → plays' ≡ plays ++ changes ∷ [] → before + length changes ≤ after
+  pub onward : before ≤ after

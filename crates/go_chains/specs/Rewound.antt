@@ -1,8 +1,7 @@
 -- Changes of cells, put back from the last to the first, and lists of plays made of them.
-use Rattle.std.specs.Prelude.{ℕ, List, [], ◌∷◌, ◌++◌, ◌≡◌, ◌≤◌, ◌<◌, ◌+◌, ◌-◌, length, slice_index, slice_set, take, drop, All}
+use Rattle.std.specs.Prelude.{ℕ, List, [], ◌∷◌, ◌++◌, ◌≡◌, ◌≤◌, ◌<◌, ◌+◌, length, slice_index, slice_set, take, drop, All}
 use Rattle.go_chains.specs.declared.cells.TheConstants.{COUNT}
 use Rattle.go_chains.specs.declared.change.Change.{Change}
-use Rattle.go_chains.specs.Cells.{CellsValue}
 use Rattle.go_chains.specs.Boards.{BoardValue}
 
 -- the old values put back, from the last change to the first
@@ -20,26 +19,10 @@ undone cells (change ∷ changes) = undone cells changes
 abbrev pub NamesCells : ℕ → List Change → Type 0
 NamesCells count changes = All (λ change. change.place < count) changes
 
--- the log gained changes, at most so many, that put back give the cells before, and those are all
--- writes to the cells
-pub record Logged (old new : CellsValue) (before after : List Change) (most : ℕ) : Type 0 where
-  pub added : List Change
-  pub grown : after ≡ before ++ added
-  pub traced : new.trace ≡ old.trace ++ added
-  pub back : rewound new.numbers added ≡ old.numbers
-  pub few : length added ≤ most
-  pub names : NamesCells COUNT added
-
 -- what holds of the last play of a log, and of the plays before it
 abbrev pub ForLast : List (List Change) → (List (List Change) → List Change → Type 0) → Type 0
-ForLast log Holds = (earlier : List (List Change)) (changes : List Change) → log ≡ earlier ++ changes ∷ [] → Holds earlier changes
-
--- the last so many changes, and those before them
-abbrev pub end_of : ℕ → List Change → List Change
-end_of count changes = drop (length changes - count) changes
-
-abbrev pub before_end : ℕ → List Change → List Change
-before_end count changes = take (length changes - count) changes
+ForLast log Holds = (earlier : List (List Change)) (changes : List Change)
+    → log ≡ earlier ++ changes ∷ [] → Holds earlier changes
 
 -- the changes of each play: as many of the changes as its length says
 abbrev pub plays_of : List ℕ → List Change → List (List Change)
@@ -71,16 +54,9 @@ pub record PlayLogged (old new : BoardValue) (before after : List (List Change))
   pub few : length changes ≤ most
   pub names : NamesCells COUNT changes
 
--- the last play of a log is put back: the cells stand as before it, nothing else was written to them, the log has
--- lost it alone, and the meter counted its changes
-pub record IsPutBack (old new : CellsValue) (log earlier : List (List Change)) (changes : List Change) (before after : ℕ) : Type 0 where
-  pub cells : new.numbers ≡ rewound old.numbers changes
-  pub traced : new.trace ≡ old.trace ++ undone old.numbers changes
-  pub dropped : log ≡ earlier
-  pub count : after ≡ before + length changes
-
 -- the same of a board, whose lines stay
-pub record IsRewound (old new : BoardValue) (log earlier : List (List Change)) (changes : List Change) (before after : ℕ) : Type 0 where
+pub record IsRewound (old new : BoardValue) (log earlier : List (List Change)) (changes : List Change)
+    (before after : ℕ) : Type 0 where
   pub lines : new.lines ≡ old.lines
   pub cells : new.cells ≡ rewound old.cells changes
   pub traced : new.trace ≡ old.trace ++ undone old.cells changes

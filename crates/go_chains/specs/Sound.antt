@@ -22,10 +22,12 @@ pub record AreSound (n : ℕ) (g : Colouring) (cells : List ℕ) : Type 0 where
   pub coded : (p : ℕ) → p < n * n → code_at cells p < 3
   pub alive : (p : ℕ) → IsStoneOf g p → Reaches n g p None
   pub labels : (p q : ℕ) → IsStoneOf g p → IsStoneOf g q → (label_of cells p ≡ label_of cells q) ↔ Joined n g p q
-  pub rings : (p : ℕ) → IsStoneOf g p → ListsChain n g p (ring_from (next_of cells) (size_of cells (label_of cells p)) p)
+  pub rings : (p : ℕ) → IsStoneOf g p
+      → ListsChain n g p (ring_from (next_of cells) (size_of cells (label_of cells p)) p)
   pub closed : (p : ℕ) → IsStoneOf g p → ring_from (next_of cells) (size_of cells (label_of cells p) + 1) p
       ≡ ring_from (next_of cells) (size_of cells (label_of cells p)) p ++ p ∷ []
-  pub liberties : (p q : ℕ) → IsStoneOf g p → q < n * n → (lib_of cells (label_of cells p) q ≡ 1) ↔ IsChainLiberty n g p q
+  pub liberties : (p q : ℕ) → IsStoneOf g p → q < n * n
+      → (lib_of cells (label_of cells p) q ≡ 1) ↔ IsChainLiberty n g p q
 
 -- the cells are sound for the colouring that they say, and each chain's label is one of its stones
 pub record IsKept (n : ℕ) (cells : List ℕ) : Type 0 where

@@ -9,3 +9,6 @@ pub mod Traces
 pub mod Marked
 pub mod Codes
 pub mod Quiet
+pub mod Undoing
+pub mod Rings
+pub mod StoneRows

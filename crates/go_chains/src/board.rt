@@ -9,7 +9,8 @@ ghost use Rattle.go_board.specs.declared.size.TheConstants.{MAX_POINTS};
 ghost use Rattle.go_chains.specs.declared.cells.TheConstants.{COUNT};
 ghost use Rattle.go_chains.specs.Cells.{code_at};
 ghost use Rattle.go_chains.specs.Sound.{IsKept};
-ghost use Rattle.go_chains.specs.Boards.{IsRowOfStones, grid_of, shown};
+ghost use Rattle.go_chains.specs.Boards.{grid_of, shown};
+ghost use Rattle.go_chains.specs.inner.StoneRows.{IsRowOfStones};
 ghost use Rattle.go_board.specs.Grids.{stone_at};
 
 mod chains;

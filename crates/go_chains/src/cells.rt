@@ -31,8 +31,8 @@ pub const COUNT: usize = LIBERTIES + WORDS * MAX_POINTS;
 
 /// The cells of a board: the colour, the label and the ring link of each point, and the size and
 /// the words of liberties of each label. Nothing else reads or writes them, each write is in their
-/// trace, and each read and each write is counted, with a meter of the cells' kind. Beside them is the pack of the colours, as if the
-/// board had the most lines.
+/// trace, and each read and each write is counted, with a meter of the cells' kind. Beside them is
+/// the pack of the colours, as if the board had the most lines.
 #[derive(Drop)]
 pub struct Cells<K = Open> {
     numbers: Numbers<K>,
@@ -82,7 +82,7 @@ impl Cells<Open> {
 }
 
 impl<K> Cells<K> {
-    ghost use Rattle.go_chains.specs.Cells.{IsWritten};
+    ghost use Rattle.go_chains.specs.inner.Writes.{IsWritten};
 
     /// The number in a cell.
     pub fn get(&self, place: usize, meter: &mut Meter<K>) -> u64

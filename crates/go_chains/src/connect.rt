@@ -4,7 +4,7 @@ ghost use Rattle.go_board.specs.Paths.{IsAdjacent};
 ghost use Rattle.go_board.specs.declared.size.TheConstants.{MAX_POINTS};
 ghost use Rattle.go_board.specs.declared.point_set.TheConstants.{WORDS};
 ghost use Rattle.go_chains.specs.inner.Beside.{AreBeside};
-ghost use Rattle.go_chains.specs.Cells.{chain_size, growth};
+ghost use Rattle.go_chains.specs.inner.CellSteps.{chain_size, growth};
 ghost use Rattle.go_chains.specs.inner.Edits.{Edited};
 ghost use Rattle.go_chains.specs.inner.CellSteps.{AreTidy, Connects, ConnectsAll, HasStone};
 

@@ -1,7 +1,7 @@
 //! Writes to the cells of a board that are logged.
 ghost use Rattle.std.specs.Prelude.{◌≡◌, ◌<◌, slice_index, vec_capacity, vec_len};
 ghost use Rattle.go_chains.specs.declared.cells.TheConstants.{COUNT};
-ghost use Rattle.go_chains.specs.Cells.{IsWritten};
+ghost use Rattle.go_chains.specs.inner.Writes.{IsWritten};
 ghost use Rattle.go_chains.specs.inner.Edits.{Edited};
 
 use crate::cells::Cells;

@@ -2,9 +2,10 @@
 ghost use Rattle.std.specs.Prelude.{◌≡◌, ◌≢◌, ◌<◌, ◌≤◌, ◌+◌, ◌*◌, ℕ, vec_capacity, vec_len};
 ghost use Rattle.go_board.specs.declared.size.TheConstants.{MAX_POINTS};
 ghost use Rattle.go_board.specs.declared.point_set.TheConstants.{WORDS};
-ghost use Rattle.go_chains.specs.Cells.{chain_size, code_at, label_of, next_of};
+ghost use Rattle.go_chains.specs.Cells.{code_at, label_of, next_of};
+ghost use Rattle.go_chains.specs.inner.CellSteps.{chain_size};
 ghost use Rattle.go_chains.specs.inner.Edits.{Edited};
-ghost use Rattle.go_chains.specs.Rings.{steps};
+ghost use Rattle.go_chains.specs.inner.Rings.{steps};
 ghost use Rattle.go_chains.specs.inner.CellSteps.{AreTidy, HasStone, Joins, Merges, Relabels};
 
 use crate::cells::{Cells, LABELS, LINKS, SIZES, word_place};

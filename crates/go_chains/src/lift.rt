@@ -1,7 +1,8 @@
 //! Stones taken off the board, and their points given back as liberties to the chains beside them.
 ghost use Rattle.std.specs.Prelude.{◌≡◌, ◌≢◌, ◌<◌, ◌≤◌, ◌+◌, ◌*◌, ℕ, All, length, vec_capacity, vec_len};
 ghost use Rattle.go_board.specs.declared.size.TheConstants.{MAX_POINTS};
-ghost use Rattle.go_chains.specs.Cells.{chain_size, code_at};
+ghost use Rattle.go_chains.specs.Cells.{code_at};
+ghost use Rattle.go_chains.specs.inner.CellSteps.{chain_size};
 ghost use Rattle.go_chains.specs.inner.Edits.{Edited};
 ghost use Rattle.go_chains.specs.inner.Writes.{IsGiven, IsLifted};
 ghost use Rattle.go_chains.specs.inner.CellSteps.{AreTidy, AreWhole, FitsWith, GivesAll, GivesAt, HasStone, HasTwoColours, Removes};

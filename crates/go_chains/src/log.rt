@@ -1,6 +1,7 @@
 ghost use Rattle.std.specs.Prelude.{◌≡◌, ◌<◌, ◌≤◌, ◌+◌, ◌++◌, ◌∷◌, ◌⊎◌, [], List, OnErr, OnOk, length, vec_capacity, vec_len};
 ghost use Rattle.go_chains.specs.declared.cells.TheConstants.{COUNT};
-ghost use Rattle.go_chains.specs.Rewound.{ForLast, IsPutBack, NamesCells, before_end, end_of, rewound, undone};
+ghost use Rattle.go_chains.specs.Rewound.{ForLast, NamesCells, rewound, undone};
+ghost use Rattle.go_chains.specs.inner.Undoing.{IsPutBack, before_end, end_of};
 
 use crate::cells::Cells;
 use crate::change::Change;

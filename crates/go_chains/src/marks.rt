@@ -4,7 +4,7 @@ ghost use Rattle.go_board.specs.PointSets.{HasPoint};
 ghost use Rattle.go_board.specs.declared.point_set.TheConstants.{WORDS};
 ghost use Rattle.go_board.specs.declared.size.TheConstants.{MAX_POINTS};
 ghost use Rattle.go_chains.specs.Cells.{lib_of, next_of};
-ghost use Rattle.go_chains.specs.Rings.{IsOnRing, steps};
+ghost use Rattle.go_chains.specs.inner.Rings.{IsOnRing, steps};
 
 use crate::cells::{Cells, LINKS, word_place};
 use go_board::point_set::words_of;

@@ -37,7 +37,7 @@ impl Numbers<Open> {
 }
 
 impl<K> Numbers<K> {
-    ghost use Rattle.go_chains.specs.Cells.{IsWritten};
+    ghost use Rattle.go_chains.specs.inner.Writes.{IsWritten};
 
     /// The number in a cell.
     pub fn get(&self, place: usize, meter: &mut Meter<K>) -> u64

@@ -9,7 +9,7 @@ ghost use Rattle.go_chains.specs.Cells.{code_at};
 ghost use Rattle.go_chains.specs.Playing.{lost, most_of, reads_around};
 ghost use Rattle.go_chains.specs.inner.Edits.{Edited};
 ghost use Rattle.go_chains.specs.Sound.{IsKept};
-ghost use Rattle.go_chains.specs.Boards.{colours_in};
+ghost use Rattle.go_chains.specs.inner.CellSteps.{colours_in};
 
 use crate::capture::{capture, take_one};
 use crate::cells::Cells;

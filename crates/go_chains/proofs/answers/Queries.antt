@@ -20,7 +20,8 @@ use Rattle.go_board.specs.Reaching.{is_liberty_of, joined, points}
 use Rattle.go_chains.specs.Cells.{code_at, label_of, lib_of, next_of, size_of, word_of}
 use Rattle.go_chains.specs.inner.Marked.{has_label, is_labelled}
 use Rattle.go_board.specs.PointSets.{HasPoint, bit_of, has_point}
-use Rattle.go_chains.specs.Rings.{IsOnRing, ring_from, steps}
+use Rattle.go_chains.specs.Rings.{ring_from}
+use Rattle.go_chains.specs.inner.Rings.{IsOnRing, steps}
 use Rattle.go_chains.specs.Sound.{IsKept}
 use Rattle.go_chains.specs.Boards.{IsStoneOf, colouring_of}
 use Rattle.go_chains.specs.inner.Tables.{IsStone, tables_of}

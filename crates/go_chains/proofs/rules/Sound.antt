@@ -11,7 +11,8 @@ use Rattle.go_board.specs.declared.size.TheConstants.{MAX_LINES}
 use Rattle.go_board.specs.Colours.{Colouring, colour_at}
 use Rattle.go_board.specs.Paths.{IsAdjacent, Joined, Leads}
 use Rattle.go_board.specs.Packs.{colour_coded}
-use Rattle.go_chains.specs.Rings.{steps, ring_from, IsOnRing}
+use Rattle.go_chains.specs.Rings.{ring_from}
+use Rattle.go_chains.specs.inner.Rings.{steps, IsOnRing}
 use Rattle.go_chains.specs.inner.Tables.{IsStone, Links, IsJoined, IsTidy, AreChainsWhole, tables_of}
 use Rattle.go_chains.specs.Cells.{code_at, label_of, next_of, size_of, lib_of}
 use Rattle.go_chains.specs.Sound.{AreSound, IsChainLiberty, IsKept}

@@ -1,7 +1,7 @@
 -- Tables stay tidy when two chains become one.
 use Rattle.std.proofs.Common.{ℕ, ◌+◌, ◌<◌, ◌≡◌, ◌≢◌, ◌⊎◌, inl, inr, refl, sym, ap, ◌∙◌, subst, arith, List, [], ◌∷◌, ◌++◌}
 use Rattle.std.proofs.lemmas.Bool.{cases_eq}
-use Rattle.go_chains.specs.Rings.{IsRing, IsOnRing}
+use Rattle.go_chains.specs.inner.Rings.{IsRing, IsOnRing}
 use Rattle.go_chains.specs.inner.Tables.{Tables, IsStone, Links, IsJoined, Touches, IsTidy}
 use Rattle.go_chains.specs.inner.Steps.{IsJoin}
 use Rattle.go_chains.proofs.tables.Rings.{IsRing-from, IsOn-from, IsRing-kept, IsOn-kept, IsOn-was, IsSplice, IsRing-splice, IsOn-splice, IsOn-splice_first, IsOn-splice_second}

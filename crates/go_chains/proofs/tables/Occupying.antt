@@ -1,7 +1,7 @@
 -- Tables stay tidy when a point gets a stone.
 use Rattle.std.proofs.Common.{ℕ, ◌<◌, ◌≡◌, ◌≢◌, inl, inr, refl, sym, ap, ◌∙◌, subst, arith, List, [], ◌∷◌}
 use Rattle.std.proofs.lemmas.Bool.{cases_eq}
-use Rattle.go_chains.specs.Rings.{steps, IsRing, IsOnRing}
+use Rattle.go_chains.specs.inner.Rings.{steps, IsRing, IsOnRing}
 use Rattle.go_chains.specs.inner.Tables.{Tables, IsStone, Links, IsJoined, Touches, IsTidy}
 use Rattle.go_chains.specs.inner.Steps.{IsPlaced}
 use Rattle.go_chains.proofs.tables.Rings.{IsRing-kept, IsOn-kept, IsOn-was}

@@ -1,7 +1,7 @@
 -- Tables stay tidy when a chain is taken off.
 use Rattle.std.proofs.Common.{ℕ, ◌<◌, ◌≡◌, ◌≢◌, inl, inr, sym, ap, ◌∙◌, subst, arith, List, [], ◌∷◌}
 use Rattle.std.proofs.lemmas.Bool.{cases_eq}
-use Rattle.go_chains.specs.Rings.{IsRing, IsOnRing}
+use Rattle.go_chains.specs.inner.Rings.{IsRing, IsOnRing}
 use Rattle.go_chains.specs.inner.Tables.{Tables, IsStone, Links, IsTidy, AreChainsWhole}
 use Rattle.go_chains.specs.inner.Steps.{IsRemoved}
 use Rattle.go_chains.proofs.tables.Rings.{IsRing-kept, IsOn-kept, IsOn-was}

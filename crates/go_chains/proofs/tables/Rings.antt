@@ -2,7 +2,7 @@
 use Rattle.std.proofs.Common.{ℕ, ◌+◌, ◌-◌, ◌<◌, ◌≤◌, ◌≡◌, ◌≢◌, ◌⊎◌, inl, inr, zero, suc, refl, sym, ap, ◌∙◌, arith}
 use Rattle.std.proofs.Math.Nat.{add-suc}
 use Rattle.std.proofs.lemmas.Bool.{cases_lt, cases_eq}
-use Rattle.go_chains.specs.Rings.{steps, IsRing, IsOnRing}
+use Rattle.go_chains.specs.inner.Rings.{steps, IsRing, IsOnRing}
 
 -- first i steps, then j
 pub steps-add : (next : ℕ → ℕ) (i j p : ℕ) → steps next (i + j) p ≡ steps next j (steps next i p)

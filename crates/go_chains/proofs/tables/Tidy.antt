@@ -3,7 +3,7 @@ use Rattle.std.proofs.Common.{ℕ, ◌<◌, ◌≤◌, ◌≡◌, ◌≢◌, inl
 use Rattle.std.specs.Prelude.{AllPairs, Contains}
 use Rattle.std.proofs.lemmas.Bool.{cases_lt, cases_eq}
 use Rattle.std.proofs.lemmas.List.{get_or_default}
-use Rattle.go_chains.specs.Rings.{steps}
+use Rattle.go_chains.specs.inner.Rings.{steps}
 use Rattle.go_chains.specs.inner.Tables.{Tables, IsStone, IsTidy}
 
 -- v in the place of n

@@ -3,8 +3,9 @@ use Rattle.std.proofs.Common.{ℕ, List, ◌*◌, ◌≡◌, ◌<◌, ◌≤◌,
 use Rattle.go_board.specs.lemmas.Squares.{square-le}
 use Rattle.go_board.specs.Paths.{IsAdjacent}
 use Rattle.go_board.specs.declared.size.TheConstants.{MAX_LINES, MAX_POINTS}
-use Rattle.go_chains.specs.Cells.{chain_size, code_at}
-use Rattle.go_chains.specs.Rings.{steps}
+use Rattle.go_chains.specs.Cells.{code_at}
+use Rattle.go_chains.specs.inner.CellSteps.{chain_size}
+use Rattle.go_chains.specs.inner.Rings.{steps}
 use Rattle.go_chains.specs.inner.Tables.{IsStone, IsTidy, Tables, tables_of}
 use Rattle.go_chains.proofs.tables.Tidy.{size-le}
 

@@ -7,7 +7,8 @@ use Rattle.std.proofs.lemmas.Nat.Bits.{bit_at-lt, bit_at_clear_other, bit_at_cle
 use Rattle.go_board.specs.declared.size.TheConstants.{MAX_POINTS}
 use Rattle.go_chains.specs.declared.cells.TheConstants.{LIBERTIES}
 use Rattle.go_board.specs.declared.point_set.TheConstants.{WORDS}
-use Rattle.go_chains.specs.Cells.{IsWritten, code_at, label_of, lib_of, word_of}
+use Rattle.go_chains.specs.Cells.{code_at, label_of, lib_of, word_of}
+use Rattle.go_chains.specs.inner.Writes.{IsWritten}
 use Rattle.go_chains.specs.inner.Writes.{IsDeprived, IsFilled, IsStoneBeside}
 
 -- a bit that isn't set is 0

@@ -9,8 +9,9 @@ use Rattle.go_board.specs.declared.size.TheConstants.{MAX_POINTS}
 use Rattle.go_chains.specs.declared.cells.TheConstants.{LABELS, LINKS, SIZES, LIBERTIES}
 use Rattle.go_board.specs.declared.point_set.TheConstants.{WORDS}
 use Rattle.go_chains.specs.inner.Beside.{AreBeside}
-use Rattle.go_chains.specs.Rings.{steps}
-use Rattle.go_chains.specs.Cells.{IsWritten, code_at, label_of, lib_of, next_of, size_of, word_of}
+use Rattle.go_chains.specs.inner.Rings.{steps}
+use Rattle.go_chains.specs.Cells.{code_at, label_of, lib_of, next_of, size_of, word_of}
+use Rattle.go_chains.specs.inner.Writes.{IsWritten}
 use Rattle.go_chains.specs.inner.Steps.{IsRemoved}
 use Rattle.go_chains.specs.inner.Tables.{IsStone, IsTidy, AreChainsWhole, tables_of}
 use Rattle.go_chains.specs.inner.Writes.{IsGiven, IsGivenBeside, IsLifted, IsRingLifted}

@@ -9,7 +9,8 @@ use Rattle.go_board.specs.declared.point_set.TheConstants.{WORDS}
 use Rattle.go_chains.specs.inner.Beside.{AreBeside}
 use Rattle.go_chains.specs.inner.Tables.{IsStone, IsTidy, tables_of}
 use Rattle.go_chains.specs.inner.Steps.{IsPlaced}
-use Rattle.go_chains.specs.Cells.{IsWritten, code_at, label_of, lib_of, word_of}
+use Rattle.go_chains.specs.Cells.{code_at, label_of, lib_of, word_of}
+use Rattle.go_chains.specs.inner.Writes.{IsWritten}
 use Rattle.go_chains.specs.inner.Writes.{IsDeprived, IsFilled, IsStoneBeside, MarksEmpty}
 use Rattle.go_board.specs.PointSets.{bit_of}
 use Rattle.go_chains.proofs.writes.Depriving.{unset}

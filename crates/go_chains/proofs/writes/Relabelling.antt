@@ -5,8 +5,9 @@ use Rattle.std.proofs.lemmas.Bool.{cases_lt, cases_eq}
 use Rattle.go_board.specs.declared.size.TheConstants.{MAX_POINTS}
 use Rattle.go_chains.specs.declared.cells.TheConstants.{LABELS, LINKS, LIBERTIES}
 use Rattle.go_board.specs.declared.point_set.TheConstants.{WORDS}
-use Rattle.go_chains.specs.Rings.{steps}
-use Rattle.go_chains.specs.Cells.{IsWritten, label_of, next_of, word_of}
+use Rattle.go_chains.specs.inner.Rings.{steps}
+use Rattle.go_chains.specs.Cells.{label_of, next_of, word_of}
+use Rattle.go_chains.specs.inner.Writes.{IsWritten}
 use Rattle.go_chains.specs.inner.Writes.{IsMerged, IsRelabelled}
 use Rattle.go_chains.proofs.tables.Rings.{steps-add}
 

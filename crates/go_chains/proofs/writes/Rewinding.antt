@@ -2,7 +2,8 @@
 use Rattle.std.proofs.Common.{◌+◌, ◌++◌, ◌<◌, ◌∷◌, ◌≡◌, ◌≤◌, List, [], drop, length, slice_index, slice_set, take, ℕ, refl, sym, ap, ◌∙◌, subst, arith, rules, append_assoc, length-append, suc, ◌-◌, get_or}
 use Rattle.std.proofs.Math.Seq.{drop-append_seam, take-append_seam}
 use Rattle.std.proofs.lemmas.List.{get_or-drop, take-append-drop, take_all, take-append-le, drop-append-le, length-drop, length-take-le, same_from_push}
-use Rattle.go_chains.specs.Rewound.{Logged, NamesCells, PlayLogged, Played, all_rewound, plays_of, rewound, total, undone}
+use Rattle.go_chains.specs.Rewound.{NamesCells, PlayLogged, Played, all_rewound, plays_of, rewound, total, undone}
+use Rattle.go_chains.specs.inner.Edits.{Logged}
 use Rattle.std.proofs.lemmas.List.Elements.{All-append}
 use Rattle.go_chains.specs.declared.cells.TheConstants.{COUNT}
 use Rattle.go_chains.specs.declared.change.Change.{Change}

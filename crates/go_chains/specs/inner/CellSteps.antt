@@ -1,8 +1,10 @@
 -- What the steps of a play do to the cells of a board of n lines.
-use Rattle.std.specs.Prelude.{ℕ, List, ◌≡◌, ◌≢◌, ◌<◌, ◌*◌, ◌⊎◌, length}
+use Rattle.std.specs.Prelude.{ℕ, List, ◌≡◌, ◌≢◌, ◌<◌, ◌-◌, ◌*◌, ◌⊎◌, length}
+use Rattle.go_board.specs.Colours.{Colouring}
 use Rattle.go_board.specs.Paths.{IsAdjacent}
 use Rattle.go_board.specs.declared.size.TheConstants.{MAX_POINTS}
-use Rattle.go_chains.specs.Cells.{CellsValue, code_at, label_of, next_of}
+use Rattle.go_chains.specs.Boards.{colouring_of}
+use Rattle.go_chains.specs.Cells.{CellsValue, code_at, label_of, next_of, size_of}
 use Rattle.go_board.specs.PointSets.{words_for}
 use Rattle.go_chains.specs.inner.Steps.{CountsTaken, IsCapturing, IsConnected, IsConnectedTo, IsJoin, IsPlaced, IsRemoved}
 use Rattle.go_chains.specs.inner.Tables.{IsDead, IsStone, IsTidy, AreChainsWhole, Tables, tables_of}
@@ -103,3 +105,15 @@ GivesAt old new point near colour = IsGiven old.numbers new.numbers point (λ l.
 -- a point is a liberty too of the stones of this colour at the listed ones
 abbrev pub GivesAll : CellsValue → CellsValue → ℕ → List ℕ → ℕ → Type 0
 GivesAll old new point beside colour = IsGiven old.numbers new.numbers point (IsGivenBeside old.numbers beside colour (length beside))
+
+-- how many stones the chain of a stone has
+abbrev pub chain_size : List ℕ → ℕ → ℕ
+chain_size cells p = size_of cells (label_of cells p)
+
+-- how many stones the chain of a stone has gained
+abbrev pub growth : CellsValue → CellsValue → ℕ → ℕ
+growth old new p = chain_size new.numbers p - chain_size old.numbers p
+
+-- the colouring that the cells of a board of n lines say
+abbrev pub colours_in : ℕ → CellsValue → Colouring
+colours_in n cells = colouring_of n cells.numbers

@@ -1,8 +1,19 @@
 -- One edit of the cells, as the steps of a play make them.
-use Rattle.std.specs.Prelude.{ℕ, Vec, ◌≤◌, ◌+◌, vec_capacity, vec_len}
+use Rattle.std.specs.Prelude.{ℕ, List, Vec, ◌≡◌, ◌≤◌, ◌+◌, ◌++◌, length, vec_capacity, vec_len}
 use Rattle.go_chains.specs.declared.change.Change.{Change}
+use Rattle.go_chains.specs.declared.cells.TheConstants.{COUNT}
 use Rattle.go_chains.specs.Cells.{CellsValue}
-use Rattle.go_chains.specs.Rewound.{Logged}
+use Rattle.go_chains.specs.Rewound.{NamesCells, rewound}
+
+-- the log gained changes, at most so many, that put back give the cells before, and those are all
+-- writes to the cells
+pub record Logged (old new : CellsValue) (before after : List Change) (most : ℕ) : Type 0 where
+  pub added : List Change
+  pub grown : after ≡ before ++ added
+  pub traced : new.trace ≡ old.trace ++ added
+  pub back : rewound new.numbers added ≡ old.numbers
+  pub few : length added ≤ most
+  pub names : NamesCells COUNT added
 
 -- the cells were edited: the log gained changes, at most so many, that put back give the cells before, and
 -- kept its memory; each of them was counted, and so were the reads, at most so many with them

@@ -1,7 +1,7 @@
 -- What the cells of a board say, and when that holds together.
 use Rattle.std.specs.Prelude.{ℕ, List, [], ◌∷◌, ◌≡◌, ◌≢◌, ◌<◌}
 use Rattle.go_chains.specs.Cells.{code_at, label_of, lib_of, next_of, size_of}
-use Rattle.go_chains.specs.Rings.{IsRing, IsOnRing}
+use Rattle.go_chains.specs.inner.Rings.{IsRing, IsOnRing}
 
 -- what the cells of a board say: a colour is 0 for an empty point, and a liberty is 1
 pub record Tables : Type 0 where

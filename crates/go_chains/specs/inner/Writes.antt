@@ -6,7 +6,7 @@ use Rattle.go_board.specs.PointSets.{HasPoint}
 use Rattle.go_board.specs.declared.size.TheConstants.{MAX_POINTS}
 use Rattle.go_chains.specs.declared.cells.TheConstants.{LABELS, LINKS, LIBERTIES}
 use Rattle.go_board.specs.declared.point_set.TheConstants.{WORDS}
-use Rattle.go_chains.specs.Rings.{steps}
+use Rattle.go_chains.specs.inner.Rings.{steps}
 use Rattle.go_chains.specs.Cells.{code_at, label_of, word_of, lib_of}
 
 -- the first `count` points along `next` from a point have the new label, and nothing else is written
@@ -83,3 +83,8 @@ pub record MarksOne (cells old new : List ℕ) (near : ℕ) : Type 0 where
 pub record MarksEmpty (cells set beside : List ℕ) (upto : ℕ) : Type 0 where
   pub are : (i : ℕ) → i < upto → code_at cells (slice_index beside i) ≡ 0 → HasPoint set (slice_index beside i)
   pub only : (q : ℕ) → q < MAX_POINTS → HasPoint set q → ((i : ℕ) × (i < upto) × (slice_index beside i ≡ q)) × (code_at cells q ≡ 0)
+
+-- one cell is written
+pub record IsWritten (old new : List ℕ) (place value : ℕ) : Type 0 where
+  pub at : slice_index new place ≡ value
+  pub others : (k : ℕ) → k ≢ place → slice_index new k ≡ slice_index old k

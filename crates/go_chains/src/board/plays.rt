@@ -1,13 +1,12 @@
 //! Plays and their way back, and stones that would take nothing.
-ghost use Rattle.std.specs.Prelude.{◌≡◌, ◌<◌, ◌≤◌, ◌+◌, ◌*◌, ◌/◌, ◌++◌, ◌∷◌, ◌↔◌, [], List, IfOk, IsErrOf, IsTrue, OnErr, OnOk, Some, length, slice_set};
+ghost use Rattle.std.specs.Prelude.{◌≡◌, ◌<◌, ◌≤◌, ◌+◌, ◌*◌, ◌/◌, ◌↔◌, IfOk, IsErrOf, IsTrue, OnOk, Some, length, slice_set};
 ghost use Rattle.go_board.specs.Chains.{liberties};
 ghost use Rattle.go_board.specs.Colours.{other};
 ghost use Rattle.go_board.specs.Points.{IsOn, number_of};
 ghost use Rattle.go_chains.specs.declared.cells.TheConstants.{COUNT};
 ghost use Rattle.go_board.specs.declared.point_set.TheConstants.{WORDS};
-ghost use Rattle.go_chains.specs.declared.change.Change.{Change};
-ghost use Rattle.go_chains.specs.Playing.{most_at, played, reads_around, went};
-ghost use Rattle.go_chains.specs.Rewound.{ForLast, IsRewound, NamesCells, PlayLogged, rewound};
+ghost use Rattle.go_chains.specs.Playing.{PlayCosts, most_at, played, reads_around, went};
+ghost use Rattle.go_chains.specs.Rewound.{ForLast, IsRewound, NamesCells, rewound};
 ghost use Rattle.go_chains.specs.Sound.{IsKept};
 ghost use Rattle.go_chains.specs.Boards.{HoldsStone, grid_of};
 
@@ -40,15 +39,8 @@ impl<K> Board<K> {
         ensures theirs { IfOk result (λ taken. taken.theirs
             ≡ went self.old self.new colour p (other colour)) }
         ensures own { IfOk result (λ taken. taken.own ≡ went self.old self.new colour p colour) }
-        ensures logged { OnOk result (PlayLogged self.old self.new log.old log.new
-            (most_at self.old colour p)) }
-        ensures count { meter.new + reads_around
-            ≤ meter.old + 3 * most_at self.old colour p }
-        ensures ticked { (changes : List Change) → log.new ≡ log.old ++ changes ∷ []
-            → meter.old + length changes ≤ meter.new }
-        ensures onward { meter.old ≤ meter.new }
-        ensures same { OnErr result (self.new ≡ self.old) }
-        ensures log { OnErr result (log.new ≡ log.old) }
+        ensures costs { PlayCosts result self.old self.new log.old log.new meter.old meter.new
+            (most_at self.old colour p) }
         ensures kept { IsKept self.new.lines self.new.cells }
     {
         points_by_number();

@@ -1,7 +1,7 @@
 use Rattle.std.proofs.Common.{◌+◌, ◌*◌}
 use Rattle.go_board.specs.Paths.{IsAdjacent}
 use Rattle.go_board.specs.declared.point_set.TheConstants.{WORDS}
-use Rattle.go_chains.specs.Cells.{growth}
+use Rattle.go_chains.specs.inner.CellSteps.{growth}
 use Rattle.go_chains.specs.inner.Edits.{Edited}
 use Rattle.go_chains.specs.inner.Steps.{IsConnectedTo}
 use Rattle.go_chains.specs.inner.Tables.{IsTidy, tables_of}

@@ -1,7 +1,8 @@
 use Rattle.std.proofs.Common.{arith, ◌≡◌, ◌<◌, ◌≤◌, ◌*◌, ℕ, ap, sym, ◌∙◌, List}
 use Rattle.go_board.specs.Paths.{IsAdjacent}
 use Rattle.go_board.specs.declared.size.TheConstants.{MAX_LINES, MAX_POINTS}
-use Rattle.go_chains.specs.Cells.{chain_size, code_at, label_of, size_of}
+use Rattle.go_chains.specs.Cells.{code_at, label_of, size_of}
+use Rattle.go_chains.specs.inner.CellSteps.{chain_size}
 use Rattle.go_chains.specs.inner.Tables.{IsStone, IsTidy, tables_of}
 use Rattle.go_chains.proofs.tables.Connecting.{IsConnected-first, IsConnected-second, beside_stone, grown-second}
 use Rattle.go_chains.proofs.writes.Editing.{Edited_none, Edited_within}

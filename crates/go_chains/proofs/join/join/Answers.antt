@@ -2,7 +2,8 @@ use Rattle.std.proofs.Common.{arith, ◌≡◌, ◌<◌, ◌+◌, ◌*◌, ap, s
 use Rattle.go_board.specs.lemmas.Squares.{square-le}
 use Rattle.go_board.specs.Paths.{IsAdjacent}
 use Rattle.go_chains.specs.declared.cells.TheConstants.{LINKS, SIZES}
-use Rattle.go_chains.specs.Cells.{chain_size, label_of, size_of}
+use Rattle.go_chains.specs.Cells.{label_of, size_of}
+use Rattle.go_chains.specs.inner.CellSteps.{chain_size}
 use Rattle.go_board.specs.PointSets.{words_for}
 use Rattle.go_chains.specs.inner.Tables.{tables_of}
 use Rattle.go_chains.proofs.writes.Joining.{IsJoin_written}

@@ -1,7 +1,7 @@
 use Rattle.std.proofs.Common.{arith, ℕ, ap, ◌∙◌, subst}
 use Rattle.std.specs.Prelude.{slice_index}
 use Rattle.std.specs.Int.RustNames.{bit_or}
-use Rattle.go_chains.specs.Cells.{IsWritten}
+use Rattle.go_chains.specs.inner.Writes.{IsWritten}
 use Rattle.go_chains.proofs.writes.Relabelling.{IsMerged_more}
 use Rattle.go_chains.proofs.writes.Editing.{Edited_then, Edited_within}
 use Rattle.go_chains.proofs.join.merge_words.Goals as goal

@@ -1,7 +1,7 @@
 use Rattle.std.specs.Int.RustNames.{bit_or}
 use Rattle.std.specs.Prelude.{slice_index}
 use Rattle.std.proofs.Common.{◌%◌, ◌*◌, ◌^◌, ℕ, ap, subst, ◌∙◌}
-use Rattle.go_chains.specs.Cells.{IsWritten}
+use Rattle.go_chains.specs.inner.Writes.{IsWritten}
 use Rattle.go_chains.proofs.writes.Lifting.{IsGiven_set}
 use Rattle.go_chains.proofs.lift.set_liberty.Goals as goal
 

@@ -1,7 +1,7 @@
 use Rattle.std.proofs.Common.{◌≡◌, ◌+◌, ◌*◌}
 use Rattle.go_chains.specs.Cells.{next_of}
 use Rattle.go_chains.specs.inner.Edits.{Edited}
-use Rattle.go_chains.specs.Rings.{steps}
+use Rattle.go_chains.specs.inner.Rings.{steps}
 use Rattle.go_chains.specs.inner.Writes.{IsRingLifted}
 use Rattle.go_chains.proofs.lift.take_off.Given as goal
 

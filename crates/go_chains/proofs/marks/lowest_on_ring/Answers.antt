@@ -1,7 +1,7 @@
 use Rattle.std.proofs.Common.{arith, ◌≡◌, ◌+◌, ◌∙◌, suc, inl, inr, ap, sym}
 use Rattle.std.proofs.lemmas.Bool.{cases_lt}
 use Rattle.go_chains.specs.Cells.{next_of}
-use Rattle.go_chains.specs.Rings.{steps}
+use Rattle.go_chains.specs.inner.Rings.{steps}
 use Rattle.go_chains.proofs.marks.lowest_on_ring.Goals as goal
 
 pub loop-preserved : goal.loop-preserved

@@ -1,6 +1,6 @@
 use Rattle.std.proofs.Common.{◌≡◌, ◌≤◌, ◌⊎◌, ℕ}
 use Rattle.go_chains.specs.Cells.{next_of}
-use Rattle.go_chains.specs.Rings.{IsOnRing, steps}
+use Rattle.go_chains.specs.inner.Rings.{IsOnRing, steps}
 use Rattle.go_chains.proofs.marks.lowest_on_ring.Given as goal
 
 abbrev pub invariant-loop : goal.invariant-loop

@@ -2,7 +2,7 @@ use Rattle.std.proofs.Common.{◌≡◌, ℕ}
 use Rattle.std.specs.Prelude.{◌↔◌}
 use Rattle.go_board.specs.PointSets.{HasPoint}
 use Rattle.go_chains.specs.Cells.{next_of}
-use Rattle.go_chains.specs.Rings.{IsOnRing, steps}
+use Rattle.go_chains.specs.inner.Rings.{IsOnRing, steps}
 use Rattle.go_chains.proofs.marks.put_ring.Given as goal
 
 abbrev pub invariant-loop : goal.invariant-loop

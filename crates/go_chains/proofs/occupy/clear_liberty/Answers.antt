@@ -1,7 +1,7 @@
 use Rattle.std.specs.Int.{bit_not}
 use Rattle.std.specs.Prelude.{bit_and, slice_index}
 use Rattle.std.proofs.Common.{◌%◌, ◌*◌, ◌^◌, ℕ, ap, subst, ◌∙◌, w64}
-use Rattle.go_chains.specs.Cells.{IsWritten}
+use Rattle.go_chains.specs.inner.Writes.{IsWritten}
 use Rattle.go_chains.proofs.writes.Depriving.{IsDeprived_cleared}
 use Rattle.go_chains.proofs.occupy.clear_liberty.Goals as goal
 

@@ -1,5 +1,5 @@
 use Rattle.std.proofs.Common.{arith, ℕ, subst}
-use Rattle.go_chains.specs.Cells.{IsWritten}
+use Rattle.go_chains.specs.inner.Writes.{IsWritten}
 use Rattle.go_chains.proofs.writes.Depriving.{IsFilled_more}
 use Rattle.go_chains.proofs.writes.Editing.{Edited_then, Edited_within}
 use Rattle.go_chains.proofs.occupy.fill_words.Goals as goal

@@ -5,7 +5,7 @@ use Rattle.go_board.specs.Points.{number_of}
 use Rattle.go_board.specs.Reaching.{joined}
 use Rattle.go_chains.specs.Boards.{BoardValue, IsStoneOf, grid_of}
 use Rattle.go_chains.specs.Cells.{label_of, next_of, size_of}
-use Rattle.go_chains.specs.Rings.{IsOnRing, steps}
+use Rattle.go_chains.specs.inner.Rings.{IsOnRing, steps}
 use Rattle.go_chains.specs.inner.Marked.{has_label}
 use Rattle.go_chains.specs.Sound.{IsKept}
 use Rattle.go_board.specs.lemmas.PointSets.{first-is}

@@ -7,7 +7,7 @@ use Rattle.go_board.specs.declared.size.TheConstants.{MAX_POINTS}
 use Rattle.go_board.specs.lemmas.PointSets.{left-all}
 use Rattle.go_chains.specs.Boards.{BoardValue, grid_of}
 use Rattle.go_chains.specs.Cells.{next_of, size_of}
-use Rattle.go_chains.specs.Rings.{IsOnRing, steps}
+use Rattle.go_chains.specs.inner.Rings.{IsOnRing, steps}
 use Rattle.go_chains.proofs.answers.Queries.{ring_answers, ring_in}
 use Rattle.go_chains.proofs.board.chains.Board+Open.mark_stones.Goals as goal
 
