@@ -10,7 +10,8 @@ use Rattle.go_board.specs.Gains.{Gains}
 use Rattle.go_board.specs.Paths.{IsAdjacent, Leads}
 use Rattle.go_board.specs.Points.{point_at}
 use Rattle.go_board.specs.Reaching.{area, is_area, points, reaches}
-use Rattle.go_board.specs.Rows.{AreStones, IsNext, is_held}
+use Rattle.go_board.specs.Rows.{AreStones, is_held}
+use Rattle.go_board.specs.inner.Spreading.{IsNext}
 use Rattle.go_board.specs.inner.Around.{AreJoinedRound, IsOpen, PassesRound}
 use Rattle.go_board.proofs.Clearing.{count_agree, count_more, same_test}
 use Rattle.go_board.proofs.Counting.{on_points}

@@ -6,7 +6,8 @@ use Rattle.std.proofs.lemmas.Bool.{cases_Bool, cases_eq, eq-eqb, eqb-true}
 use Rattle.std.proofs.lemmas.List.{get_or_default, get_or-set_same, get_or-set_other, set-get_or}
 use Rattle.std.proofs.lemmas.List.Sums.{sum_by-le, sum_by-set}
 use Rattle.std.proofs.lemmas.Nat.{and_le_r, le_or_l, or_lt}
-use Rattle.go_board.specs.Rows.{HasNext, IsClosedAt, IsIn, PassesAll, PassesOn, Spread, sum_of_words}
+use Rattle.go_board.specs.Rows.{IsIn}
+use Rattle.go_board.specs.inner.Spreading.{HasNext, IsClosedAt, PassesAll, PassesOn, Spread, sum_of_words}
 use Rattle.go_board.proofs.RowBits.{and_set, both_set, from_or, or_left, or_right, set_below}
 
 -- a word of the set gets the places of a row that are free and beside the set

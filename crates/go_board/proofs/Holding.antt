@@ -9,7 +9,8 @@ use Rattle.go_board.specs.Colours.{Colouring, colour_at, other}
 use Rattle.go_board.specs.Points.{are_beside, is_next, point_at}
 use Rattle.go_board.specs.Paths.{IsAdjacent, Leads}
 use Rattle.go_board.specs.Reaching.{has_colour, reaches}
-use Rattle.go_board.specs.Rows.{AreHeld, AreStones, IsClosedAt, IsIn, IsNext, PassesAll, PassesOn, Spread, is_held}
+use Rattle.go_board.specs.Rows.{AreHeld, AreStones, IsIn, is_held}
+use Rattle.go_board.specs.inner.Spreading.{IsClosedAt, IsNext, PassesAll, PassesOn, Spread}
 use Rattle.go_board.proofs.Numbers.{IsOn-point_at, col_back, number_of-lt, number_of-point_at, row_back}
 use Rattle.go_board.proofs.Beside.{adjacent_to}
 use Rattle.go_board.proofs.Deciding.{reaches_is}

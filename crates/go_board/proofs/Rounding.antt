@@ -1,7 +1,7 @@
 -- The places around another one: those next to it are joined around it where one gap at most is between them.
 use Rattle.std.proofs.Common.{arith, ◌≡◌, ◌≤◌, ◌+◌, ◌∙◌, ◌⊎◌, ◌↔◌, inl, inr, Bool, true, false, true≢false, ℕ, List, IsTrue, refl, sym, ap₂, subst}
 use Rattle.std.proofs.lemmas.Bool.{cases_eq}
-use Rattle.go_board.specs.Rows.{IsNext}
+use Rattle.go_board.specs.inner.Spreading.{IsNext}
 use Rattle.go_board.specs.inner.Around.{IsOpen, PassesRound, gap}
 use Rattle.go_board.proofs.Clearing.{same_test}
 

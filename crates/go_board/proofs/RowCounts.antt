@@ -12,7 +12,8 @@ use Rattle.go_board.specs.declared.colour.Colour.{Colour}
 use Rattle.go_board.specs.declared.colour.Colour.TheVariants.{Black, White}
 use Rattle.go_board.specs.Colours.{Colouring, colour_at, other}
 use Rattle.go_board.specs.Reaching.{area, is_area, is_same, reaches}
-use Rattle.go_board.specs.Rows.{AreHeld, is_alone, is_held}
+use Rattle.go_board.specs.Rows.{AreHeld, is_held}
+use Rattle.go_board.specs.inner.Areas.{is_alone}
 use Rattle.go_board.proofs.Clearing.{count_more, same_test}
 
 -- 1 for a test that passes

@@ -3,7 +3,7 @@ use Rattle.std.specs.Int.{bit_at}
 use Rattle.std.specs.Int.RustNames.{bit_or}
 use Rattle.std.proofs.Common.{arith, ◌≡◌, ◌<◌, ◌+◌, ◌-◌, ◌*◌, ◌/◌, ◌%◌, ◌^◌, ◌∙◌, ◌⊎◌, inl, inr, ℕ, suc, List, refl, sym, ap, slice_index}
 use Rattle.std.proofs.lemmas.Nat.Bits.{bit_at-zero}
-use Rattle.go_board.specs.Rows.{HasNext}
+use Rattle.go_board.specs.inner.Spreading.{HasNext}
 use Rattle.go_board.proofs.RowBits.{bit_down, bit_up, from_or, from_up, or_left, or_right}
 
 module _ (rows : List ℕ) (row below above : ℕ) (below_is : ((0 < row) × (below ≡ slice_index rows (row - 1))) ⊎ ((row ≡ 0) × (below ≡ 0))) (above_is : above ≡ slice_index rows (row + 1)) where

@@ -27,4 +27,6 @@ first_stones n g = filter (is_first_of_chain n g) (points n)
 
 -- the chains in the point order of their first stones
 unfoldable pub chains : ℕ → Colouring → List Chain
-chains n g = map (λ p. let chain : Chain = record { stones = members n g p; liberties = liberties n g p } in chain) (first_stones n g)
+chains n g =
+    map (λ p. let chain : Chain = record { stones = members n g p; liberties = liberties n g p } in chain)
+    (first_stones n g)

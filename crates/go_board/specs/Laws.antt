@@ -1,5 +1,5 @@
--- Laws of the words of this crate, each proved as the contract of a function of `laws` that does nothing. Proofs of the crates
--- above take them from there.
+-- Laws of the words of this crate, each proved as the contract of a function of `laws` that does nothing. Proofs of
+-- the crates above take them from there.
 use Rattle.std.specs.Prelude.{◌≡◌, ◌<◌, ◌≤◌, ◌+◌, ◌*◌, ◌↔◌, ◌⊎◌, ℕ, false, List, Option, None, Some, IsTrue, length, slice_index_or, slice_set}
 use Rattle.go_board.specs.declared.colour.Colour.{Colour}
 use Rattle.go_board.specs.declared.pack.TheConstants.{PACK_BYTES}
@@ -13,7 +13,8 @@ use Rattle.go_board.specs.Reaching.{is_dead, is_liberty_of, joined, moved, reach
 
 -- the test whether a point reaches a colour holds exactly where a path leads there
 abbrev pub ReachesByPath : Type 0
-ReachesByPath = (n : ℕ) (g : Colouring) (p : ℕ) (c : Option Colour) → p < n * n → IsTrue (reaches n g p c) ↔ Reaches n g p c
+ReachesByPath = (n : ℕ) (g : Colouring) (p : ℕ) (c : Option Colour)
+    → p < n * n → IsTrue (reaches n g p c) ↔ Reaches n g p c
 
 -- the test whether two points are joined holds exactly where a path joins them
 abbrev pub JoinedByPath : Type 0
@@ -22,7 +23,8 @@ JoinedByPath = (n : ℕ) (g : Colouring) (p q : ℕ) → p < n * n → IsTrue (j
 -- a liberty of a stone's chain is an empty point adjacent to a stone that a path joins to it
 abbrev pub LibertyByPath : Type 0
 LibertyByPath = (n : ℕ) (g : Colouring) (p q : ℕ) → p < n * n
-    → IsTrue (is_liberty_of n g p q) ↔ ((colour_at g q ≡ None) × ((r : ℕ) × Joined n g p r × IsTrue (is_adjacent n r q)))
+    → IsTrue (is_liberty_of n g p q)
+    ↔ ((colour_at g q ≡ None) × ((r : ℕ) × Joined n g p r × IsTrue (is_adjacent n r q)))
 
 -- no more stones of a colour vanish than the board has points
 abbrev pub VanishedAtMostAll : Type 0
@@ -41,12 +43,14 @@ pub record PointsByNumber : Type 0 where
   pub on : (n k : ℕ) → k < n * n → IsOn n (point_at n k)
   pub same : (n k : ℕ) → k < n * n → number_of n (point_at n k) ≡ k
 
--- of each colour, what a play takes and what it leaves are together what stood there with the placed stone, and that is one stone
--- more at most
+-- of each colour, what a play takes and what it leaves are together what stood there with the placed stone, and that
+-- is one stone more at most
 pub record TakenAndLeft : Type 0 where
   pub together : (n : ℕ) (g : Colouring) (c : Colour) (p : ℕ) (of : Colour)
-      → stones n (moved n g c p) of + vanished n (slice_set g p (Some c)) (moved n g c p) of ≡ stones n (slice_set g p (Some c)) of
-  pub placed : (n : ℕ) (g : Colouring) (c : Colour) (p : ℕ) (of : Colour) → stones n (slice_set g p (Some c)) of ≤ stones n g of + 1
+      → stones n (moved n g c p) of + vanished n (slice_set g p (Some c)) (moved n g c p) of
+      ≡ stones n (slice_set g p (Some c)) of
+  pub placed : (n : ℕ) (g : Colouring) (c : Colour) (p : ℕ) (of : Colour)
+      → stones n (slice_set g p (Some c)) of ≤ stones n g of + 1
 
 -- the packs of two colourings of one length are equal exactly where the colourings are
 abbrev pub PacksTellApart : Type 0

@@ -10,7 +10,8 @@ TookSoFar false start now text = now ≡ then_bytes start text
 TookSoFar true start now text = TakesFront start now text
 
 -- a text written from this start on, with at most one failure
-pub record Wrote (has_failed : Bool) (start now : Option (List ℕ)) (failures_at_start failures : ℕ) (text : List ℕ) : Type 0 where
+pub record Wrote (has_failed : Bool) (start now : Option (List ℕ))
+    (failures_at_start failures : ℕ) (text : List ℕ) : Type 0 where
   pub took : TookSoFar has_failed start now text
   pub counted : failures ≡ (if has_failed then failures_at_start + 1 else failures_at_start)
 

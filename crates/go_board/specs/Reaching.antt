@@ -29,7 +29,8 @@ some_neighbour n p test = list_any (λ q. is_adjacent n p q && test q) (points n
 -- a path of points of p's colour, with at most this many steps, leads from p to a point that passes the test
 unfoldable pub connects_within : ℕ → ℕ → Colouring → ℕ → (ℕ → Bool) → Bool
 connects_within zero n g p test = test p
-connects_within (suc k) n g p test = test p || some_neighbour n p (λ q. has_colour g q (colour_at g p) && connects_within k n g q test)
+connects_within (suc k) n g p test =
+    test p || some_neighbour n p (λ q. has_colour g q (colour_at g p) && connects_within k n g q test)
 
 -- a path of any length does: none need have more steps than the board has points
 abbrev pub connects : ℕ → Colouring → ℕ → (ℕ → Bool) → Bool
@@ -65,7 +66,9 @@ vanished n before after c = count_by (λ p. has_colour before p (Some c) && not 
 
 -- p is a point of c, or an empty point that reaches c and not the other colour
 abbrev pub is_area : ℕ → Colouring → Colour → ℕ → Bool
-is_area n g c p = has_colour g p (Some c) || ((has_colour g p None && reaches n g p (Some c)) && not (reaches n g p (Some (other c))))
+is_area n g c p =
+    has_colour g p (Some c)
+    || ((has_colour g p None && reaches n g p (Some c)) && not (reaches n g p (Some (other c))))
 
 -- how many points of the board are the area of a colour
 unfoldable pub area : ℕ → Colouring → Colour → ℕ

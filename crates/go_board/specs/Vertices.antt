@@ -23,7 +23,8 @@ row_numbered n = if nat_le 1 n && nat_le n MAX_ROW_NUMBER then Some (n - 1) else
 -- the row that one or two digits name
 abbrev pub row_of : List ℕ → Option ℕ
 row_of (a ∷ []) = if is_ascii_digit a then row_numbered (digit_value a) else None
-row_of (a ∷ b ∷ []) = if is_ascii_digit a && is_ascii_digit b then row_numbered (10 * digit_value a + digit_value b) else None
+row_of (a ∷ b ∷ []) =
+    if is_ascii_digit a && is_ascii_digit b then row_numbered (10 * digit_value a + digit_value b) else None
 row_of _ = None
 
 -- the point in this column and row, where both are named

@@ -4,3 +4,4 @@ pub mod Flood
 pub mod Areas
 pub mod Around
 pub mod PointCounts
+pub mod Spreading

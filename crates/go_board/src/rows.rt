@@ -8,7 +8,9 @@ ghost use Rattle.go_board.specs.declared.colour.Colour.{Colour};
 ghost use Rattle.go_board.specs.declared.rows.TheConstants.{ROWS};
 ghost use Rattle.go_board.specs.Colours.{Colouring, other};
 ghost use Rattle.go_board.specs.Reaching.{area};
-ghost use Rattle.go_board.specs.Rows.{AreHeld, AreStones, HasNext, IsClosedAt, IsIn, Spread, is_alone, sum_of_words};
+ghost use Rattle.go_board.specs.Rows.{AreHeld, AreStones, IsIn};
+ghost use Rattle.go_board.specs.inner.Areas.{is_alone};
+ghost use Rattle.go_board.specs.inner.Spreading.{HasNext, IsClosedAt, Spread, sum_of_words};
 
 use crate::colour::is_same;
 use crate::{Area, Colour, MAX_LINES, Point};

@@ -23,7 +23,8 @@ IsBegun h start = (h.start ≡ start) × ((q : Key) → later_at h q ≡ None)
 
 -- the start stays, and so does what is noted of each key but this
 abbrev pub IsChangedAt : HistoryValue → HistoryValue → Key → Option ℕ → Type 0
-IsChangedAt old new p number = (new.start ≡ old.start) × ((q : Key) → later_at new q ≡ cond (key_eq p q) number (later_at old q))
+IsChangedAt old new p number =
+    (new.start ≡ old.start) × ((q : Key) → later_at new q ≡ cond (key_eq p q) number (later_at old q))
 
 -- the start stays, and what is noted of each key
 abbrev pub IsUnchanged : HistoryValue → HistoryValue → Type 0
@@ -36,4 +37,6 @@ without number (Some k) = if k == number then None else Some k
 
 -- the start stays, and so does what is noted of each key, but this one loses this number
 abbrev pub IsForgotten : HistoryValue → HistoryValue → Key → ℕ → Type 0
-IsForgotten old new p number = (new.start ≡ old.start) × ((q : Key) → later_at new q ≡ cond (key_eq p q) (without number (later_at old q)) (later_at old q))
+IsForgotten old new p number =
+    (new.start ≡ old.start)
+    × ((q : Key) → later_at new q ≡ cond (key_eq p q) (without number (later_at old q)) (later_at old q))

@@ -15,7 +15,8 @@ unblanked c = if (c == 9 || c == 11) || c == 12 then 32 else c
 -- a byte that nothing before it bears on
 abbrev pub cooked_alone : ℕ → ℕ → Mode × Option ℕ
 cooked_alone line_break c =
-    if c == 92 then (Escape, None) else (if is_line_break c then (Broke c, Some line_break) else (Text, Some (unblanked c)))
+    if c == 92 then (Escape, None)
+    else (if is_line_break c then (Broke c, Some line_break) else (Text, Some (unblanked c)))
 
 -- One byte on: what is then open, and what the byte gives. The second byte of a line break gives nothing.
 abbrev pub cooked_next : ℕ → Mode → ℕ → Mode × Option ℕ
@@ -26,7 +27,8 @@ cooked_next line_break (Broke b) c = if is_line_break c && not (c == b) then (Te
 -- what the bytes give, where an unescaped line break gives this byte
 unfoldable pub cooked : ℕ → Mode → List ℕ → List ℕ
 cooked line_break m [] = []
-cooked line_break m (c ∷ cs) = option_to_list (cooked_next line_break m c).1 ++ cooked line_break (cooked_next line_break m c).0 cs
+cooked line_break m (c ∷ cs) =
+    option_to_list (cooked_next line_break m c).1 ++ cooked line_break (cooked_next line_break m c).0 cs
 
 -- as Text, and as SimpleText
 abbrev pub cooked_text : List ℕ → List ℕ

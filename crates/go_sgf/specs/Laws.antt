@@ -23,14 +23,18 @@ OneRecord = (b : List ℕ) (c d : Trees) → Spells b c → Spells b d → c ≡
 
 -- a text that spells a record, and isn't too long for one, is refused for want of memory alone
 abbrev pub SpelledIsRead : Type 0
-SpelledIsRead = (b : List ℕ) (c : Trees) (why : SgfError) → Spells b c → IsRefusal b why → length b ≤ MAX_RECORD → why ≡ Memory
+SpelledIsRead = (b : List ℕ) (c : Trees) (why : SgfError)
+    → Spells b c → IsRefusal b why → length b ≤ MAX_RECORD → why ≡ Memory
 
 -- The text is a tree from its `(` to its `)`.
 abbrev pub SpellsTree : List ℕ → List (List Property) → Trees → Type 0
 SpellsTree t nodes children =
-    (inner : List ℕ) × (t ≡ 40 ∷ (inner ++ (41 ∷ []))) × SpellsParts inner (flat_map node_parts nodes ++ parts children) []
+    (inner : List ℕ) × (t ≡ 40 ∷ (inner ++ (41 ∷ [])))
+    × SpellsParts inner (flat_map node_parts nodes ++ parts children) []
 
--- each front of a tree's text that has a byte stands, of a tree of any depth, and as a whole tree exactly where it is all of it
+-- each front of a tree's text that has a byte stands, of a tree of any depth, and as a whole tree exactly where it
+-- is all of it
 abbrev pub FrontsStand : Type 0
-FrontsStand = (t : List ℕ) (nodes : List (List Property)) (children : Trees) → AreTrees (tree nodes children none) → SpellsTree t nodes children →
+FrontsStand = (t : List ℕ) (nodes : List (List Property)) (children : Trees)
+    → AreTrees (tree nodes children none) → SpellsTree t nodes children →
     (k : ℕ) → 0 < k → (k < length t → IsUnfinished (stands (take k t))) × (length t ≤ k → IsWhole (stands (take k t)))

@@ -46,7 +46,8 @@ decimals_in number = drop 1 (drop (point_place number) number)
 -- digits, at least one in all, and none but 0 behind the second decimal
 abbrev pub is_decimal : List ℕ → List ℕ → Bool
 is_decimal whole decimals =
-    ((list_all is_ascii_digit whole && list_all is_ascii_digit decimals) && (not (is_empty whole) || not (is_empty decimals)))
+    ((list_all is_ascii_digit whole && list_all is_ascii_digit decimals)
+    && (not (is_empty whole) || not (is_empty decimals)))
     && list_all (λ c. c == 48) (drop 2 decimals)
 
 -- the digits with two decimals

@@ -8,8 +8,9 @@ use Rattle.go_sgf.specs.declared.error.SgfError.{SgfError}
 use Rattle.go_sgf.specs.declared.error.SgfError.TheVariants.{NoTree, EndInside, Unexpected, TooDeep, Memory, TooLong}
 use Rattle.go_sgf.specs.declared.limits.TheConstants.{MAX_DEPTH, MAX_RECORD}
 
--- The source spells no record. The trees before are whole. Behind them a text begins with a tree's `(` and its `;`. What of it
--- stands before the place stands as no whole tree, and no front of that is nested too deep. Why it stops there says At.
+-- The source spells no record. The trees before are whole. Behind them a text begins with a tree's `(` and its `;`.
+-- What of it stands before the place stands as no whole tree, and no front of that is nested too deep. Why it stops
+-- there says At.
 pub record StopsAt (source : List ℕ) (place : ℕ) (At : List ℕ → ℕ → Type 0) : Type 0 where
   pub spells_none : (c : Trees) → Spells source c → ⊥
   pub before : Trees

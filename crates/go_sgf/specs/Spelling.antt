@@ -40,7 +40,8 @@ abbrev pub without_space : List ℕ → List ℕ
 without_space [] = []
 without_space (c ∷ cs) = if is_space c then without_space cs else c ∷ cs
 
--- The text is these parts, with white space before and after any of them, and then rest, which begins with no white space.
+-- The text is these parts, with white space before and after any of them, and then rest, which begins with no white
+-- space.
 abbrev pub SpellsParts : List ℕ → List Part → List ℕ → Type 0
 SpellsParts b [] rest = without_space b ≡ rest
 SpellsParts b (p ∷ ps) rest = (more : List ℕ) × (without_space b ≡ text p ++ more) × SpellsParts more ps rest
@@ -73,7 +74,8 @@ text_of_parts ps = flat_map text ps
 -- the text of a tree, with plain names
 abbrev pub tree_text : List (List Property) → Trees → List ℕ
 tree_text nodes children =
-    text_of_parts (opening ∷ (flat_map node_parts (map (map plain_property) nodes) ++ (parts (plain children) ++ (closing ∷ []))))
+    text_of_parts
+    (opening ∷ (flat_map node_parts (map (map plain_property) nodes) ++ (parts (plain children) ++ (closing ∷ []))))
 
 -- each tree's text, then LF
 abbrev pub canonical : Trees → List ℕ

@@ -1,6 +1,7 @@
 -- Places around another one, and what passes from one to the next.
 use Rattle.std.specs.Prelude.{◌≡◌, ◌<◌, ◌&&◌, ℕ, Bool, true, not, cond, List}
-use Rattle.go_board.specs.Rows.{IsIn, IsNext}
+use Rattle.go_board.specs.Rows.{IsIn}
+use Rattle.go_board.specs.inner.Spreading.{IsNext}
 
 -- the place is on a board of n lines and isn't in the set
 abbrev pub IsOpen : List ℕ → ℕ → ℕ → ℕ → Type 0

@@ -1,6 +1,6 @@
 use Rattle.std.proofs.Common.{◌≡◌, ◌<◌, ◌*◌, ◌-◌, ◌^◌, true, false}
 use Rattle.go_board.specs.declared.rows.TheConstants.{ROWS}
-use Rattle.go_board.specs.Rows.{Spread, sum_of_words}
+use Rattle.go_board.specs.inner.Spreading.{Spread, sum_of_words}
 use Rattle.go_board.proofs.rows.grow_all.Given as goal
 
 abbrev pub invariant-loop-more : goal.invariant-loop-more

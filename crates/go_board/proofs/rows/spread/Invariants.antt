@@ -1,6 +1,6 @@
 use Rattle.std.proofs.Common.{◌*◌, ◌-◌, ◌^◌}
 use Rattle.go_board.specs.declared.rows.TheConstants.{ROWS}
-use Rattle.go_board.specs.Rows.{Spread, sum_of_words}
+use Rattle.go_board.specs.inner.Spreading.{Spread, sum_of_words}
 use Rattle.go_board.proofs.rows.spread.Given as goal
 
 abbrev pub invariant-loop : goal.invariant-loop
