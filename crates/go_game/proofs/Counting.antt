@@ -1,6 +1,7 @@
 -- What a move's changes are among those of a game, and what taking it back gives.
 use Rattle.go_game.specs.declared.superko.Superko.{Superko}
-use Rattle.std.proofs.Common.{arith, ◌≡◌, ◌≤◌, ◌+◌, ◌*◌, ◌∙◌, ℕ, zero, suc, ℤ, List, [], ◌∷◌, ◌++◌, length, length-append, map, slice_index, refl, sym, ap, ap₂, subst}
+use Rattle.std.proofs.Common.{arith, ◌≡◌, ◌≤◌, ◌+◌, ◌*◌, ◌∙◌, ℕ, zero, suc, ℤ, List, [], ◌∷◌, ◌++◌, length, length-append, map, slice_index, Option, Some, None, refl, sym, ap, ap₂, subst}
+use Rattle.std.specs.Prelude.{IfNone, IfSome}
 use Rattle.std.proofs.lemmas.List.{append-nil, same_from_push}
 use Rattle.go_board.specs.declared.colour.Colour.{Colour}
 use Rattle.go_board.specs.declared.point.Point.{Point}
@@ -16,9 +17,10 @@ use Rattle.go_game.specs.declared.step.Step.{Step}
 use Rattle.go_game.specs.Changes.{changes_of, own_changes, plays_behind}
 use Rattle.go_game.specs.Counts.{AreLogged, AreTakenBack, IsAsBefore, IsLogged, IsTakenBack}
 use Rattle.go_game.specs.inner.Held.{IsKeeping, made_of, standing_of}
-use Rattle.go_game.specs.Standings.{GameValue}
+use Rattle.go_game.specs.Standings.{GameValue, Standing, with_move, without_last}
 use Rattle.go_game.specs.inner.Trails.{IsTurn, WentThrough}
 use Rattle.go_game.proofs.Played.{made_push}
+use Rattle.go_game.proofs.TakenBack.{taken_back}
 
 own_more : (n : ℕ) (cells : List ℕ) (c : Colour) (v : Vertex) (plays : List (List Change)) (next : List ℕ) (rest tail : List (List Change)) → IsTurn n cells c v plays next rest → own_changes v (plays ++ tail) ≡ own_changes v plays
 own_more n cells c Pass plays next rest tail turn = refl
@@ -105,6 +107,41 @@ pub twice : (before then after : BoardValue) (log log' log'' : List (List Change
     → IsRewound then after log'' log logged.changes ticks ticks' → length after.trace ≤ length before.trace + 2 * most
 twice before then after log log' log'' most ticks ticks' logged back =
     omega (arith, ap length logged.traced, ap length back.traced, length-append before.trace logged.changes, length-append then.trace (undone then.cells logged.changes), undone-length then.cells logged.changes, logged.few)
+
+-- what a play did after cells were read
+pub logged_later : (old new : GameValue) (count most : ℕ) → old.count ≤ count → IsLogged (record old { count = count }) new most → IsLogged old new most
+logged_later old new count most onward logged = record {
+  own = logged.own;
+  gained = logged.gained;
+  traced = logged.traced;
+  back = logged.back;
+  few = logged.few;
+  ticked = let each = logged.ticked in omega (arith, each, onward);
+}
+
+-- behind a move there is one to take back
+pub taken_some : {P : Type 0} (X : Type 0) (s t : Standing) (m : Move) (o : Option Move) → t ≡ with_move s m → IfNone o ((t.moves ≡ []) × X) → IfSome o (λ _. P) → P
+taken_some X s t m None played none some =
+    let long : length t.moves ≡ length (s.moves ++ m ∷ []) = ap (λ (u : Standing). length u.moves) played in
+    absurd (omega (arith, long, length-append s.moves (m ∷ []), ap length none.0))
+taken_some X s t m (Some last) played none some = some
+
+-- a play taken back leaves the game as before it
+module _ (old mid new : GameValue) (m : Move) (most : ℕ) (played : mid.standing ≡ with_move old.standing m) (logged : IsLogged old mid most)
+    (less : new.standing ≡ without_last 1 mid.standing) (back : IsTakenBack mid new) where
+  own_is : (new.changes ≡ old.changes) × (back.own ≡ logged.own)
+  own_is = same_from_push _ _ _ _ (sym back.lost ∙ logged.gained)
+
+  pub played_back : IsAsBefore old new
+  played_back = record {
+    standing = less ∙ ap (without_last 1) played ∙ taken_back old.standing (m ∷ []);
+    cells = back.cells ∙ ap (rewound mid.cells) own_is.1 ∙ logged.back;
+    changes = own_is.0;
+    onward = omega (arith, logged.ticked, back.count);
+  }
+
+  pub back_count : new.count ≤ mid.count + most
+  back_count = let few = logged.few in let same = ap length own_is.1 in omega (arith, few, same, back.count)
 
 -- the game is as before what left it as before
 pub again_as_before : (old mid new : GameValue) → IsAsBefore old mid → IsAsBefore mid new → IsAsBefore old new

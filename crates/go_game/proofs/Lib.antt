@@ -20,4 +20,5 @@ pub mod Placing
 pub mod Puts
 pub mod Undoing
 pub mod Counting
+mod Costs
 pub mod Rules

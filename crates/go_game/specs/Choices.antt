@@ -74,7 +74,8 @@ abbrev pub IsBetter : Standing → Colour → Point → Point → Type 0
 IsBetter s c p q =
     let i = number_of s.lines p in
     let j = number_of s.lines q in
-    (lead_after s c j <ℤ lead_after s c i) ⊎ ((lead_after s c i ≡ lead_after s c j) × (liberties_after s c j < liberties_after s c i))
+    (lead_after s c j <ℤ lead_after s c i)
+    ⊎ ((lead_after s c i ≡ lead_after s c j) × (liberties_after s c j < liberties_after s c i))
 
 -- the play is legal and raises the margin, none is better, and each before it is worse
 pub record IsChosenPlay (s : Standing) (c : Colour) (p : Point) : Type 0 where

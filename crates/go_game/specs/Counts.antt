@@ -1,14 +1,17 @@
 -- The cells of a game's board, the changes of each move, and how many reads and writes they took.
-use Rattle.std.specs.Prelude.{◌≡◌, ◌≤◌, ◌+◌, ◌*◌, ◌++◌, ◌∷◌, [], ℕ, zero, suc, List, None, count_by, length, not, sum_by}
+use Rattle.std.specs.Prelude.{◌≡◌, ◌≤◌, ◌+◌, ◌*◌, ◌++◌, ◌∷◌, ◌⊎◌, [], ℕ, zero, suc, List, None, Result, Err, OnErr, OnOk, count_by, length, not, sum_by}
 use Rattle.go_board.specs.declared.colour.Colour.{Colour}
+use Rattle.go_board.specs.declared.vertex.Move.{Move}
 use Rattle.go_board.specs.declared.vertex.Vertex.{Vertex}
 use Rattle.go_board.specs.declared.vertex.Vertex.TheVariants.{Pass, At}
 use Rattle.go_board.specs.Grids.{GridValue}
 use Rattle.go_board.specs.Points.{number_of}
 use Rattle.go_board.specs.Reaching.{has_colour, points}
 use Rattle.go_chains.specs.declared.change.Change.{Change}
-use Rattle.go_chains.specs.Playing.{most_of}
+use Rattle.go_chains.specs.Playing.{most_of, reads_around}
 use Rattle.go_chains.specs.Rewound.{rewound, undone}
+use Rattle.go_game.specs.declared.error.PlayError.{PlayError}
+use Rattle.go_game.specs.declared.error.PlayError.TheVariants.{Occupied, OffBoard}
 use Rattle.go_game.specs.Standings.{GameValue, Standing, board_of}
 
 -- the most changes that a play makes on the point with this number
@@ -48,6 +51,25 @@ pub record IsLogged (old new : GameValue) (most : ℕ) : Type 0 where
   pub back : rewound new.cells own ≡ old.cells
   pub few : length own ≤ most
   pub ticked : old.count + length own ≤ new.count
+
+-- the reads that a turn has to spare: those of a look around its point
+abbrev pub spare_for : Vertex → ℕ
+spare_for Pass = 0
+spare_for (At p) = reads_around
+
+-- What a turn does to a game beside what it stands for: refused it leaves the game as it was, and made it is logged. The
+-- cells that are read and written are counted, at most three times the most changes, and four times where a play was
+-- taken back; off the board, and where a stone stands, nothing is read or written.
+pub record TurnCosts {A : Type 0} (made : Move) (result : Result A PlayError) (old new : GameValue) : Type 0 where
+  pub err : OnErr result (IsAsBefore old new)
+  pub logged : OnOk result (IsLogged old new (most_for old.standing made.colour made.vertex))
+  pub count : OnOk result (new.count + spare_for made.vertex
+      ≤ old.count + 3 * most_for old.standing made.colour made.vertex)
+  pub refused : OnErr result (new.count + spare_for made.vertex
+      ≤ old.count + 4 * most_for old.standing made.colour made.vertex)
+  pub writes : OnErr result (length new.trace
+      ≤ length old.trace + 2 * most_for old.standing made.colour made.vertex)
+  pub idle : (result ≡ Err OffBoard) ⊎ (result ≡ Err Occupied) → new ≡ old
 
 -- the last move's changes were put back, each at one tick, nothing else was written, and those of the
 -- earlier moves stay

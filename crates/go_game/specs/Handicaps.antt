@@ -26,7 +26,9 @@ middle n = n / 2
 
 -- lower left, upper right, upper left, lower right
 abbrev pub corners : ℕ → List Point
-corners n = crossing (near n) (near n) ∷ crossing (far n) (far n) ∷ crossing (near n) (far n) ∷ crossing (far n) (near n) ∷ []
+corners n =
+    crossing (near n) (near n) ∷ crossing (far n) (far n)
+    ∷ crossing (near n) (far n) ∷ crossing (far n) (near n) ∷ []
 
 -- left and right
 abbrev pub sides : ℕ → List Point

@@ -16,7 +16,8 @@ margin_of s = (pos (100 * area_of s Black) -ℤ pos (100 * area_of s White)) -�
 -- a point and so many hundredths, without zeros at the end
 abbrev pub decimals_of : ℕ → List ℕ
 decimals_of n =
-    if n == 0 then [] else (if n % 10 == 0 then codes "." ++ (48 + n / 10) ∷ [] else codes "." ++ (48 + n / 10) ∷ (48 + n % 10) ∷ [])
+    if n == 0 then []
+    else (if n % 10 == 0 then codes "." ++ (48 + n / 10) ∷ [] else codes "." ++ (48 + n / 10) ∷ (48 + n % 10) ∷ [])
 
 -- so many hundredths as a decimal number
 unfoldable pub size_text : ℕ → List ℕ

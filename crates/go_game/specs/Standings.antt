@@ -25,8 +25,8 @@ pub record Standing : Type 0 where
   pub first : Colour
   pub moves : List Move
 
--- what contracts see of a game: what it stands for, the cells of its board, the changes of each move that stands, all writes
--- to the cells so far, and how many cells were read or written
+-- what contracts see of a game: what it stands for, the cells of its board, the changes of each move that stands,
+-- all writes to the cells so far, and how many cells were read or written
 pub record GameValue : Type 0 where
   pub standing : Standing
   pub cells : List ℕ
@@ -81,7 +81,8 @@ first_moves s k = record s { moves = take k s.moves }
 
 -- an empty board of n lines without a move, Black to move
 abbrev pub empty_start : ℕ → ℤ → Superko → Standing
-empty_start n komi rule = record { lines = n; komi = komi; rule = rule; start = replicate (n * n) None; first = Black; moves = [] }
+empty_start n komi rule =
+    record { lines = n; komi = komi; rule = rule; start = replicate (n * n) None; first = Black; moves = [] }
 
 -- neither a stone nor a move stands
 abbrev pub is_vacant_standing : Standing → Bool
@@ -89,7 +90,8 @@ is_vacant_standing s = not (list_any is_some s.start) && length s.moves == 0
 
 -- no move stands over the colours of this grid, and the rule is the positional one
 abbrev pub started : GridValue → Colour → Standing
-started grid first = record { lines = grid.lines; komi = pos 0; rule = Positional; start = grid.colours; first = first; moves = [] }
+started grid first =
+    record { lines = grid.lines; komi = pos 0; rule = Positional; start = grid.colours; first = first; moves = [] }
 
 -- the colour that is to move: the other than the last mover's
 abbrev pub mover_after : Colour → List Move → Colour
@@ -145,7 +147,8 @@ IsOccupied s (At p) = IsOn s.lines p × (colour_at (board_of s) (number_of s.lin
 
 -- what is seen stood after k moves, and not after fewer
 abbrev pub IsFirstAt : List Seen → Seen → ℕ → Type 0
-IsFirstAt xs x k = (k < length xs) × (slice_index_or xs k ([], None) ≡ x) × ((j : ℕ) → j < k → slice_index_or xs j ([], None) ≢ x)
+IsFirstAt xs x k =
+    (k < length xs) × (slice_index_or xs k ([], None) ≡ x) × ((j : ℕ) → j < k → slice_index_or xs j ([], None) ≢ x)
 
 -- the play would repeat what the rule saw first after k moves
 abbrev pub IsRepeat : Standing → Colour → Vertex → ℕ → Type 0
@@ -164,4 +167,5 @@ pub record IsSound (s : Standing) : Type 0 where
   pub whole : length s.start ≡ s.lines * s.lines
   pub komi : IsKomi s.komi
   pub alive : (p : ℕ) → p < s.lines * s.lines → colour_at s.start p ≢ None → IsTrue (reaches s.lines s.start p None)
-  pub legal : (k : ℕ) (m : Move) → k < length s.moves → slice_index_or s.moves k m ≡ m → IsLegal (first_moves s k) m.colour m.vertex
+  pub legal : (k : ℕ) (m : Move) → k < length s.moves → slice_index_or s.moves k m ≡ m
+      → IsLegal (first_moves s k) m.colour m.vertex

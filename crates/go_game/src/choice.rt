@@ -9,6 +9,16 @@ use go_board::laws::points_by_number;
 use go_board::{Colour, Move, Point, Vertex};
 use std::alloc::{AllocError, Allocator};
 
+/// What is found of a play on an empty point.
+pub enum Judged {
+    /// It leaves what the superko rule saw before.
+    Illegal,
+    /// It is legal and takes nothing. It wasn't played.
+    Quiet,
+    /// It is legal, takes stones, and stands as the last move.
+    Played,
+}
+
 /// A play, and what it comes to for its colour.
 #[derive(Clone, Copy)]
 pub struct Trial {
@@ -44,17 +54,17 @@ fn better_of(earlier: Option<Trial>, later: Option<Trial>) -> Option<Trial>
 impl<A: Allocator + Copy> Game<A> {
     ghost use Rattle.go_chains.specs.Playing.{reads_around};
     ghost use Rattle.go_game.specs.Choices.{chosen, lead_of};
-    ghost use Rattle.go_game.specs.Counts.{IsAsBefore, IsLogged, most_for, most_on_all};
-    ghost use Rattle.go_game.specs.Legal.{MayTake, TakesNothing, is_legal};
-    ghost use Rattle.go_game.specs.Standings.{IsLegal, IsOccupied, IsOffBoard, Seen, after_vertex, board_of, present, stood_of, with_move};
+    ghost use Rattle.go_game.specs.Counts.{IsAsBefore, most_for, most_on_all};
+    ghost use Rattle.go_game.specs.Legal.{MayTake, TakesNothing, is_legal, is_open};
+    ghost use Rattle.go_game.specs.Standings.{IsLegal, IsOccupied, IsOffBoard, Seen, after_vertex, board_of, present, stood_of};
     ghost use Rattle.go_board.specs.Colours.{colour_at};
-    ghost use Rattle.go_game.specs.inner.Trials.{AreHoldings, IsBestTrial, tried_on};
+    ghost use Rattle.go_game.specs.inner.Trials.{AreHoldings, IsBestTrial, IsJudged, tried_on};
     ghost use Rattle.go_board.specs.Grids.{stone_at};
     ghost use Rattle.go_board.specs.Points.{IsOn, number_of};
 
-    /// Whether the rules allow a move; one off the board isn't legal. A pass, and a play that takes
-    /// stones, are tried on the game, and taken back also where there was no memory for them. That
-    /// can't be so where nothing is tried: off the board, on a stone, or where no stone is taken.
+    /// Whether the rules allow a move; one off the board isn't legal. A play that takes stones is
+    /// tried on the game, and taken back also where there was no memory for it. There is memory for
+    /// all else: a pass, a point off the board or with a stone, and a play that takes nothing.
     pub fn legal(&mut self, made: Move) -> Result<bool, AllocError>
         ensures rules { IfOk result
             (λ legal. IsTrue legal ↔ IsLegal self.old.standing made.colour made.vertex) }
@@ -71,85 +81,48 @@ impl<A: Allocator + Copy> Game<A> {
             → self.new.count ≤ self.old.count + reads_around }
     {
         match made.vertex {
-            Vertex::At(p) if self.is_open(p) => self.legal_on(made.colour, p),
-            _ => self.legal_by_playing(made),
+            Vertex::Pass => Ok(true),
+            Vertex::At(p) if !self.is_open(p) => Ok(false),
+            Vertex::At(p) => match self.judge(made.colour, p)? {
+                Judged::Illegal => Ok(false),
+                Judged::Quiet => Ok(true),
+                Judged::Played => {
+                    self.undo();
+                    Ok(true)
+                }
+            },
         }
     }
 
     /// Whether a point is on the board and empty.
     fn is_open(&self, p: Point) -> bool
-        ensures { IsTrue result ↔ (IsOn self.now.standing.lines p
+        ensures point { IsTrue result ↔ (IsOn self.now.standing.lines p
             × (stone_at (present self.now.standing) p ≡ None)) }
+        ensures test { result ≡ is_open self.now.standing (Vertex.At p) }
     {
         p.on(self.size()) && self.colour_at(p).is_none()
     }
 
-    /// Whether the rules allow a play on an empty point. It is played, and taken back, where it may
-    /// take stones.
-    fn legal_on(&mut self, colour: Colour, p: Point) -> Result<bool, AllocError>
+    /// Judges a play on an empty point: by a glance where it takes nothing, and else by playing it.
+    fn judge(&mut self, colour: Colour, p: Point) -> Result<Judged, AllocError>
         requires on { IsOn self.old.standing.lines p }
         requires vacant { stone_at (present self.old.standing) p ≡ None }
-        ensures test { IfOk result
-            (λ legal. legal ≡ is_legal self.old.standing colour (Vertex.At p)) }
+        ensures judged { IfOk result (λ judged. IsJudged colour p judged self.old self.new) }
         ensures memory { OnErr result (MayTake self.old.standing colour (Vertex.At p)) }
-        ensures same { IsAsBefore self.old self.new }
-        ensures count { self.new.count
+        ensures err { OnErr result (IsAsBefore self.old self.new) }
+        ensures most { self.new.count
             ≤ self.old.count + 4 * most_for self.old.standing colour (Vertex.At p) }
         ensures glance { TakesNothing self.old.standing colour p
             → self.new.count ≤ self.old.count + reads_around }
     {
         if self.board.is_quiet(&mut self.meter, colour, p) {
-            return Ok(self.leaves_new(colour, p));
+            let new = self.leaves_new(colour, p);
+            return Ok(if new { Judged::Quiet } else { Judged::Illegal });
         }
-        match self.put_sparing(colour, p) {
-            Ok(_) => {}
-            Err(PlayError::Repeats(_)) => return Ok(false),
-            Err(_) => return Err(AllocError),
-        }
-        let _ = self.undo();
-        Ok(true)
-    }
-
-    /// Whether the rules allow a move, which is played and taken back where they do.
-    fn legal_by_playing(&mut self, made: Move) -> Result<bool, AllocError>
-        ensures test { IfOk result
-            (λ legal. legal ≡ is_legal self.old.standing made.colour made.vertex) }
-        ensures tried { OnErr result ((IsOffBoard self.old.standing made.vertex → ⊥)
-            × (IsOccupied self.old.standing made.vertex → ⊥)) }
-        ensures same { IsAsBefore self.old self.new }
-        ensures count { self.new.count
-            ≤ self.old.count + 4 * most_for self.old.standing made.colour made.vertex }
-    {
-        let legal = self.try_play(made)?;
-        if legal {
-            self.undo();
-        }
-        Ok(legal)
-    }
-
-    /// Plays a move where that is legal, and says whether it was.
-    fn try_play(&mut self, made: Move) -> Result<bool, AllocError>
-        ensures legal { IfOk result
-            (λ legal. legal ≡ is_legal self.old.standing made.colour made.vertex) }
-        ensures played { IfOk result (λ legal. self.new.standing
-            ≡ (if legal then with_move self.old.standing made else self.old.standing)) }
-        ensures refused { IfOk result (λ legal. legal ≡ false → IsAsBefore self.old self.new) }
-        ensures logged { IfOk result (λ legal. legal ≡ true → IsLogged self.old self.new
-            (most_for self.old.standing made.colour made.vertex)) }
-        ensures err { OnErr result (IsAsBefore self.old self.new) }
-        ensures tried { OnErr result ((IsOffBoard self.old.standing made.vertex → ⊥)
-            × (IsOccupied self.old.standing made.vertex → ⊥)) }
-        ensures count { IfOk result (λ legal. legal ≡ true → self.new.count
-            ≤ self.old.count + 3 * most_for self.old.standing made.colour made.vertex) }
-        ensures most { self.new.count
-            ≤ self.old.count + 4 * most_for self.old.standing made.colour made.vertex }
-    {
-        match self.play(made) {
-            Ok(_) => Ok(true),
-            Err(PlayError::Memory) => Err(AllocError),
-            Err(PlayError::OffBoard) => Ok(false),
-            Err(PlayError::Occupied) => Ok(false),
-            Err(PlayError::Repeats(_)) => Ok(false),
+        match self.put(colour, p) {
+            Ok(_) => Ok(Judged::Played),
+            Err(PlayError::Repeats(_)) => Ok(Judged::Illegal),
+            Err(_) => Err(AllocError),
         }
     }
 
@@ -228,19 +201,27 @@ impl<A: Allocator + Copy> Game<A> {
         if self.colour_at(point).is_some() {
             return Ok(None);
         }
-        if !self.board.is_quiet(&mut self.meter, colour, point) {
-            return self.try_by_playing(colour, point);
+        match self.judge(colour, point)? {
+            Judged::Illegal => Ok(None),
+            Judged::Quiet => {
+                let lead = holdings.lead_with(&self.board, colour, point);
+                let liberties = self.board.liberties_with(&mut self.meter, colour, point);
+                Ok(Some(Trial {
+                    point,
+                    lead,
+                    liberties,
+                }))
+            }
+            Judged::Played => {
+                let trial = Trial {
+                    point,
+                    lead: self.lead(colour),
+                    liberties: self.liberties_of(point),
+                };
+                self.undo();
+                Ok(Some(trial))
+            }
         }
-        if !self.leaves_new(colour, point) {
-            return Ok(None);
-        }
-        let lead = holdings.lead_with(&self.board, colour, point);
-        let liberties = self.board.liberties_with(&mut self.meter, colour, point);
-        Ok(Some(Trial {
-            point,
-            lead,
-            liberties,
-        }))
     }
 
     /// Whether a play on an empty point is legal, where it takes nothing: whether the superko rule
@@ -271,30 +252,6 @@ impl<A: Allocator + Copy> Game<A> {
             → colour_at x.0 (number_of self.now.standing.lines p) ≢ Some colour }
     {
         !self.placed.has(colour, p) && self.start_at(p) != Some(colour)
-    }
-
-    /// What the play on an empty point comes to, or none where it isn't legal: it is played, and
-    /// taken back.
-    fn try_by_playing(&mut self, colour: Colour, p: Point) -> Result<Option<Trial>, AllocError>
-        requires on { IsOn self.old.standing.lines p }
-        requires vacant { stone_at (present self.old.standing) p ≡ None }
-        ensures ok { IfOk result (λ trial. trial ≡ tried_on self.old.standing colour p) }
-        ensures same { IsAsBefore self.old self.new }
-        ensures count { self.new.count + reads_around
-            ≤ self.old.count + 4 * most_for self.old.standing colour (Vertex.At p) }
-    {
-        match self.put_sparing(colour, p) {
-            Ok(_) => {}
-            Err(PlayError::Repeats(_)) => return Ok(None),
-            Err(_) => return Err(AllocError),
-        }
-        let trial = Trial {
-            point: p,
-            lead: self.lead(colour),
-            liberties: self.liberties_of(p),
-        };
-        self.undo();
-        Ok(Some(trial))
     }
 
     /// By how many points a colour is ahead, komi aside.

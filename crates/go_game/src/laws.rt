@@ -1,5 +1,5 @@
 //! Laws about what a game stands for, each the contract of a function that does nothing.
-ghost use Rattle.go_game.specs.Laws.{CellsRestored, ChoiceByTheRule, ChoiceIsLegal, LegalByTheRules, MovesTakenBack, PositionalByPositions, SituationalBySituations, WholeStateRestored};
+ghost use Rattle.go_game.specs.Laws.{CellsRestored, ChoiceByTheRule, ChoiceIsLegal, CostsOfATurn, LegalByTheRules, MovesTakenBack, PositionalByPositions, SituationalBySituations, WholeStateRestored};
 
 use go_board::laws::points_by_number;
 
@@ -18,6 +18,12 @@ pub fn whole_state_restored()
 /// `undo` promise of the cells.
 pub fn cells_restored()
     ensures { CellsRestored }
+{}
+
+/// What the costs of a turn come to: how much is counted after a move and after a refusal, that
+/// nothing is counted or written off the board or on a stone, and nothing counted of a pass.
+pub fn costs_of_a_turn()
+    ensures { CostsOfATurn }
 {}
 
 /// Under the positional rule what may not come again is a colouring.

@@ -2,8 +2,7 @@
 ghost use Rattle.std.specs.Prelude.{◌≡◌, ◌≤◌, ◌++◌, ◌∷◌, ◌*◌, [], ◌↔◌, ℕ, Err, IfErr, IfNone, IfOk, IfSome, OnErr, OnOk, Some, None, ◌+◌, ◌⊎◌, length};
 ghost use Rattle.go_board.specs.Grids.{stone_at};
 ghost use Rattle.go_board.specs.Points.{IsOn};
-ghost use Rattle.go_chains.specs.Playing.{reads_around};
-ghost use Rattle.go_game.specs.Counts.{IsAsBefore, IsLogged, IsTakenBack, most_for};
+ghost use Rattle.go_game.specs.Counts.{IsTakenBack, TurnCosts};
 ghost use Rattle.go_history.specs.Histories.{IsChangedAt, IsUnchanged, number_at};
 ghost use Rattle.go_game.specs.Prisoners.{share_of, stones_taken};
 ghost use Rattle.go_game.specs.Standings.{IsLegal, IsOccupied, IsOffBoard, IsRepeat, present, with_move, without_last};
@@ -31,20 +30,7 @@ impl<A: Allocator + Copy> Game<A> {
         ensures played { OnOk result (self.new.standing ≡ with_move self.old.standing made) }
         ensures taken { IfOk result (λ taken. (of : Colour) → share_of made.colour taken of
             ≡ stones_taken self.old.standing made.colour made.vertex of) }
-        ensures err { OnErr result (IsAsBefore self.old self.new) }
-        ensures logged { OnOk result (IsLogged self.old self.new
-            (most_for self.old.standing made.colour made.vertex)) }
-        ensures count { OnOk result (self.new.count
-            ≤ self.old.count + 3 * most_for self.old.standing made.colour made.vertex) }
-        ensures refused { OnErr result (self.new.count
-            ≤ self.old.count + 4 * most_for self.old.standing made.colour made.vertex) }
-        ensures writes { OnErr result (length self.new.trace ≤ length self.old.trace
-            + 2 * most_for self.old.standing made.colour made.vertex) }
-        ensures uncounted { (result ≡ Err PlayError.OffBoard) ⊎ (result ≡ Err PlayError.Occupied)
-            → self.new.count ≡ self.old.count }
-        ensures unwritten { (result ≡ Err PlayError.OffBoard) ⊎ (result ≡ Err PlayError.Occupied)
-            → self.new.trace ≡ self.old.trace }
-        ensures pass { made.vertex ≡ Vertex.Pass → self.new.count ≡ self.old.count }
+        ensures costs { TurnCosts made result self.old self.new }
     {
         let p = match made.vertex {
             Vertex::Pass => return self.pass(made.colour),
@@ -64,10 +50,9 @@ impl<A: Allocator + Copy> Game<A> {
         ensures ok { IfOk result (λ taken. (taken.theirs ≡ 0) × (taken.own ≡ 0)) }
         ensures played { OnOk result (self.new.standing
             ≡ with_move self.old.standing (record { colour = colour; vertex = Vertex.Pass })) }
-        ensures err { OnErr result (self.new ≡ self.old) }
         ensures memory { IfErr result (λ e. e ≡ PlayError.Memory) }
-        ensures logged { OnOk result (IsLogged self.old self.new 0) }
-        ensures count { self.new.count ≡ self.old.count }
+        ensures costs { TurnCosts (record { colour = colour; vertex = Vertex.Pass }) result
+            self.old self.new }
     {
         packs_tell_colourings_apart();
         if self.steps.reserve(1).is_err() {
@@ -89,10 +74,9 @@ impl<A: Allocator + Copy> Game<A> {
         Ok(taken)
     }
 
-    /// Places a stone on an empty point where that is legal. It promises what a play may take and no
-    /// more, so that the bound of `play` stays tight: a read more there isn't hidden by those that
-    /// `put_sparing` spares.
-    fn put(&mut self, colour: Colour, p: Point) -> Result<Taken, PlayError>
+    /// Places a stone on an empty point where that is legal. The board is played on first, and the
+    /// play taken back where it repeats or there is no memory to keep it.
+    pub(crate) fn put(&mut self, colour: Colour, p: Point) -> Result<Taken, PlayError>
         requires on { IsOn self.old.standing.lines p }
         requires vacant { stone_at (present self.old.standing) p ≡ None }
         ensures repeats { (k : ℕ) → result ≡ Err (PlayError.Repeats k)
@@ -102,45 +86,10 @@ impl<A: Allocator + Copy> Game<A> {
             ≡ with_move self.old.standing (record { colour = colour; vertex = Vertex.At p })) }
         ensures taken { IfOk result (λ taken. (of : Colour) → share_of colour taken of
             ≡ stones_taken self.old.standing colour (Vertex.At p) of) }
-        ensures err { OnErr result (IsAsBefore self.old self.new) }
         ensures others { IfErr result (λ e. (e ≡ PlayError.Memory)
             ⊎ ((k : ℕ) × (e ≡ PlayError.Repeats k))) }
-        ensures logged { OnOk result (IsLogged self.old self.new
-            (most_for self.old.standing colour (Vertex.At p))) }
-        ensures count { OnOk result (self.new.count
-            ≤ self.old.count + 3 * most_for self.old.standing colour (Vertex.At p)) }
-        ensures refused { OnErr result (self.new.count
-            ≤ self.old.count + 4 * most_for self.old.standing colour (Vertex.At p)) }
-        ensures writes { OnErr result (length self.new.trace ≤ length self.old.trace
-            + 2 * most_for self.old.standing colour (Vertex.At p)) }
-    {
-        self.put_sparing(colour, p)
-    }
-
-    /// Places a stone on an empty point where that is legal, with so many reads to spare as a look
-    /// around the point takes. The board is played on first, and the play taken back where it
-    /// repeats or there is no memory to keep it.
-    pub(crate) fn put_sparing(&mut self, colour: Colour, p: Point) -> Result<Taken, PlayError>
-        requires on { IsOn self.old.standing.lines p }
-        requires vacant { stone_at (present self.old.standing) p ≡ None }
-        ensures repeats { (k : ℕ) → result ≡ Err (PlayError.Repeats k)
-            → IsRepeat self.old.standing colour (Vertex.At p) k }
-        ensures legal { OnOk result (IsLegal self.old.standing colour (Vertex.At p)) }
-        ensures played { OnOk result (self.new.standing
-            ≡ with_move self.old.standing (record { colour = colour; vertex = Vertex.At p })) }
-        ensures taken { IfOk result (λ taken. (of : Colour) → share_of colour taken of
-            ≡ stones_taken self.old.standing colour (Vertex.At p) of) }
-        ensures err { OnErr result (IsAsBefore self.old self.new) }
-        ensures others { IfErr result (λ e. (e ≡ PlayError.Memory)
-            ⊎ ((k : ℕ) × (e ≡ PlayError.Repeats k))) }
-        ensures logged { OnOk result (IsLogged self.old self.new
-            (most_for self.old.standing colour (Vertex.At p))) }
-        ensures count { OnOk result (self.new.count + reads_around
-            ≤ self.old.count + 3 * most_for self.old.standing colour (Vertex.At p)) }
-        ensures refused { OnErr result (self.new.count + reads_around
-            ≤ self.old.count + 4 * most_for self.old.standing colour (Vertex.At p)) }
-        ensures writes { OnErr result (length self.new.trace ≤ length self.old.trace
-            + 2 * most_for self.old.standing colour (Vertex.At p)) }
+        ensures costs { TurnCosts (record { colour = colour; vertex = Vertex.At p }) result
+            self.old self.new }
     {
         taken_and_left();
         packs_tell_colourings_apart();

@@ -1,5 +1,5 @@
 -- What trials of plays find. For the contracts of the choice's own parts.
-use Rattle.std.specs.Prelude.{◌≡◌, ◌<◌, ◌*◌, ℕ, Bool, true, false, Option, Some, None, if◌then◌else◌, length}
+use Rattle.std.specs.Prelude.{◌≡◌, ◌<◌, ◌≤◌, ◌+◌, ◌*◌, ℕ, Bool, true, false, Option, Some, None, if◌then◌else◌, length, slice_set}
 use Rattle.go_board.specs.declared.colour.Colour.{Colour}
 use Rattle.go_board.specs.declared.point.Point.{Point}
 use Rattle.go_board.specs.declared.vertex.Vertex.TheVariants.{At}
@@ -7,11 +7,15 @@ use Rattle.go_board.specs.Colours.{Colouring, other}
 use Rattle.go_board.specs.Points.{number_of, point_at}
 use Rattle.go_board.specs.Reaching.{area}
 use Rattle.go_board.specs.Rows.{AreHeld, AreStones}
+use Rattle.go_chains.specs.Playing.{reads_around}
+use Rattle.go_game.specs.Counts.{IsAsBefore, IsLogged, most_for}
+use Rattle.go_game.specs.declared.choice.Judged.{Judged}
+use Rattle.go_game.specs.declared.choice.Judged.TheVariants.{Illegal, Played, Quiet}
 use Rattle.go_game.specs.declared.choice.Trial.{Trial}
 use Rattle.go_game.specs.declared.holdings.Holdings.{Holdings}
 use Rattle.go_game.specs.Choices.{is_better, lead_after, liberties_after, may_play, outranks}
-use Rattle.go_game.specs.Legal.{is_legal}
-use Rattle.go_game.specs.Standings.{Standing}
+use Rattle.go_game.specs.Legal.{MayTake, is_legal}
+use Rattle.go_game.specs.Standings.{GameValue, Standing, after_vertex, board_of, with_move}
 
 -- the trial of the play on p
 abbrev pub trial_at : Standing → Colour → ℕ → Trial
@@ -56,3 +60,15 @@ pub record AreHoldings (n : ℕ) (g : Colouring) (c : Colour) (h : Holdings) : T
   pub theirs_held : AreHeld n g (other c) h.theirs_held
   pub own_area : h.own_area ≡ area n g c
   pub theirs_area : h.theirs_area ≡ area n g (other c)
+
+-- what is found of a play on p: an illegal one, and one that takes nothing, leave the game as it was; any other is the last move
+abbrev pub IsJudged : Colour → Point → Judged → GameValue → GameValue → Type 0
+IsJudged c p Illegal old new = (is_legal old.standing c (At p) ≡ false) × IsAsBefore old new
+IsJudged c p Quiet old new = (is_legal old.standing c (At p) ≡ true) × IsAsBefore old new
+    × (after_vertex old.standing.lines (board_of old.standing) c (At p)
+    ≡ slice_set (board_of old.standing) (number_of old.standing.lines p) (Some c))
+    × (new.count ≤ old.count + reads_around)
+IsJudged c p Played old new = (is_legal old.standing c (At p) ≡ true) × MayTake old.standing c (At p)
+    × (new.standing ≡ with_move old.standing (record { colour = c; vertex = At p }))
+    × IsLogged old new (most_for old.standing c (At p))
+    × (new.count ≤ old.count + 3 * most_for old.standing c (At p))

@@ -32,7 +32,7 @@ returns-in-Ok-clause-writes g c =
     let now = grid_of c.args.board.now in
     let i = c.args.number in
     let colour = c.in-Some.colour in
-    let logged = c.in-Ok.ensures.logged in
+    let logged = c.in-Ok.ensures.costs.logged in
     let at : number_of n c.numbered-at.result ≡ i = ap (λ m. number_of m c.numbered-at.result) (sym c.size.ensures.lines) ∙ c.numbered-at.ensures.back in
     let whole : length colours ≡ n * n = c.size.ensures.whole ∙ ap (λ m. let k : ℕ = m * m in k) c.size.ensures.lines in
     let stone : colour_at colours i ≡ Some colour = ap (colour_at colours) (sym at) ∙ sym c.get.ensures ∙ c.in-Some.is in

@@ -1,4 +1,4 @@
-use Rattle.std.proofs.Common.{arith, ◌≡◌, ◌∙◌, ◌+◌, ◌++◌, ◌∷◌, [], ℕ, List, Ok, Option, Result, ap, cond, length, map, refl, sym, subst}
+use Rattle.std.proofs.Common.{arith, ◌≡◌, ◌∙◌, ◌+◌, ◌++◌, ◌∷◌, [], ℕ, List, Ok, Option, Result, ap, cond, length, map, refl, rules, sym, subst}
 use Rattle.std.specs.declared.alloc.AllocError.{AllocError}
 use Rattle.go_board.specs.PackBytes.{bytes_of}
 use Rattle.go_game.specs.declared.step.Step.{Step}
@@ -30,12 +30,19 @@ invariant_of-self-2 g c =
           (placed_now c.self.inside.superko c.self.inside.start.lines c.self.inside.start.colours c.self.inside.start.colours c.self.inside.first (map made_of c.self.inside.steps.items) c.self.inside.placed c.self.invariant.1) c.self.invariant.1,
     )
 
-pub returns-clause-logged : goal.returns-clause-logged
-returns-clause-logged g c =
+pub returns-clause-costs : goal.returns-clause-costs
+returns-clause-costs g c =
     let pushed : c.push-pushed.new.self.items ≡ c.self.inside.steps.items ++ passed c.args.colour ∷ [] =
     c.push-pushed.ensures.items ∙ ap (λ b. let xs : List Step = cond b (c.reserve.new.self.items ++ passed c.args.colour ∷ []) c.reserve.new.self.items in xs) (sym c.if-prove.ensures.value)
     ∙ ap (λ (xs : List Step). xs ++ passed c.args.colour ∷ []) c.reserve.ensures.items in
     let new : GameValue = seen c.self.inside.superko c.self.inside.start c.self.inside.komi c.self.inside.first c.push-pushed.new.self.items c.self.inside.board c.self.inside.log c.self.inside.meter in
-    subst (λ (v : GameValue). IsLogged v new 0) c.self.view_is
-    (logged_pass c.self.inside.superko c.self.inside.start c.self.inside.komi c.self.inside.first c.self.inside.steps.items c.self.inside.board c.self.inside.log c.self.inside.history
-    c.self.inside.prisoners.black c.self.inside.prisoners.white c.self.invariant.0 c.push-pushed.new.self.items (passed c.args.colour) pushed refl c.self.inside.meter)
+    record {
+      err = search rules;
+      logged = subst (λ (v : GameValue). IsLogged v new 0) c.self.view_is
+          (logged_pass c.self.inside.superko c.self.inside.start c.self.inside.komi c.self.inside.first c.self.inside.steps.items c.self.inside.board c.self.inside.log c.self.inside.history
+          c.self.inside.prisoners.black c.self.inside.prisoners.white c.self.invariant.0 c.push-pushed.new.self.items (passed c.args.colour) pushed refl c.self.inside.meter);
+      count = search rules;
+      refused = search rules;
+      writes = search rules;
+      idle = search rules;
+    }

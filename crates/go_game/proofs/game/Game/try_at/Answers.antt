@@ -1,19 +1,35 @@
-use Rattle.std.proofs.Common.{rules, arith, true≢false, sym, subst, ◌≡◌, ◌∙◌, ℤ, Option, Some, ap, refl, to_z, of_z, w32}
+use Rattle.std.proofs.Common.{arith, ◌≡◌, subst, to_z, of_z, w32}
 use Rattle.std.proofs.lemmas.Int.{ints}
-use Rattle.go_game.specs.declared.choice.Trial.{Trial}
-use Rattle.go_game.specs.Legal.{TakesNothing}
-use Rattle.go_game.specs.Standings.{GameValue}
-use Rattle.go_game.proofs.Puts.{still_is}
+use Rattle.go_board.specs.declared.vertex.Move.{Move}
+use Rattle.go_board.specs.declared.vertex.Vertex.TheVariants.{At}
+use Rattle.go_game.specs.declared.choice.Judged.{Judged}
+use Rattle.go_game.specs.Counts.{IsTakenBack, most_for}
+use Rattle.go_game.specs.inner.Trials.{IsJudged}
+use Rattle.go_game.proofs.Choosing.{tried_is}
+use Rattle.go_game.proofs.Counting.{back_count, played_back, taken_some}
 use Rattle.go_game.proofs.game.Game.try_at.Goals as goal
 
-pub returns-clause-ok : goal.returns-clause-ok
-returns-clause-ok g c =
-    let back : to_z w32 (of_z w32 c.lead_with-lead.result) ≡ c.lead_with-lead.result = omega (arith, ints, c.lead_with-lead.type_inv) in
-    let quiet = c.if-not-is_quiet.ensures.quiet.0 refl in
-    ap (λ (l : ℤ). let t : Option Trial = Some (record { point = c.args.point; lead = l; liberties = c.liberties_with-liberties.result }) in t) back ∙ (search (rules, quiet))
+pub returns-in-Played-clause-ok : goal.returns-in-Played-clause-ok
+returns-in-Played-clause-ok g c =
+    let s = c.args.self.now.standing in
+    let played = subst (λ (j : Judged). IsJudged c.args.colour c.args.point j c.args.self.now c.judge.new.self) c.in-Played.is c.in_ok-judge.ensures.judged in
+    let kept : to_z w32 (of_z w32 c.lead.result) ≡ c.lead.result = omega (arith, ints) in
+    tried_is s c.judge.new.self.standing c.args.colour c.args.point (to_z w32 (of_z w32 c.lead.result)) c.lead.result c.liberties_of.result
+    played.0 played.2 kept c.lead.ensures c.liberties_of.ensures
 
--- a play that takes nothing isn't played
-pub returns-then-not-is_quiet-clause-glance : goal.returns-then-not-is_quiet-clause-glance
-returns-then-not-is_quiet-clause-glance g c nothing =
-    let still = subst (λ (v : GameValue). TakesNothing v.standing c.args.colour c.args.point) (sym c.self.view_is) nothing in
-    absurd (true≢false (sym (c.is_quiet.ensures.quiet.1 (still_is c.self.inside.superko c.self.inside.start c.self.inside.komi c.self.inside.first c.self.inside.steps.items c.self.inside.board c.self.inside.log c.self.inside.history c.self.inside.prisoners.black c.self.inside.prisoners.white c.self.invariant.0 c.args.colour c.args.point still.2)) ∙ c.if-not-is_quiet.true))
+pub returns-in-Played-clause-same : goal.returns-in-Played-clause-same
+returns-in-Played-clause-same g c =
+    let s = c.args.self.now.standing in
+    let made : Move = record { colour = c.args.colour; vertex = At c.args.point } in
+    let played = subst (λ (j : Judged). IsJudged c.args.colour c.args.point j c.args.self.now c.judge.new.self) c.in-Played.is c.in_ok-judge.ensures.judged in
+    let back : IsTakenBack c.judge.new.self c.undo.new.self = taken_some _ s c.judge.new.self.standing made c.undo.result played.2 c.undo.ensures.none c.undo.ensures.back in
+    played_back c.args.self.now c.judge.new.self c.undo.new.self made (most_for s c.args.colour (At c.args.point)) played.2 played.3 c.undo.ensures.after back
+
+pub returns-in-Played-clause-count : goal.returns-in-Played-clause-count
+returns-in-Played-clause-count g c =
+    let s = c.args.self.now.standing in
+    let made : Move = record { colour = c.args.colour; vertex = At c.args.point } in
+    let played = subst (λ (j : Judged). IsJudged c.args.colour c.args.point j c.args.self.now c.judge.new.self) c.in-Played.is c.in_ok-judge.ensures.judged in
+    let back : IsTakenBack c.judge.new.self c.undo.new.self = taken_some _ s c.judge.new.self.standing made c.undo.result played.2 c.undo.ensures.none c.undo.ensures.back in
+    let less = back_count c.args.self.now c.judge.new.self c.undo.new.self made (most_for s c.args.colour (At c.args.point)) played.2 played.3 c.undo.ensures.after back in
+    omega (arith, less, played.4)

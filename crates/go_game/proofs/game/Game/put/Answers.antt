@@ -16,7 +16,7 @@ use Rattle.go_game.proofs.Placing.{placed_more, placed_now, placed_put}
 use Rattle.go_game.proofs.Played.{made_push, room_held}
 use Rattle.go_game.proofs.Puts.{legal_put, most_is, no_stone, occupied_stone, played_put, repeats_put, same_error, taken_put}
 use Rattle.go_game.proofs.Turns.{keep_put, placed, rewinds, whole_board}
-use Rattle.go_game.proofs.game.Game.put_sparing.Goals as goal
+use Rattle.go_game.proofs.game.Game.put.Goals as goal
 
 pub returns-in-Err-Occupied-clause-others : goal.returns-in-Err-Occupied-clause-others
 returns-in-Err-Occupied-clause-others g c =
@@ -54,7 +54,7 @@ add-requires-clause-white g c =
 pub rewind-requires-clause-cells : goal.rewind-requires-clause-cells
 rewind-requires-clause-cells g c earlier changes split =
     rewinds c.self.inside.superko c.self.inside.start c.self.inside.komi c.self.inside.first c.self.inside.steps.items c.self.inside.board c.play.new.self c.self.inside.log c.play.new.log c.self.inside.history c.self.inside.prisoners.black c.self.inside.prisoners.white _
-    c.self.invariant.0 c.play.ensures.lines c.in-Ok.ensures.logged earlier changes split
+    c.self.invariant.0 c.play.ensures.lines c.in-Ok.ensures.costs.logged earlier changes split
 
 pub invariant_of-self-in-Ok-note : goal.invariant_of-self-in-Ok-note
 invariant_of-self-in-Ok-note g c =
@@ -67,7 +67,7 @@ invariant_of-self-in-Ok-note g c =
             lines = c.play.ensures.lines;
             moved_to = c.in-Ok.ensures.moved;
             most = most_of c.self.inside.board.lines (grid_of c.self.inside.board) c.args.colour (number_of c.self.inside.board.lines c.args.p);
-            logged = c.in-Ok.ensures.logged;
+            logged = c.in-Ok.ensures.costs.logged;
             kept = c.play.ensures.kept;
             packs = ap bytes_of c.key-key.ensures.pack ∙ c.pack.ensures;
             mover = c.key-key.ensures.mover ∙ ap (mover_by c.self.inside.superko) c.other.ensures;
@@ -87,56 +87,61 @@ invariant_of-self-in-Err g c = (
   subst (λ (xs : List Step). AreOfPlaced c.self.inside.start.lines c.self.inside.start.colours c.self.inside.placed (stood c.self.inside.superko c.self.inside.start.lines c.self.inside.start.colours c.self.inside.first (map made_of xs))) (sym c.in-Err.ensures.steps) c.self.invariant.1,
 )
 
-pub returns-in-Ok-note-clause-logged : goal.returns-in-Ok-note-clause-logged
-returns-in-Ok-note-clause-logged g c =
+pub returns-in-Ok-note-clause-costs : goal.returns-in-Ok-note-clause-costs
+returns-in-Ok-note-clause-costs g c =
     let most : most_of c.self.inside.board.lines (grid_of c.self.inside.board) c.args.colour (number_of c.self.inside.board.lines c.args.p) ≡ most_for c.args.self.now.standing c.args.colour (At c.args.p) =
     most_is c.self.inside.superko c.self.inside.start c.self.inside.komi c.self.inside.first c.self.inside.steps.items c.self.inside.board c.self.inside.log c.self.inside.history c.self.inside.prisoners.black c.self.inside.prisoners.white c.self.invariant.0 c.args.colour c.args.p ∙ ap (λ (v : GameValue). most_for v.standing c.args.colour (At c.args.p)) c.self.view_is in
     let before : c.self.inside.meter ≡ c.args.self.now.count = ap (λ (v : GameValue). v.count) c.self.view_is in
+    let ticks = c.play.ensures.costs.count in
     let new : GameValue = seen c.self.inside.superko c.self.inside.start c.self.inside.komi c.self.inside.first c.note.new.steps.items c.play.new.self c.play.new.log c.play.new.meter in
-    subst (λ (v : GameValue). IsLogged v new (most_for c.args.self.now.standing c.args.colour (At c.args.p))) c.self.view_is
-    (logged_put c.self.inside.superko c.self.inside.start c.self.inside.komi c.self.inside.first c.self.inside.steps.items c.self.inside.board c.self.inside.log c.self.inside.history c.self.inside.prisoners.black c.self.inside.prisoners.white c.self.invariant.0 c.note.new.steps.items (placed c.args.colour c.args.p c.in-Ok.taken) c.in-Ok-note.ensures.pushed c.args.p refl
-    c.play.new.self c.play.new.log (most_of c.self.inside.board.lines (grid_of c.self.inside.board) c.args.colour (number_of c.self.inside.board.lines c.args.p)) (most_for c.args.self.now.standing c.args.colour (At c.args.p)) c.self.inside.meter c.play.new.meter c.in-Ok.ensures.logged most c.play.ensures.ticked)
+    record {
+      err = search rules;
+      logged = subst (λ (v : GameValue). IsLogged v new (most_for c.args.self.now.standing c.args.colour (At c.args.p))) c.self.view_is
+          (logged_put c.self.inside.superko c.self.inside.start c.self.inside.komi c.self.inside.first c.self.inside.steps.items c.self.inside.board c.self.inside.log c.self.inside.history c.self.inside.prisoners.black c.self.inside.prisoners.white c.self.invariant.0 c.note.new.steps.items (placed c.args.colour c.args.p c.in-Ok.taken) c.in-Ok-note.ensures.pushed c.args.p refl
+          c.play.new.self c.play.new.log (most_of c.self.inside.board.lines (grid_of c.self.inside.board) c.args.colour (number_of c.self.inside.board.lines c.args.p)) (most_for c.args.self.now.standing c.args.colour (At c.args.p)) c.self.inside.meter c.play.new.meter c.in-Ok.ensures.costs.logged most c.play.ensures.costs.ticked);
+      count = omega (arith, most, before, ticks);
+      refused = search rules;
+      writes = search rules;
+      idle = search rules;
+    }
 
-pub returns-in-Ok-note-clause-count : goal.returns-in-Ok-note-clause-count
-returns-in-Ok-note-clause-count g c =
+pub returns-in-Err-Occupied-clause-costs : goal.returns-in-Err-Occupied-clause-costs
+returns-in-Err-Occupied-clause-costs g c =
+    let playable = subst (λ (v : GameValue). IsPlayable v.standing.lines (board_of v.standing) (At c.args.p)) (sym c.self.view_is) (c.requires.on, c.requires.vacant) in
+    absurd (no_stone c.self.inside.superko c.self.inside.start c.self.inside.komi c.self.inside.first c.self.inside.steps.items c.self.inside.board c.self.inside.log c.self.inside.history c.self.inside.prisoners.black c.self.inside.prisoners.white c.self.invariant.0 c.args.colour c.args.p playable (occupied_stone c.play.result c.in-Err-Occupied.field-0 c.in-Err-Occupied.is c.in-Err-Occupied.field-0-is c.play.ensures.occupied))
+
+pub returns-in-Err-Memory-clause-costs : goal.returns-in-Err-Memory-clause-costs
+returns-in-Err-Memory-clause-costs g c =
     let most : most_of c.self.inside.board.lines (grid_of c.self.inside.board) c.args.colour (number_of c.self.inside.board.lines c.args.p) ≡ most_for c.args.self.now.standing c.args.colour (At c.args.p) =
     most_is c.self.inside.superko c.self.inside.start c.self.inside.komi c.self.inside.first c.self.inside.steps.items c.self.inside.board c.self.inside.log c.self.inside.history c.self.inside.prisoners.black c.self.inside.prisoners.white c.self.invariant.0 c.args.colour c.args.p ∙ ap (λ (v : GameValue). most_for v.standing c.args.colour (At c.args.p)) c.self.view_is in
     let before : c.self.inside.meter ≡ c.args.self.now.count = ap (λ (v : GameValue). v.count) c.self.view_is in
-    let ticks = c.play.ensures.count in omega (arith, most, before, ticks)
+    let ticks = c.play.ensures.costs.count in
+    record {
+      err = search rules;
+      logged = search rules;
+      count = search rules;
+      refused = omega (arith, most, before, ticks);
+      writes = search rules;
+      idle = search rules;
+    }
 
-pub returns-in-Err-Occupied-clause-refused : goal.returns-in-Err-Occupied-clause-refused
-returns-in-Err-Occupied-clause-refused g c =
+pub returns-in-Err-clause-costs : goal.returns-in-Err-clause-costs
+returns-in-Err-clause-costs g c =
     let most : most_of c.self.inside.board.lines (grid_of c.self.inside.board) c.args.colour (number_of c.self.inside.board.lines c.args.p) ≡ most_for c.args.self.now.standing c.args.colour (At c.args.p) =
     most_is c.self.inside.superko c.self.inside.start c.self.inside.komi c.self.inside.first c.self.inside.steps.items c.self.inside.board c.self.inside.log c.self.inside.history c.self.inside.prisoners.black c.self.inside.prisoners.white c.self.invariant.0 c.args.colour c.args.p ∙ ap (λ (v : GameValue). most_for v.standing c.args.colour (At c.args.p)) c.self.view_is in
     let before : c.self.inside.meter ≡ c.args.self.now.count = ap (λ (v : GameValue). v.count) c.self.view_is in
-    let ticks = c.play.ensures.count in omega (arith, most, before, ticks)
-
-pub returns-in-Err-Memory-clause-refused : goal.returns-in-Err-Memory-clause-refused
-returns-in-Err-Memory-clause-refused g c =
-    let most : most_of c.self.inside.board.lines (grid_of c.self.inside.board) c.args.colour (number_of c.self.inside.board.lines c.args.p) ≡ most_for c.args.self.now.standing c.args.colour (At c.args.p) =
-    most_is c.self.inside.superko c.self.inside.start c.self.inside.komi c.self.inside.first c.self.inside.steps.items c.self.inside.board c.self.inside.log c.self.inside.history c.self.inside.prisoners.black c.self.inside.prisoners.white c.self.invariant.0 c.args.colour c.args.p ∙ ap (λ (v : GameValue). most_for v.standing c.args.colour (At c.args.p)) c.self.view_is in
-    let before : c.self.inside.meter ≡ c.args.self.now.count = ap (λ (v : GameValue). v.count) c.self.view_is in
-    let ticks = c.play.ensures.count in omega (arith, most, before, ticks)
-
-pub returns-in-Err-clause-writes : goal.returns-in-Err-clause-writes
-returns-in-Err-clause-writes g c =
-    let most : most_of c.self.inside.board.lines (grid_of c.self.inside.board) c.args.colour (number_of c.self.inside.board.lines c.args.p) ≡ most_for c.args.self.now.standing c.args.colour (At c.args.p) =
-    most_is c.self.inside.superko c.self.inside.start c.self.inside.komi c.self.inside.first c.self.inside.steps.items c.self.inside.board c.self.inside.log c.self.inside.history c.self.inside.prisoners.black c.self.inside.prisoners.white c.self.invariant.0 c.args.colour c.args.p ∙ ap (λ (v : GameValue). most_for v.standing c.args.colour (At c.args.p)) c.self.view_is in
-    let before : length c.self.inside.board.trace ≡ length c.args.self.now.trace = ap (λ (v : GameValue). length v.trace) c.self.view_is in
-    let logged = c.in-Ok.ensures.logged in
-    let written = twice c.self.inside.board c.play.new.self c.rewind.new.self c.self.inside.log c.play.new.log c.rewind.new.log _ _ _ logged (c.rewind.ensures.rewound c.self.inside.log logged.changes logged.gained) in
-    omega (arith, most, before, written)
-
-pub returns-in-Err-clause-refused : goal.returns-in-Err-clause-refused
-returns-in-Err-clause-refused g c =
-    let most : most_of c.self.inside.board.lines (grid_of c.self.inside.board) c.args.colour (number_of c.self.inside.board.lines c.args.p) ≡ most_for c.args.self.now.standing c.args.colour (At c.args.p) =
-    most_is c.self.inside.superko c.self.inside.start c.self.inside.komi c.self.inside.first c.self.inside.steps.items c.self.inside.board c.self.inside.log c.self.inside.history c.self.inside.prisoners.black c.self.inside.prisoners.white c.self.invariant.0 c.args.colour c.args.p ∙ ap (λ (v : GameValue). most_for v.standing c.args.colour (At c.args.p)) c.self.view_is in
-    let before : c.self.inside.meter ≡ c.args.self.now.count = ap (λ (v : GameValue). v.count) c.self.view_is in
-    let ticks = c.play.ensures.count in
-    let logged = c.in-Ok.ensures.logged in
+    let ticks = c.play.ensures.costs.count in
+    let long : length c.self.inside.board.trace ≡ length c.args.self.now.trace = ap (λ (v : GameValue). length v.trace) c.self.view_is in
+    let logged = c.in-Ok.ensures.costs.logged in
     let few = logged.few in
-    let back = (c.rewind.ensures.rewound c.self.inside.log logged.changes logged.gained).count in
-    omega (arith, most, before, ticks, few, back)
-
-pub returns-in-Err-clause-err : goal.returns-in-Err-clause-err
-returns-in-Err-clause-err g c = search rules
+    let put = c.rewind.ensures.rewound c.self.inside.log logged.changes logged.gained in
+    let back = put.count in
+    let written = twice c.self.inside.board c.play.new.self c.rewind.new.self c.self.inside.log c.play.new.log c.rewind.new.log _ _ _ logged put in
+    record {
+      err = search rules;
+      logged = search rules;
+      count = search rules;
+      refused = omega (arith, most, before, ticks, few, back);
+      writes = omega (arith, most, long, written);
+      idle = search rules;
+    }
