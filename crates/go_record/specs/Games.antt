@@ -53,7 +53,8 @@ number_by value (Some k) = number_of_both (number_in (take k value)) (number_in 
 
 abbrev pub lines_in : List ℕ → Option ℕ
 lines_in value =
-    if is_blank_value value then Some USUAL_LINES else option_and_then size_with (number_by value (position (λ b. b == 58) value))
+    if is_blank_value value then Some USUAL_LINES
+    else option_and_then size_with (number_by value (position (λ b. b == 58) value))
 
 abbrev pub komi_in : List ℕ → Option ℤ
 komi_in value = if is_blank_value value then Some (pos 0) else hundredths_by value

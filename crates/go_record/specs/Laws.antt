@@ -25,15 +25,16 @@ SoundGames = (c : Trees) (number : Option ℕ) (s : Standing) → IsGameOf c num
 abbrev pub JudgedByPositions : Type 0
 JudgedByPositions = (c : Trees) (number : Option ℕ) (s : Standing) → IsGameOf c number (Ok s) → s.rule ≡ Positional
 
--- A standing's record can be spelled, and its text spells it and nothing else, so that it is read, if it isn't too long; where the
--- standing is under the positional rule, what is read comes to it and to nothing else.
+-- A standing's record can be spelled, and its text spells it and nothing else, so that it is read, if it isn't too
+-- long; where the standing is under the positional rule, what is read comes to it and to nothing else.
 pub record Records (s : Standing) : Type 0 where
   pub fit : IsFit (game_tree s)
   pub spelled : Spells (record_of s) (game_tree s)
   pub alone : (c : Trees) → Spells (record_of s) c → c ≡ game_tree s
   pub read : (why : SgfError) → IsRefusal (record_of s) why → length (record_of s) ≤ MAX_RECORD → why ≡ Memory
   pub game : s.rule ≡ Positional → IsGameOf (game_tree s) None (Ok s)
-  pub back : s.rule ≡ Positional → (c : Trees) (outcome : Outcome) → Spells (record_of s) c → IsGameOf c None outcome → outcome ≡ Ok s
+  pub back : s.rule ≡ Positional → (c : Trees) (outcome : Outcome)
+      → Spells (record_of s) c → IsGameOf c None outcome → outcome ≡ Ok s
 
 -- so for every standing that play can come to
 abbrev pub RecordLaw : Type 0

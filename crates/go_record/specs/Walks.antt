@@ -49,7 +49,8 @@ Plays s (stones node colour values ∷ events) outcome = outcome ≡ Err (SetupA
 Plays s (turn node value ∷ events) outcome = Plays s events outcome
 Plays s (move_met node colour value ∷ events) outcome =
     OrBad node (vertex_in s.lines value) outcome (λ v.
-    (IsLegal s colour v × Plays (with_move s (record { colour = colour; vertex = v })) events outcome) ⊎ IsRefused s colour v outcome)
+    (IsLegal s colour v × Plays (with_move s (record { colour = colour; vertex = v })) events outcome)
+      ⊎ IsRefused s colour v outcome)
 
 -- these points get the colour, or are emptied
 abbrev pub with_points : ℕ → Option Colour → Colouring → List Point → Colouring
@@ -70,7 +71,8 @@ opening_mover n g None = if holds_stones n g Black && not (holds_stones n g Whit
 
 -- records are judged by the positional rule
 abbrev pub start_of : ℕ → ℤ → Colouring → Option Colour → Standing
-start_of n komi g given = record { lines = n; komi = komi; rule = Positional; start = g; first = opening_mover n g given; moves = [] }
+start_of n komi g given =
+    record { lines = n; komi = komi; rule = Positional; start = g; first = opening_mover n g given; moves = [] }
 
 -- The start has a stone that doesn't reach empty.
 pub record IsDeadSetup (n : ℕ) (g : Colouring) (outcome : Outcome) : Type 0 where
@@ -80,13 +82,15 @@ pub record IsDeadSetup (n : ℕ) (g : Colouring) (outcome : Outcome) : Type 0 wh
 
 -- the start is judged, and then the moves
 abbrev pub Begins : ℕ → ℤ → Colouring → Option Colour → List Event → Outcome → Type 0
-Begins n komi g given events outcome = (AreAlive n g × Plays (start_of n komi g given) events outcome) ⊎ IsDeadSetup n g outcome
+Begins n komi g given events outcome =
+    (AreAlive n g × Plays (start_of n komi g given) events outcome) ⊎ IsDeadSetup n g outcome
 
 -- Before the first move: stones are set up, and the colour to move is given.
 unfoldable pub SetsUp : ℕ → ℤ → Colouring → Option Colour → List Event → Outcome → Type 0
 SetsUp n komi g given [] outcome = Begins n komi g given [] outcome
 SetsUp n komi g given (stones node colour values ∷ events) outcome =
-    OrBad node (points_by_values n values) outcome (λ ps. SetsUp n komi (with_points n colour g ps) given events outcome)
+    OrBad node (points_by_values n values) outcome
+      (λ ps. SetsUp n komi (with_points n colour g ps) given events outcome)
 SetsUp n komi g given (turn node value ∷ events) outcome =
     OrBad node (colour_stated value) outcome (λ c. SetsUp n komi g (Some c) events outcome)
 SetsUp n komi g given (move_met node colour value ∷ events) outcome =
