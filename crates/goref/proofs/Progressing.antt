@@ -8,7 +8,8 @@ use Rattle.goref_session.specs.declared.flow.Flow.{Flow}
 use Rattle.goref_session.specs.declared.flow.Flow.TheVariants.{More, Quit}
 use Rattle.go_game.specs.Standings.{Standing}
 use Rattle.goref_lines.specs.Kept.{Kept, kept}
-use Rattle.goref.specs.Lines.{lines, complete_lines, unfinished_line, if_any, HasNoEnd}
+use Rattle.goref.specs.Lines.{lines, complete_lines, unfinished_line, if_any}
+use Rattle.goref.specs.inner.Progress.{HasNoEnd}
 use Rattle.goref_session.specs.Contents.{Content}
 use Rattle.goref.specs.Shelves.{Pair, then_pairs}
 use Rattle.goref_session.specs.Replies.{Said, Reply, wanted}

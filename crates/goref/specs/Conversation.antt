@@ -16,16 +16,19 @@ AsksShelf (Some name) content asked = asked ≡ (name, content) ∷ []
 -- over the standing that the one before it left, up to one that ends the session
 pub data Conversation : Standing → List (List ℕ) → List Pair → List ℕ → Type 0 where
   ends : (s : Standing) → Conversation s [] [] []
-  quits : (s : Standing) (line : List ℕ) (lines : List (List ℕ)) (content : Content) (asked : List Pair) (reply : Said) →
+  quits : (s : Standing) (line : List ℕ) (lines : List (List ℕ)) (content : Content) (asked : List Pair)
+      (reply : Said) →
       AsksShelf (wanted (kept line)) content asked → Reply s (kept line) content reply → reply.ends ≡ true →
       Conversation s (line ∷ lines) asked reply.text
-  goes_on : (s : Standing) (line : List ℕ) (lines : List (List ℕ)) (content : Content) (asked : List Pair) (reply : Said) (later : List Pair) (rest : List ℕ) →
+  goes_on : (s : Standing) (line : List ℕ) (lines : List (List ℕ)) (content : Content) (asked : List Pair)
+      (reply : Said) (later : List Pair) (rest : List ℕ) →
       AsksShelf (wanted (kept line)) content asked → Reply s (kept line) content reply → reply.ends ≡ false →
       Conversation reply.standing lines later rest →
       Conversation s (line ∷ lines) (asked ++ later) (reply.text ++ rest)
 
 -- a run that answered these lines, by what the shelf was asked and what the writer took
-pub record Converses (s : Standing) (lines : List (List ℕ)) (given given' : Option (List Pair)) (taken taken' : Option (List ℕ)) : Type 0 where
+pub record Converses (s : Standing) (lines : List (List ℕ)) (given given' : Option (List Pair))
+    (taken taken' : Option (List ℕ)) : Type 0 where
   pub asked : List Pair
   pub text : List ℕ
   pub is : Conversation s lines asked text
@@ -33,7 +36,8 @@ pub record Converses (s : Standing) (lines : List (List ℕ)) (given given' : Op
   pub took : taken' ≡ then_bytes taken text
 
 -- a run that broke off: what was asked and what was taken are fronts of a session over these lines
-pub record BreaksOff (s : Standing) (lines : List (List ℕ)) (given given' : Option (List Pair)) (taken taken' : Option (List ℕ)) : Type 0 where
+pub record BreaksOff (s : Standing) (lines : List (List ℕ)) (given given' : Option (List Pair))
+    (taken taken' : Option (List ℕ)) : Type 0 where
   pub asked : List Pair
   pub later : List Pair
   pub text : List ℕ

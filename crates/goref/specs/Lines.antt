@@ -1,5 +1,5 @@
 -- The lines of a text: what stands between its line ends, and behind the last where that is not empty.
-use Rattle.std.specs.Prelude.{◌≡◌, ℕ, ◌==◌, Bool, false, List, [], ◌∷◌, ◌++◌}
+use Rattle.std.specs.Prelude.{ℕ, ◌==◌, Bool, List, [], ◌∷◌, ◌++◌}
 use Rattle.std.specs.List.{slice_split}
 
 -- LF
@@ -34,8 +34,3 @@ if_any (b ∷ line) = (b ∷ line) ∷ []
 -- the lines of a text; a last one without LF counts if it has a byte
 abbrev pub lines : List ℕ → List (List ℕ)
 lines text = complete_lines text ++ if_any (unfinished_line text)
-
--- no byte of it ends a line
-abbrev pub HasNoEnd : List ℕ → Type 0
-HasNoEnd [] = Unit {0}
-HasNoEnd (b ∷ bytes) = (is_line_end b ≡ false) × HasNoEnd bytes

@@ -1,5 +1,7 @@
 -- What a run did when it came to its end.
-use Rattle.std.specs.Prelude.{◌≡◌, ◌≤◌, ℕ, ◌+◌, List, Option, Result, Err, codes, length}
+use Rattle.std.specs.Prelude.{◌≡◌, ◌≢◌, ◌≤◌, ℕ, ◌+◌, List, Option, Result, Err, IsErrOf, codes, length}
+use Rattle.go_board.specs.declared.device.Sink as sink
+use Rattle.go_board.specs.declared.device.Source as source
 use Rattle.go_board.specs.Device.{after_bytes}
 use Rattle.goref.specs.declared.error.RunError.{RunError}
 use Rattle.goref.specs.declared.error.RunError.TheVariants.{Endless, Read, Write}
@@ -9,13 +11,15 @@ use Rattle.goref.specs.Shelves.{Pair}
 use Rattle.goref.specs.Conversation.{Converses, BreaksOff}
 
 -- what was read, and the complete lines in it were answered
-pub record AnswersComplete (s : Standing) (left left' : Option (List ℕ)) (given given' : Option (List Pair)) (taken taken' : Option (List ℕ)) : Type 0 where
+pub record AnswersComplete (s : Standing) (left left' : Option (List ℕ)) (given given' : Option (List Pair))
+    (taken taken' : Option (List ℕ)) : Type 0 where
   pub read : List ℕ
   pub has_read : left ≡ after_bytes read left'
   pub converses : Converses s (complete_lines read) given given' taken taken'
 
 -- what was read, and a front of the answers to the lines in it was written
-pub record AnswersFront (s : Standing) (left left' : Option (List ℕ)) (given given' : Option (List Pair)) (taken taken' : Option (List ℕ)) : Type 0 where
+pub record AnswersFront (s : Standing) (left left' : Option (List ℕ)) (given given' : Option (List Pair))
+    (taken taken' : Option (List ℕ)) : Type 0 where
   pub read : List ℕ
   pub has_read : left ≡ after_bytes read left'
   pub breaks_off : BreaksOff s (lines read) given given' taken taken'
@@ -35,6 +39,23 @@ read_failures_after _ old = old
 abbrev pub write_failures_after : {T : Type 0} → Result T RunError → ℕ → ℕ
 write_failures_after (Err Write) old = old + 1
 write_failures_after _ old = old
+
+-- So many reads were made, and gave as many bytes, but no end.
+pub record FoundNoEnd {R : Type 0} (limit : ℕ) (input : source.Ghosts R) (reader reader' : R) : Type 0 where
+  pub all_pulls : input.pulls reader' ≡ input.pulls reader + limit
+  pub many_bytes : ReadsAtLeast limit (input.left reader) (input.left reader')
+  pub no_end : input.ends reader' ≡ input.ends reader
+
+-- What a run of so many reads at most does to its devices: it finds one end at most, and an input endless only where it found
+-- none; a fault of a device is counted once, where it ended the run; where the writer doesn't fail it holds nothing back.
+pub record RunsOn {T R W : Type 0} (limit : ℕ) (input : source.Ghosts R) (output : sink.Ghosts W) (result : Result T RunError)
+    (reader reader' : R) (writer writer' : W) : Type 0 where
+  pub pulls : input.pulls reader' ≤ input.pulls reader + limit
+  pub one_end : input.ends reader' ≤ input.ends reader + 1
+  pub endless : IsErrOf result Endless → FoundNoEnd limit input reader reader'
+  pub read_failures : input.failures reader' ≡ read_failures_after result (input.failures reader)
+  pub write_failures : output.failures writer' ≡ write_failures_after result (output.failures writer)
+  pub held : result ≢ Err Write → output.held writer ≡ 0 → output.held writer' ≡ 0
 
 abbrev pub run_error_text : RunError → List ℕ
 run_error_text Read = codes "read fault"

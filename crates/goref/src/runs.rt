@@ -1,14 +1,15 @@
-ghost use Rattle.std.specs.Prelude.{◌≡◌, ◌≢◌, ◌≤◌, ◌+◌, ℕ, List, [], ◌∷◌, ◌++◌, Err, Option, IfOk, IfSome, OnOk, IsErrOf, false, true};
+ghost use Rattle.std.specs.Prelude.{◌≡◌, ◌+◌, ◌⊎◌, ℕ, List, [], ◌∷◌, ◌++◌, Option, IfOk, IfSome, OnOk, IsErrOf, false, true};
 ghost use Rattle.go_board.specs.Device.{failures_after};
 ghost use Rattle.go_game.specs.Standings.{Standing};
 ghost use Rattle.goref_lines.specs.Words.{has_bytes};
 ghost use Rattle.goref_session.specs.Starts.{begun};
-ghost use Rattle.goref.specs.Lines.{HasNoEnd, lines};
+ghost use Rattle.goref.specs.Lines.{lines};
+ghost use Rattle.goref.specs.inner.Progress.{HasNoEnd};
 ghost use Rattle.goref_session.specs.Contents.{content_of};
 ghost use Rattle.goref.specs.Shelves.{Pair};
 ghost use Rattle.goref.specs.Conversation.{Converses};
 ghost use Rattle.goref.specs.inner.Progress.{Fetches, Responds, Progress, Proceeds, Finishes};
-ghost use Rattle.goref.specs.Runs.{AnswersComplete, AnswersFront, ReadsAtLeast, read_failures_after, write_failures_after};
+ghost use Rattle.goref.specs.Runs.{AnswersComplete, AnswersFront, RunsOn};
 
 use crate::error::RunError;
 use crate::shelf::Shelf;
@@ -37,27 +38,14 @@ pub fn run<A: Allocator + Copy, R: Source, W: Sink, S: Shelf<A>>(
     ensures ok { OnOk result (IfSome (R.left reader.old) (λ input.
         Converses (begun size) (lines input)
         (S.given shelf.old) (S.given shelf.new) (W.taken writer.old) (W.taken writer.new))) }
-    ensures held { result ≢ Err RunError.Write → W.held writer.old ≡ 0 → W.held writer.new ≡ 0 }
-    ensures read { IsErrOf result RunError.Read →
-        AnswersComplete (begun size) (R.left reader.old) (R.left reader.new)
-        (S.given shelf.old) (S.given shelf.new) (W.taken writer.old) (W.taken writer.new) }
-    ensures endless { IsErrOf result RunError.Endless →
+    ensures ended { IsErrOf result RunError.Read ⊎ IsErrOf result RunError.Endless →
         AnswersComplete (begun size) (R.left reader.old) (R.left reader.new)
         (S.given shelf.old) (S.given shelf.new) (W.taken writer.old) (W.taken writer.new) }
     ensures write { IsErrOf result RunError.Write →
         AnswersFront (begun size) (R.left reader.old) (R.left reader.new)
         (S.given shelf.old) (S.given shelf.new) (W.taken writer.old) (W.taken writer.new) }
-    ensures read_failures { R.failures reader.new ≡ read_failures_after result
-        (R.failures reader.old) }
-    ensures write_failures { W.failures writer.new ≡ write_failures_after result
-        (W.failures writer.old) }
-    ensures pulls { R.pulls reader.new ≤ R.pulls reader.old + READS }
-    ensures all_pulls { IsErrOf result RunError.Endless
-        → R.pulls reader.new ≡ R.pulls reader.old + READS }
-    ensures many_bytes { IsErrOf result RunError.Endless
-        → ReadsAtLeast READS (R.left reader.old) (R.left reader.new) }
-    ensures no_end { IsErrOf result RunError.Endless → R.ends reader.new ≡ R.ends reader.old }
-    ensures one_end { R.ends reader.new ≤ R.ends reader.old + 1 }
+    ensures devices { RunsOn READS R.Source W.Sink result reader.old reader.new
+        writer.old writer.new }
 {
     run_within(alloc, READS, size, reader, writer, shelf)
 }
@@ -74,27 +62,14 @@ pub fn run_within<A: Allocator + Copy, R: Source, W: Sink, S: Shelf<A>>(
     ensures ok { OnOk result (IfSome (R.left reader.old) (λ input.
         Converses (begun size) (lines input)
         (S.given shelf.old) (S.given shelf.new) (W.taken writer.old) (W.taken writer.new))) }
-    ensures held { result ≢ Err RunError.Write → W.held writer.old ≡ 0 → W.held writer.new ≡ 0 }
-    ensures read { IsErrOf result RunError.Read →
-        AnswersComplete (begun size) (R.left reader.old) (R.left reader.new)
-        (S.given shelf.old) (S.given shelf.new) (W.taken writer.old) (W.taken writer.new) }
-    ensures endless { IsErrOf result RunError.Endless →
+    ensures ended { IsErrOf result RunError.Read ⊎ IsErrOf result RunError.Endless →
         AnswersComplete (begun size) (R.left reader.old) (R.left reader.new)
         (S.given shelf.old) (S.given shelf.new) (W.taken writer.old) (W.taken writer.new) }
     ensures write { IsErrOf result RunError.Write →
         AnswersFront (begun size) (R.left reader.old) (R.left reader.new)
         (S.given shelf.old) (S.given shelf.new) (W.taken writer.old) (W.taken writer.new) }
-    ensures read_failures { R.failures reader.new ≡ read_failures_after result
-        (R.failures reader.old) }
-    ensures write_failures { W.failures writer.new ≡ write_failures_after result
-        (W.failures writer.old) }
-    ensures pulls { R.pulls reader.new ≤ R.pulls reader.old + limit }
-    ensures all_pulls { IsErrOf result RunError.Endless
-        → R.pulls reader.new ≡ R.pulls reader.old + limit }
-    ensures many_bytes { IsErrOf result RunError.Endless
-        → ReadsAtLeast limit (R.left reader.old) (R.left reader.new) }
-    ensures no_end { IsErrOf result RunError.Endless → R.ends reader.new ≡ R.ends reader.old }
-    ensures one_end { R.ends reader.new ≤ R.ends reader.old + 1 }
+    ensures devices { RunsOn limit R.Source W.Sink result reader.old reader.new
+        writer.old writer.new }
 {
     let mut session = Session::new(alloc, size);
     run_from(limit, &mut session, reader, writer, shelf)
@@ -111,27 +86,14 @@ fn run_from<A: Allocator + Copy, R: Source, W: Sink, S: Shelf<A>>(
     ensures ok { OnOk result (IfSome (R.left reader.old) (λ input.
         Converses session.old (lines input)
         (S.given shelf.old) (S.given shelf.new) (W.taken writer.old) (W.taken writer.new))) }
-    ensures held { result ≢ Err RunError.Write → W.held writer.old ≡ 0 → W.held writer.new ≡ 0 }
-    ensures read { IsErrOf result RunError.Read →
-        AnswersComplete session.old (R.left reader.old) (R.left reader.new)
-        (S.given shelf.old) (S.given shelf.new) (W.taken writer.old) (W.taken writer.new) }
-    ensures endless { IsErrOf result RunError.Endless →
+    ensures ended { IsErrOf result RunError.Read ⊎ IsErrOf result RunError.Endless →
         AnswersComplete session.old (R.left reader.old) (R.left reader.new)
         (S.given shelf.old) (S.given shelf.new) (W.taken writer.old) (W.taken writer.new) }
     ensures write { IsErrOf result RunError.Write →
         AnswersFront session.old (R.left reader.old) (R.left reader.new)
         (S.given shelf.old) (S.given shelf.new) (W.taken writer.old) (W.taken writer.new) }
-    ensures read_failures { R.failures reader.new ≡ read_failures_after result
-        (R.failures reader.old) }
-    ensures write_failures { W.failures writer.new ≡ write_failures_after result
-        (W.failures writer.old) }
-    ensures pulls { R.pulls reader.new ≤ R.pulls reader.old + limit }
-    ensures all_pulls { IsErrOf result RunError.Endless
-        → R.pulls reader.new ≡ R.pulls reader.old + limit }
-    ensures many_bytes { IsErrOf result RunError.Endless
-        → ReadsAtLeast limit (R.left reader.old) (R.left reader.new) }
-    ensures no_end { IsErrOf result RunError.Endless → R.ends reader.new ≡ R.ends reader.old }
-    ensures one_end { R.ends reader.new ≤ R.ends reader.old + 1 }
+    ensures devices { RunsOn limit R.Source W.Sink result reader.old reader.new
+        writer.old writer.new }
 {
     let mut line = Line::new();
     let mut buffer = [0u8; CHUNK];

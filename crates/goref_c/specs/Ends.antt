@@ -17,7 +17,8 @@ use Rattle.goref_session.specs.Starts.{begun}
 use Rattle.goref_tools.specs.Judging.{verdict_text}
 use Rattle.goref_tools.specs.Tools.{HasNoGame}
 
--- The count is that of a text, and the room has the text, or as much of it as it has place for. Behind the text it is as before.
+-- The count is that of a text, and the room has the text, or as much of it as it has place for. Behind the text it
+-- is as before.
 pub record IsText (text room room' : List ℕ) (count : ℕ) : Type 0 where
   pub whole : count ≡ length text
   pub shown : room' ≡ take (length room) text ++ drop (length text) room
@@ -39,7 +40,8 @@ ShowsRefusal source room room' count =
 -- the room says why the record that a source spells has no game
 abbrev pub ShowsGameRefusal : List ℕ → List ℕ → List ℕ → ℕ → Type 0
 ShowsGameRefusal source room room' count =
-    (why : RecordError) × (why ≢ record_error.Memory) × HasNoGame source why × IsText (record_error_text why) room room' count
+    (why : RecordError) × (why ≢ record_error.Memory) × HasNoGame source why
+    × IsText (record_error_text why) room room' count
 
 -- the room says that there was no memory
 abbrev pub ShowsNoMemory : List ℕ → List ℕ → ℕ → Type 0

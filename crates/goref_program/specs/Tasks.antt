@@ -28,13 +28,18 @@ IsFaultOf (Gtp size) (Tool why) = ⊥
 IsFaultOf _ (Run why) = ⊥
 IsFaultOf _ (Tool why) = Unit {0}
 
--- what was done then: a session answered what it read, or a front of that was written; a tool wrote nothing, or a front of
--- its text
-abbrev pub Breaks : Task → Fault → Option (List ℕ) → Option (List ℕ) → Option (List Pair) → Option (List Pair) → Option (List ℕ) → Option (List ℕ) → Type 0
-Breaks (Gtp size) (Run run_error.Write) left left' given given' taken taken' = AnswersFront (begun size) left left' given given' taken taken'
-Breaks (Gtp size) (Run _) left left' given given' taken taken' = AnswersComplete (begun size) left left' given given' taken taken'
-Breaks Judge (Tool tool_error.Write) left left' given given' taken taken' = IfSome left (λ input. BeginsToJudge input taken taken')
-Breaks Tidy (Tool tool_error.Write) left left' given given' taken taken' = IfSome left (λ input. BeginsToTidy input taken taken')
+-- what was done then: a session answered what it read, or a front of that was written; a tool wrote nothing, or a
+-- front of its text
+abbrev pub Breaks : Task → Fault → Option (List ℕ) → Option (List ℕ) → Option (List Pair) → Option (List Pair)
+    → Option (List ℕ) → Option (List ℕ) → Type 0
+Breaks (Gtp size) (Run run_error.Write) left left' given given' taken taken' =
+    AnswersFront (begun size) left left' given given' taken taken'
+Breaks (Gtp size) (Run _) left left' given given' taken taken' =
+    AnswersComplete (begun size) left left' given given' taken taken'
+Breaks Judge (Tool tool_error.Write) left left' given given' taken taken' =
+    IfSome left (λ input. BeginsToJudge input taken taken')
+Breaks Tidy (Tool tool_error.Write) left left' given given' taken taken' =
+    IfSome left (λ input. BeginsToTidy input taken taken')
 Breaks Judge (Tool _) left left' given given' taken taken' = taken' ≡ taken
 Breaks Tidy (Tool _) left left' given given' taken taken' = taken' ≡ taken
 Breaks task fault left left' given given' taken taken' = ⊥

@@ -10,7 +10,7 @@ use Rattle.go_game.specs.Scores.{score_word, size_text}
 use Rattle.go_board.specs.Colours.{Colouring, colour_at}
 use Rattle.go_board.specs.Chains.{members, liberties}
 use Rattle.go_board.specs.Points.{point_at}
-use Rattle.goref_results.specs.Places.{spaced_point}
+use Rattle.goref_results.specs.inner.Texts.{spaced_point}
 use Rattle.goref_results.specs.Results.{result_text}
 use Rattle.goref_results.specs.ChainLines.{chain_line, spaced_vertex, stone_text}
 

@@ -21,7 +21,8 @@ setting_text s = codes "size " ++ (decimal s.lines ++ (codes " komi " ++ hundred
 
 -- and the prisoners, by the colour that was taken
 abbrev pub prisoners_text : Standing → List ℕ
-prisoners_text s = codes " prisoners B " ++ (decimal (prisoners_of s Black) ++ (codes " W " ++ decimal (prisoners_of s White)))
+prisoners_text s =
+    codes " prisoners B " ++ (decimal (prisoners_of s Black) ++ (codes " W " ++ decimal (prisoners_of s White)))
 
 -- and how many moves stand, and whose turn it is
 abbrev pub turn_text : Standing → List ℕ

@@ -1,5 +1,5 @@
 -- The vertices of handicap stones.
-use Rattle.std.specs.Prelude.{ℕ, List, [], ◌∷◌, Option, Some, None, map}
+use Rattle.std.specs.Prelude.{ℕ, List, [], Option, Some, None, map}
 use Rattle.std.specs.List.{join_with_byte}
 use Rattle.go_board.specs.declared.point.Point.{Point}
 use Rattle.go_board.specs.declared.vertex.Vertex.TheVariants.{At}
@@ -8,10 +8,6 @@ use Rattle.go_board.specs.Vertices.{vertex_word}
 -- the word of a point
 abbrev pub point_word : Point → List ℕ
 point_word p = vertex_word (At p)
-
--- and behind a space
-abbrev pub spaced_point : Point → List ℕ
-spaced_point p = 32 ∷ point_word p
 
 -- the vertices of points, by spaces
 abbrev pub places_text : Option (List Point) → List ℕ

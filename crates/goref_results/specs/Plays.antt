@@ -37,4 +37,5 @@ legal_text s c = numbers_text s.lines (legal_plays s c)
 
 -- on any board, what is written of the marked plays is the list of the legal ones
 abbrev pub MarksAreLegal : Type 0
-MarksAreLegal = (s : Standing) (c : Colour) → s.lines ≤ MAX_LINES → plays_text s.lines (marked_plays s c) ≡ legal_text s c
+MarksAreLegal = (s : Standing) (c : Colour)
+    → s.lines ≤ MAX_LINES → plays_text s.lines (marked_plays s c) ≡ legal_text s c

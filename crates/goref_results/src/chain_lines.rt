@@ -6,8 +6,9 @@ ghost use Rattle.go_board.specs.Points.{IsOn, number_of};
 ghost use Rattle.go_board.specs.declared.size.TheConstants.{MAX_LINES};
 ghost use Rattle.go_game.specs.Standings.{board_of, present};
 ghost use Rattle.goref_results.specs.Results.{result_text};
-ghost use Rattle.goref_results.specs.ChainLines.{chain_lines, line_of_chain, stone_text};
-ghost use Rattle.goref_results.specs.Places.{spaced_point};
+ghost use Rattle.goref_results.specs.ChainLines.{chain_lines, stone_text};
+ghost use Rattle.goref_results.specs.inner.Texts.{line_of_chain};
+ghost use Rattle.goref_results.specs.inner.Texts.{spaced_point};
 ghost use Rattle.goref_results.specs.inner.Told.{AreTold, TellsAll, TellsChain};
 
 use crate::point_text::put_spaced;

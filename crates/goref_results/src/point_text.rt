@@ -1,7 +1,8 @@
 //! Points behind spaces.
 ghost use Rattle.std.specs.Prelude.{◌≡◌, ◌<◌, ◌≤◌, ◌+◌, ◌++◌, decimal, length};
 ghost use Rattle.go_board.specs.Pens.{Writes};
-ghost use Rattle.goref_results.specs.Places.{point_word, spaced_point};
+ghost use Rattle.goref_results.specs.Places.{point_word};
+ghost use Rattle.goref_results.specs.inner.Texts.{spaced_point};
 
 use arrayvec::ArrayVec;
 use go_board::{Pen, Point, Sink, column_letter};

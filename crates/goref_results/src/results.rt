@@ -3,7 +3,8 @@ ghost use Rattle.go_board.specs.Pens.{Writes};
 ghost use Rattle.go_game.specs.Handicaps.{fixed};
 ghost use Rattle.go_game.specs.Scores.{margin_of, score_word};
 ghost use Rattle.goref_results.specs.Diagrams.{diagram};
-ghost use Rattle.goref_results.specs.Places.{places_text, spaced_point};
+ghost use Rattle.goref_results.specs.Places.{places_text};
+ghost use Rattle.goref_results.specs.inner.Texts.{spaced_point};
 ghost use Rattle.goref_results.specs.Results.{result_text};
 
 use crate::diagram::put_diagram;

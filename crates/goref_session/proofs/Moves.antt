@@ -15,7 +15,8 @@ use Rattle.go_game.specs.Standings.{IsLegal, IsOccupied, IsOffBoard, IsRepeat, S
 use Rattle.goref_session.specs.declared.decision.Decision.TheVariants.{Done, Refused}
 use Rattle.goref_session.specs.declared.decision.Refusal.TheVariants.{IllegalMove, OutOfMemory}
 use Rattle.goref_session.specs.Decisions.{keeps, comes_to}
-use Rattle.goref_session.specs.Play.{DecidesPlay, move_refusal}
+use Rattle.goref_session.specs.Play.{DecidesPlay}
+use Rattle.goref_session.specs.inner.Refusing.{move_refusal}
 
 off_is_illegal : (s : Standing) (c : Colour) (v : Vertex) → IsOffBoard s v → (IsLegal s c v → ⊥)
 off_is_illegal s c Pass off = absurd off

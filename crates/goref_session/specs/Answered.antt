@@ -16,8 +16,10 @@ flow_of false = More
 
 -- a line was answered over the old standing, and the new one is that after the answer; the answer
 -- was written whole, or a front of it where that failed
-pub record Answered (old new : Standing) (line : Kept) (content : Content) (result : Result Flow WriteFault) (taken taken' : Option (List ℕ)) : Type 0 where
+pub record Answered (old new : Standing) (line : Kept) (content : Content) (result : Result Flow WriteFault)
+    (taken taken' : Option (List ℕ)) : Type 0 where
   pub reply : Said
   pub is_reply : Reply old line content reply
   pub stands : new ≡ reply.standing
-  pub sent : MatchResult result (λ flow. (flow ≡ flow_of reply.ends) × (taken' ≡ then_bytes taken reply.text)) (λ _. TakesFront taken taken' reply.text)
+  pub sent : MatchResult result (λ flow. (flow ≡ flow_of reply.ends) × (taken' ≡ then_bytes taken reply.text))
+      (λ _. TakesFront taken taken' reply.text)

@@ -13,7 +13,15 @@ use Rattle.goref_lines.specs.declared.stones.ListError.TheVariants.{Malformed, B
 
 -- a new start with these black stones: White is to move, and the komi and the rule stay
 abbrev pub with_stones : Standing → List Point → Standing
-with_stones s points = record { lines = s.lines; komi = s.komi; rule = s.rule; start = stones_on_board s.lines points; first = White; moves = [] }
+with_stones s points =
+    record {
+      lines = s.lines;
+      komi = s.komi;
+      rule = s.rule;
+      start = stones_on_board s.lines points;
+      first = White;
+      moves = [];
+    }
 
 -- a new start with so many handicap stones on these places, where there are such
 abbrev pub decided_places : Standing → ℕ → Option (List Point) → Decided
@@ -22,7 +30,8 @@ decided_places s number (Some points) = record { decision = Tells (Places number
 
 -- so many handicap stones on their places, on a board where nothing stands
 abbrev pub decided_handicap : Standing → ℕ → Decided
-decided_handicap s number = if is_vacant_standing s then decided_places s number (fixed s.lines number) else keeps s (Refused BoardNotEmpty)
+decided_handicap s number =
+    if is_vacant_standing s then decided_places s number (fixed s.lines number) else keeps s (Refused BoardNotEmpty)
 
 -- `fixed_handicap`: so many stones
 abbrev pub decided_fixed : Standing → Option ℕ → Decided
@@ -38,4 +47,5 @@ decided_free s (Some number) = decided_handicap s (min number (greatest s.lines)
 abbrev pub decided_stones : Standing → Result (List Point) ListError → Decided
 decided_stones s (Err Malformed) = keeps s (Refused SyntaxError)
 decided_stones s (Err Bad) = keeps s (Refused (if is_vacant_standing s then BadVertexList else BoardNotEmpty))
-decided_stones s (Ok points) = if is_vacant_standing s then comes_to (with_stones s points) else keeps s (Refused BoardNotEmpty)
+decided_stones s (Ok points) =
+    if is_vacant_standing s then comes_to (with_stones s points) else keeps s (Refused BoardNotEmpty)

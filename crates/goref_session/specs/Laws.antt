@@ -14,10 +14,11 @@ SomeReply = (s : Standing) (k : Kept) (content : Content) → (reply : Said) × 
 
 -- one game at most comes of the bytes of a file, and where one does they aren't refused
 abbrev pub OneLoad : Type 0
-OneLoad = (bytes : List ℕ) (number : Option ℕ) (s : Standing) → Loads bytes number s → ((t : Standing) → Loads bytes number t → t ≡ s) × (LoadsNone bytes number → ⊥)
+OneLoad = (bytes : List ℕ) (number : Option ℕ) (s : Standing) → Loads bytes number s
+    → ((t : Standing) → Loads bytes number t → t ≡ s) × (LoadsNone bytes number → ⊥)
 
--- The one empty line of the text is at its end: it begins with no line end and ends with two, and nowhere before these does a line
--- end follow another.
+-- The one empty line of the text is at its end: it begins with no line end and ends with two, and nowhere before
+-- these does a line end follow another.
 pub record EndsAtEmptyLine (text : List ℕ) : Type 0 where
   pub begins : (rest : List ℕ) → text ≢ codes "\n" ++ rest
   pub body : List ℕ

@@ -6,25 +6,17 @@ use Rattle.go_board.specs.declared.vertex.Vertex.{Vertex}
 use Rattle.go_game.specs.Choices.{chosen}
 use Rattle.go_game.specs.Legal.{is_legal}
 use Rattle.go_game.specs.Standings.{IsOccupied, IsOffBoard, Standing, with_move, without_last}
-use Rattle.go_game.specs.declared.error.PlayError.{PlayError}
-use Rattle.go_game.specs.declared.error.PlayError.TheVariants.{OffBoard, Occupied, Repeats, Memory}
 use Rattle.goref_session.specs.Decisions.{Decided, comes_to, keeps}
 use Rattle.goref_session.specs.declared.decision.Decision.TheVariants.{Tells, Refused}
 use Rattle.goref_session.specs.declared.decision.Fact.TheVariants.{Choice, Plays}
-use Rattle.goref_session.specs.declared.decision.Refusal.{Refusal}
 use Rattle.goref_session.specs.declared.decision.Refusal.TheVariants.{SyntaxError, IllegalMove, CannotUndo, OutOfMemory}
 use Rattle.goref_results.specs.Plays.{marked_plays}
 
--- what the answer tells of a refused move
-abbrev pub move_refusal : PlayError → Refusal
-move_refusal OffBoard = IllegalMove
-move_refusal Occupied = IllegalMove
-move_refusal (Repeats k) = IllegalMove
-move_refusal Memory = OutOfMemory
-
 -- a move, where it is legal
 abbrev pub decided_move : Standing → Colour → Vertex → Decided
-decided_move s c v = if is_legal s c v then comes_to (with_move s (record { colour = c; vertex = v })) else keeps s (Refused IllegalMove)
+decided_move s c v =
+    if is_legal s c v then comes_to (with_move s (record { colour = c; vertex = v }))
+    else keeps s (Refused IllegalMove)
 
 -- `play`: the move of a colour at a vertex
 abbrev pub decided_play : Standing → Option Colour → Option Vertex → Decided
@@ -45,7 +37,11 @@ DecidesPlay s c v d = (d ≡ decided_play s c v) ⊎ (LacksMemoryAt s c v × (d 
 -- `genmove`: the plain choice for a colour is played
 abbrev pub decided_genmove : Standing → Option Colour → Decided
 decided_genmove s None = keeps s (Refused SyntaxError)
-decided_genmove s (Some c) = record { decision = Tells (Choice (chosen s c)); standing = with_move s (record { colour = c; vertex = chosen s c }) }
+decided_genmove s (Some c) =
+    record {
+      decision = Tells (Choice (chosen s c));
+      standing = with_move s (record { colour = c; vertex = chosen s c });
+    }
 
 -- `reg_genmove`: the plain choice for a colour, which isn't played
 abbrev pub decided_choice : Standing → Option Colour → Decided

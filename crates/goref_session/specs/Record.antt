@@ -1,6 +1,6 @@
--- loadsgf: what a line asks to be loaded, what comes of a record's bytes, and what is decided on that. What goref-printsgf tells is
--- the record of a game, which the crate of such records defines.
-use Rattle.std.specs.Prelude.{◌≡◌, ◌≢◌, ◌≤◌, ◌⊎◌, ℕ, List, Option, Some, None, Result, Ok, Err, length, option_map, slice_get}
+-- loadsgf: what a line asks to be loaded, what comes of a record's bytes, and what is decided on that. What goref-
+-- printsgf tells is the record of a game, which the crate of such records defines.
+use Rattle.std.specs.Prelude.{◌≡◌, ◌≢◌, ◌≤◌, ◌⊎◌, ℕ, List, Option, Some, None, Ok, Err, length, option_map, slice_get}
 use Rattle.std.specs.Option.{option_and_then}
 use Rattle.go_game.specs.Standings.{Standing}
 use Rattle.go_record.specs.Games.{IsGameOf}
@@ -22,7 +22,6 @@ use Rattle.goref_session.specs.declared.commands.record.LoadError.TheVariants as
 use Rattle.goref_session.specs.declared.command.Command.{Command}
 use Rattle.goref_session.specs.declared.command.Command.TheVariants.{Loadsgf}
 use Rattle.goref_session.specs.declared.decision.Decision.TheVariants.{Refused}
-use Rattle.goref_session.specs.declared.decision.Refusal.{Refusal}
 use Rattle.goref_session.specs.declared.decision.Refusal.TheVariants.{SyntaxError, CannotLoad, OutOfMemory}
 
 -- the name of a file, and the number of the move before which it is loaded, where one is given
@@ -68,11 +67,6 @@ of_sgf why = load_error.Cannot
 abbrev pub load_error_of : RecordError → LoadError
 load_error_of record_error.Memory = load_error.Memory
 load_error_of why = load_error.Cannot
-
--- what is decided where a load ends so: its game is gone on with, or it is refused
-abbrev pub after_load : Standing → Standing → Result (Unit {0}) Refusal → Decided
-after_load s game (Ok done) = comes_to game
-after_load s game (Err why) = keeps s (Refused why)
 
 -- what may be decided on the bytes of a file: its record's game is gone on with, or there is none,
 -- or memory is wanting

@@ -14,7 +14,8 @@ use Rattle.goref_session.specs.declared.decision.Refusal.TheVariants.{SyntaxErro
 -- `boardsize`: an empty board of this size; the komi and the rule stay
 abbrev pub decided_size : Standing → Option ℕ → Decided
 decided_size s None = keeps s (Refused SyntaxError)
-decided_size s (Some n) = if nat_le 1 n && nat_le n MAX_LINES then comes_to (emptied s n) else keeps s (Refused UnacceptableSize)
+decided_size s (Some n) =
+    if nat_le 1 n && nat_le n MAX_LINES then comes_to (emptied s n) else keeps s (Refused UnacceptableSize)
 
 -- `komi`: the komi alone is set, which is no move
 abbrev pub decided_komi : Standing → Option ℤ → Decided

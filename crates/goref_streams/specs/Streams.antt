@@ -2,7 +2,8 @@
 use Rattle.std.specs.Prelude.{ℕ, ◌-◌, ◌==◌, if◌then◌else◌, List, Option}
 use Rattle.std.specs.Io.KnownBytes.{append_known}
 
--- an input: the bytes that its stream has left, where it tells them, and the counts of reads, of failures and of ends found
+-- an input: the bytes that its stream has left, where it tells them, and the counts of reads, of failures and of
+-- ends found
 pub record Reading : Type 0 where
   pub left : Option (List ℕ)
   pub pulls : ℕ

@@ -1,6 +1,6 @@
 -- What was read of an input, and what holds of the whole of it.
-use Rattle.std.proofs.Common.{◌≡◌, ◌≢◌, ◌∙◌, ◌≤◌, ◌<◌, ◌+◌, ◌++◌, ℕ, List, [], Option, Some, None, length, sym, ap, subst, arith}
-use Rattle.std.specs.Prelude.{IfSome, OnOk, Result, Ok, Err}
+use Rattle.std.proofs.Common.{◌≡◌, ◌≢◌, ◌∙◌, ◌≤◌, ◌<◌, ◌+◌, ◌++◌, ℕ, List, [], Option, Some, None, length, refl, sym, ap, subst, arith}
+use Rattle.std.specs.Prelude.{IfErr, IfSome, OnOk, Result, Ok, Err}
 use Rattle.std.proofs.lemmas.List.{append-nil, length-append}
 use Rattle.std.proofs.Math.Nat.{lt_of_not-le}
 use Rattle.go_board.specs.Device.{TakesFront, after_bytes, then_bytes}
@@ -9,8 +9,9 @@ use Rattle.go_sgf.specs.Refusals.{IsRefusal}
 use Rattle.go_sgf.specs.declared.error.SgfError.{SgfError}
 use Rattle.go_sgf.specs.declared.error.SgfError.TheVariants.{NoTree, EndInside, Unexpected, TooDeep, Memory, TooLong}
 use Rattle.go_sgf.specs.declared.limits.TheConstants.{MAX_RECORD}
-use Rattle.goref_tools.specs.Tools.{IsInput, Reads, Refuses, tool_error_of}
-use Rattle.goref_tools.specs.declared.error.ToolError.TheVariants.{Sgf}
+use Rattle.goref_tools.specs.Tools.{IsInput, Reads, Refuses, read_failures_after, tool_error_of}
+use Rattle.goref_tools.specs.declared.error.ToolError.{ToolError}
+use Rattle.goref_tools.specs.declared.error.ToolError.TheVariants.{Sgf, Write}
 
 -- what was read before, and then more
 pub reads_more : {left left' : Option (List ℕ)} (left'' : Option (List ℕ)) (read more : List ℕ) → length read + length more ≤ MAX_RECORD + 1 →
@@ -55,6 +56,11 @@ refuses bytes left left' is (TooDeep place) r long why f =
 refuses bytes left left' is Memory r long why f = absurd (no_memory why f)
 refuses bytes left left' is TooLong r long why f =
     told left TooLong why (λ e. cc) (cc) (of_input (λ b. IsRefusal b TooLong) bytes left' is.given (λ more. longer bytes more r))
+
+-- a failed flush is no failed read
+pub not_read : {T : Type 0} (r : Result T ToolError) (old : ℕ) → IfErr r (λ error. error ≡ Write) → old ≡ read_failures_after r old
+not_read {T} (Ok x) old is = refl
+not_read {T} (Err error) old is = sym (ap (λ (e : ToolError). let r : Result T ToolError = Err e in read_failures_after r old) is)
 
 -- a text taken whole was begun too
 pub all_front : {old new : Option (List ℕ)} (text : List ℕ) → new ≡ then_bytes old text → TakesFront old new text

@@ -1,5 +1,7 @@
 -- What a tool reads of its input, and how it ends.
-use Rattle.std.specs.Prelude.{◌≡◌, ◌≢◌, ◌≤◌, ◌+◌, ℕ, List, [], Option, IfSome, None, Result, Err, codes, length}
+use Rattle.std.specs.Prelude.{◌≡◌, ◌≢◌, ◌≤◌, ◌+◌, ℕ, List, [], Option, IfErr, IfSome, None, OnOk, Result, Err, codes, length}
+use Rattle.go_board.specs.declared.device.Sink as sink
+use Rattle.go_board.specs.declared.device.Source as source
 use Rattle.go_board.specs.Device.{after_bytes}
 use Rattle.go_record.specs.Games.{IsGameOf}
 use Rattle.go_record.specs.declared.error.RecordError.{RecordError}
@@ -66,6 +68,19 @@ read_failures_after _ old = old
 abbrev pub write_failures_after : {T : Type 0} → Result T ToolError → ℕ → ℕ
 write_failures_after (Err Write) old = old + 1
 write_failures_after _ old = old
+
+-- What a tool does to its devices. It reads no more than the largest record wants, and finds one end at most; a fault of a
+-- device is counted once, where it ended the tool. Nothing is written but where a fault of the writer ended it, or none
+-- did, and then nothing is held back.
+pub record UsesDevices {T R W : Type 0} (input : source.Ghosts R) (output : sink.Ghosts W) (result : Result T ToolError)
+    (reader reader' : R) (writer writer' : W) : Type 0 where
+  pub reads : Reads (input.left reader) (input.left reader')
+  pub pulls : input.pulls reader' ≤ input.pulls reader + MAX_RECORD + 2
+  pub one_end : input.ends reader' ≤ input.ends reader + 1
+  pub read_failures : input.failures reader' ≡ read_failures_after result (input.failures reader)
+  pub write_failures : output.failures writer' ≡ write_failures_after result (output.failures writer)
+  pub nothing_written : IfErr result (λ error. error ≢ Write → output.taken writer' ≡ output.taken writer)
+  pub passed : OnOk result (output.held writer' ≡ 0)
 
 abbrev pub tool_error_text : ToolError → List ℕ
 tool_error_text (Sgf why) = sgf_error_text why

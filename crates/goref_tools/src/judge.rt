@@ -1,10 +1,8 @@
-ghost use Rattle.std.specs.Prelude.{◌≡◌, ◌≢◌, ◌≤◌, ◌+◌, IfErr, IfSome, IsErrOf, OnOk};
+ghost use Rattle.std.specs.Prelude.{IfSome, IsErrOf, OnOk};
 ghost use Rattle.go_record.specs.declared.error.RecordError.{RecordError};
 ghost use Rattle.go_sgf.specs.declared.error.SgfError.{SgfError};
-ghost use Rattle.go_sgf.specs.declared.limits.TheConstants.{MAX_RECORD};
 ghost use Rattle.goref_tools.specs.Judging.{BeginsToJudge, Judges};
-ghost use Rattle.goref_tools.specs.Tools.{Reads, Refuses, RefusesGame, read_failures_after};
-ghost use Rattle.goref_tools.specs.Tools.{write_failures_after};
+ghost use Rattle.goref_tools.specs.Tools.{Refuses, RefusesGame, UsesDevices};
 ghost use Rattle.goref_tools.specs.declared.error.ToolError.TheVariants.{Record, Sgf, Write};
 
 use crate::error::ToolError;
@@ -33,22 +31,13 @@ pub fn judge_run<A: Allocator + Copy, R: Source, W: Sink>(
 ) -> Result<(), ToolError>
     ensures ok { OnOk result (IfSome (R.left reader.old)
         (λ input. Judges input (W.taken writer.old) (W.taken writer.new))) }
-    ensures passed { OnOk result (W.held writer.new ≡ 0) }
     ensures refused { (why : SgfError) → IsErrOf result (Sgf why)
         → Refuses (R.left reader.old) why }
     ensures game_refused { (why : RecordError) → IsErrOf result (Record why)
         → RefusesGame (R.left reader.old) why }
     ensures write { IsErrOf result Write → IfSome (R.left reader.old)
         (λ input. BeginsToJudge input (W.taken writer.old) (W.taken writer.new)) }
-    ensures nothing_written { IfErr result
-        (λ error. error ≢ Write → W.taken writer.new ≡ W.taken writer.old) }
-    ensures reads { Reads (R.left reader.old) (R.left reader.new) }
-    ensures pulls { R.pulls reader.new ≤ R.pulls reader.old + MAX_RECORD + 2 }
-    ensures one_end { R.ends reader.new ≤ R.ends reader.old + 1 }
-    ensures read_failures { R.failures reader.new ≡ read_failures_after result
-        (R.failures reader.old) }
-    ensures write_failures { W.failures writer.new ≡ write_failures_after result
-        (W.failures writer.old) }
+    ensures devices { UsesDevices R.Source W.Sink result reader.old reader.new writer.old writer.new }
 {
     let source = read_input(alloc, reader)?;
     let collection = read(alloc, source.as_slice())?;

@@ -1,12 +1,12 @@
 -- The words in which the private functions below a run say how far it has come.
-use Rattle.std.specs.Prelude.{◌≡◌, ℕ, List, ◌++◌, Option, Result, Ok, Err}
+use Rattle.std.specs.Prelude.{◌≡◌, ℕ, false, List, [], ◌∷◌, ◌++◌, Option, Result, Ok, Err}
 use Rattle.go_board.specs.Device.{then_bytes}
 use Rattle.go_board.specs.declared.device.WriteFault.{WriteFault}
 use Rattle.goref_session.specs.declared.flow.Flow.{Flow}
 use Rattle.goref_session.specs.declared.flow.Flow.TheVariants.{More, Quit}
 use Rattle.go_game.specs.Standings.{Standing}
 use Rattle.goref_lines.specs.Kept.{Kept, kept}
-use Rattle.goref.specs.Lines.{lines, complete_lines, unfinished_line}
+use Rattle.goref.specs.Lines.{is_line_end, lines, complete_lines, unfinished_line}
 use Rattle.goref_session.specs.Contents.{Content}
 use Rattle.goref.specs.Shelves.{Pair, then_pairs}
 use Rattle.goref_session.specs.Replies.{wanted}
@@ -51,3 +51,8 @@ pub record Fetches (line : Kept) (content : Content) (given given' : Option (Lis
 abbrev pub Finishes : {T : Type 0} → Result T WriteFault → Standing → List ℕ → Option (List Pair) → Option (List Pair) → Option (List ℕ) → Option (List ℕ) → Type 0
 Finishes (Ok x) s read given given' taken taken' = Converses s (lines read) given given' taken taken'
 Finishes (Err e) s read given given' taken taken' = BreaksOff s (lines read) given given' taken taken'
+
+-- no byte of it ends a line
+abbrev pub HasNoEnd : List ℕ → Type 0
+HasNoEnd [] = Unit {0}
+HasNoEnd (b ∷ bytes) = (is_line_end b ≡ false) × HasNoEnd bytes

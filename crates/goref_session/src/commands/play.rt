@@ -2,7 +2,8 @@
 ghost use Rattle.std.specs.Prelude.{◌≡◌, Some};
 ghost use Rattle.goref_session.specs.Arguments.{colour_given, vertex_given};
 ghost use Rattle.goref_session.specs.Decisions.{MayDecide};
-ghost use Rattle.goref_session.specs.Play.{DecidesPlay, decided_choice, decided_genmove, decided_legal, decided_undo, move_refusal};
+ghost use Rattle.goref_session.specs.Play.{DecidesPlay, decided_choice, decided_genmove, decided_legal, decided_undo};
+ghost use Rattle.goref_session.specs.inner.Refusing.{move_refusal};
 
 use crate::arguments::{colour_argument, vertex_argument};
 use crate::decision::{Decision, Fact, Refusal};

@@ -2,7 +2,8 @@
 ghost use Rattle.std.specs.Prelude.{◌≡◌, IsErrOf, OnOk};
 ghost use Rattle.go_game.specs.Standings.{Standing};
 ghost use Rattle.goref_session.specs.Contents.{content_of};
-ghost use Rattle.goref_session.specs.Record.{DecidesBytes, DecidesContent, DecidesLoad, Loads, LoadsNone, after_load, load_error_of, load_of, of_sgf};
+ghost use Rattle.goref_session.specs.Record.{DecidesBytes, DecidesContent, DecidesLoad, Loads, LoadsNone, load_error_of, load_of, of_sgf};
+ghost use Rattle.goref_session.specs.inner.Refusing.{after_load};
 
 use crate::decision::Refusal;
 use crate::fetched::Fetched;

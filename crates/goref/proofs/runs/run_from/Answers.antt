@@ -22,15 +22,28 @@ loop-init g c = record {
   write_failures = refl;
 }
 
-pub returns-in-Err-clause-read : goal.returns-in-Err-clause-read
-returns-in-Err-clause-read g c = λ _.
+pub returns-in-Err-clause-ended : goal.returns-in-Err-clause-ended
+returns-in-Err-clause-ended g c = λ _.
     answers_complete (c.loop.invariant.left ∙ ap (after_bytes c.loop.invariant.read) (sym c.in-Err.ensures.failed)) c.loop.invariant.progress
 
-pub returns-clause-endless : goal.returns-clause-endless
-returns-clause-endless g c = λ _. answers_complete c.loop.invariant.left c.loop.invariant.progress
+pub returns-clause-ended : goal.returns-clause-ended
+returns-clause-ended g c = λ _. answers_complete c.loop.invariant.left c.loop.invariant.progress
 
-pub returns-clause-many_bytes : goal.returns-clause-many_bytes
-returns-clause-many_bytes g c = λ _. record { read = c.loop.invariant.read; has_read = c.loop.invariant.left; many = omega (arith, c.loop.invariant.many) }
+pub returns-clause-devices : goal.returns-clause-devices
+returns-clause-devices g c =
+    let now = c.loop.invariant in
+    record {
+      pulls = omega (arith, now.pulls);
+      one_end = omega (arith, now.ends);
+      endless = λ _. record {
+        all_pulls = omega (arith, now.pulls);
+        many_bytes = record { read = now.read; has_read = now.left; many = omega (arith, now.many) };
+        no_end = now.ends;
+      };
+      read_failures = now.read_failures;
+      write_failures = now.write_failures;
+      held = λ _. now.held;
+    }
 
 pub returns-in-Err-end_input-clause-write : goal.returns-in-Err-end_input-clause-write
 returns-in-Err-end_input-clause-write g c = λ _.
@@ -82,5 +95,52 @@ loop-preserved g c =
 pub returns-in-Err-clause-ok : goal.returns-in-Err-clause-ok
 returns-in-Err-clause-ok g c = search rules
 
-pub returns-in-Err-clause-read_failures : goal.returns-in-Err-clause-read_failures
-returns-in-Err-clause-read_failures g c = search rules
+pub returns-in-Err-clause-devices : goal.returns-in-Err-clause-devices
+returns-in-Err-clause-devices g c = record {
+  pulls = search rules;
+  one_end = search rules;
+  endless = search rules;
+  read_failures = search rules;
+  write_failures = search rules;
+  held = search rules;
+}
+
+pub returns-in-Err-end_input-clause-devices : goal.returns-in-Err-end_input-clause-devices
+returns-in-Err-end_input-clause-devices g c = record {
+  pulls = search rules;
+  one_end = search rules;
+  endless = search rules;
+  read_failures = search rules;
+  write_failures = search rules;
+  held = search rules;
+}
+
+pub returns-in-Ok-end_input-clause-devices : goal.returns-in-Ok-end_input-clause-devices
+returns-in-Ok-end_input-clause-devices g c = record {
+  pulls = search rules;
+  one_end = search rules;
+  endless = search rules;
+  read_failures = search rules;
+  write_failures = search rules;
+  held = search rules;
+}
+
+pub returns-in-Err-feed-clause-devices : goal.returns-in-Err-feed-clause-devices
+returns-in-Err-feed-clause-devices g c = record {
+  pulls = search rules;
+  one_end = search rules;
+  endless = search rules;
+  read_failures = search rules;
+  write_failures = search rules;
+  held = search rules;
+}
+
+pub returns-in-Ok-Quit-clause-devices : goal.returns-in-Ok-Quit-clause-devices
+returns-in-Ok-Quit-clause-devices g c = record {
+  pulls = search rules;
+  one_end = search rules;
+  endless = search rules;
+  read_failures = search rules;
+  write_failures = search rules;
+  held = search rules;
+}

@@ -7,7 +7,7 @@ use Rattle.go_board.specs.declared.size.TheConstants.{MAX_LINES}
 use Rattle.go_board.specs.lemmas.Writing.{writes_writes, writes_then}
 use Rattle.go_game.specs.Standings.{board_of}
 use Rattle.goref_results.specs.ChainLines.{stone_text}
-use Rattle.goref_results.specs.Places.{spaced_point}
+use Rattle.goref_results.specs.inner.Texts.{spaced_point}
 use Rattle.goref_results.proofs.Listing.{spaced_points}
 use Rattle.goref_results.proofs.Telling.{all_members, tells_chain}
 use Rattle.goref_results.proofs.chain_lines.put_chain.Goals as goal

@@ -1,7 +1,7 @@
 use Rattle.std.proofs.Common.{◌∙◌, ◌++◌, [], ap, append_assoc, sym}
 use Rattle.std.specs.List.{flat_map}
 use Rattle.go_board.specs.lemmas.Writing.{writes_nothing, writes_writes}
-use Rattle.goref_results.specs.Places.{spaced_point}
+use Rattle.goref_results.specs.inner.Texts.{spaced_point}
 use Rattle.goref_results.proofs.chain_lines.put_each.Goals as goal
 
 pub loop-point-preserved : goal.loop-point-preserved

@@ -1,7 +1,7 @@
 use Rattle.std.proofs.Common.{◌≡◌, ◌++◌, ℕ, List}
 use Rattle.std.specs.List.{flat_map}
 use Rattle.go_board.specs.Pens.{Writes}
-use Rattle.goref_results.specs.Places.{spaced_point}
+use Rattle.goref_results.specs.inner.Texts.{spaced_point}
 use Rattle.goref_results.proofs.chain_lines.put_each.Given as goal
 
 abbrev pub invariant-loop-point : goal.invariant-loop-point

@@ -3,7 +3,7 @@ use Rattle.std.specs.List.{flat_map}
 use Rattle.std.proofs.lemmas.List.{append-nil}
 use Rattle.std.proofs.lemmas.Grind.{flat_map-append}
 use Rattle.go_board.specs.lemmas.Writing.{writes_nothing, writes_then}
-use Rattle.goref_results.specs.Places.{spaced_point}
+use Rattle.goref_results.specs.inner.Texts.{spaced_point}
 use Rattle.goref_results.proofs.Telling.{told_more}
 use Rattle.goref_results.proofs.chain_lines.put_stones.Goals as goal
 

@@ -2,7 +2,7 @@ use Rattle.std.proofs.Common.{◌≡◌, ◌++◌, List}
 use Rattle.std.specs.List.{flat_map}
 use Rattle.go_board.specs.declared.point.Point.{Point}
 use Rattle.go_board.specs.Pens.{Writes}
-use Rattle.goref_results.specs.Places.{spaced_point}
+use Rattle.goref_results.specs.inner.Texts.{spaced_point}
 use Rattle.goref_results.specs.inner.Told.{TellsAll}
 use Rattle.goref_results.proofs.chain_lines.put_stones.Given as goal
 

@@ -3,7 +3,8 @@ use Rattle.std.specs.List.{flat_map}
 use Rattle.go_board.specs.declared.point.Point.{Point}
 use Rattle.go_board.specs.Vertices.{letter_of_column}
 use Rattle.go_game.specs.Handicaps.{fixed}
-use Rattle.goref_results.specs.Places.{places_text, point_word, spaced_point}
+use Rattle.goref_results.specs.Places.{places_text, point_word}
+use Rattle.goref_results.specs.inner.Texts.{spaced_point}
 use Rattle.goref_results.specs.Results.{result_text}
 use Rattle.goref_results.proofs.Listing.{result_spaced}
 use Rattle.goref_results.proofs.results.put_places.Goals as goal

@@ -1,6 +1,6 @@
 use Rattle.go_board.specs.lemmas.Writing.{writes_then}
 use Rattle.go_board.specs.declared.point.Point.{Point}
-use Rattle.goref_results.specs.Places.{spaced_point}
+use Rattle.goref_results.specs.inner.Texts.{spaced_point}
 use Rattle.goref_results.proofs.Listing.{taken_more}
 use Rattle.goref_results.proofs.results.put_points.Goals as goal
 

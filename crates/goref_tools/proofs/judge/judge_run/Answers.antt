@@ -2,7 +2,7 @@ use Rattle.std.proofs.Common.{rules, ◌∙◌}
 use Rattle.std.proofs.lemmas.Result.{err_from_is_err_and}
 use Rattle.goref_tools.specs.Judging.{BeginsToJudge, Judges, verdict_text}
 use Rattle.goref_tools.proofs.Judged.{refuses_game}
-use Rattle.goref_tools.proofs.Whole.{all_front, of_whole, on_ok, refuses, same_error}
+use Rattle.goref_tools.proofs.Whole.{all_front, not_read, of_whole, on_ok, refuses, same_error}
 use Rattle.goref_tools.proofs.judge.judge_run.Goals as goal
 
 pub returns-in_err-collection-clause-refused : goal.returns-in_err-collection-clause-refused
@@ -51,5 +51,13 @@ returns-clause-write g c = λ h.
       (c.in_ok-verdict.verdict, c.in_ok-verdict.ensures.ok, c.in-Err.ensures.sent),
     )
 
-pub returns-in-Ok-clause-passed : goal.returns-in-Ok-clause-passed
-returns-in-Ok-clause-passed g c = search rules
+pub returns-in-Ok-clause-devices : goal.returns-in-Ok-clause-devices
+returns-in-Ok-clause-devices g c = record {
+  reads = search rules;
+  pulls = search rules;
+  one_end = search rules;
+  read_failures = c.in_ok-source.ensures.failures ∙ not_read c.passed_on.result _ c.passed_on.ensures.error;
+  write_failures = search rules;
+  nothing_written = search rules;
+  passed = search rules;
+}

@@ -37,5 +37,5 @@ returns-clause-write g c = λ h.
     (λ long. let e = c.in_ok-check.ensures.too_long.1 (rw c.as_slice.ensures.value long) in cc)
     (spelled.0, spelled.1, c.in-Err.ensures.sent spelled.0 (rw c.as_slice-2.ensures.value spelled.1))
 
-pub returns-in-Ok-clause-passed : goal.returns-in-Ok-clause-passed
-returns-in-Ok-clause-passed g c = search rules
+pub returns-in-Ok-clause-devices : goal.returns-in-Ok-clause-devices
+returns-in-Ok-clause-devices g c = search rules
