@@ -26,7 +26,7 @@ margin_spelled word =
     if bytes_eq word (codes "0") || bytes_eq word (codes "Draw") then Some (pos 0) else
     (if bytes_eq (take 2 word) (codes "B+") then size_spelled (drop 2 word) else
     (if bytes_eq (take 2 word) (codes "W+") then option_map (λ size. pos 0 -ℤ size) (size_spelled (drop 2 word))
-     else None))
+    else None))
 
 -- what a record states: its first RE as SimpleText, with white space at both ends skipped
 abbrev pub margin_by : Trees → Option ℤ

@@ -50,7 +50,7 @@ Plays s (turn node value ∷ events) outcome = Plays s events outcome
 Plays s (move_met node colour value ∷ events) outcome =
     OrBad node (vertex_in s.lines value) outcome (λ v.
     (IsLegal s colour v × Plays (with_move s (record { colour = colour; vertex = v })) events outcome)
-      ⊎ IsRefused s colour v outcome)
+    ⊎ IsRefused s colour v outcome)
 
 -- these points get the colour, or are emptied
 abbrev pub with_points : ℕ → Option Colour → Colouring → List Point → Colouring
@@ -90,7 +90,7 @@ unfoldable pub SetsUp : ℕ → ℤ → Colouring → Option Colour → List Eve
 SetsUp n komi g given [] outcome = Begins n komi g given [] outcome
 SetsUp n komi g given (stones node colour values ∷ events) outcome =
     OrBad node (points_by_values n values) outcome
-      (λ ps. SetsUp n komi (with_points n colour g ps) given events outcome)
+    (λ ps. SetsUp n komi (with_points n colour g ps) given events outcome)
 SetsUp n komi g given (turn node value ∷ events) outcome =
     OrBad node (colour_stated value) outcome (λ c. SetsUp n komi g (Some c) events outcome)
 SetsUp n komi g given (move_met node colour value ∷ events) outcome =
