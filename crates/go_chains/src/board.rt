@@ -1,6 +1,6 @@
 //! A board and its colours. What it tells of packs and of chains, and its plays, stand in files beside
 //! this one.
-ghost use Rattle.std.specs.Prelude.{◌≡◌, ◌<◌, ◌≤◌, ◌+◌, ◌*◌, ◌/◌, ℕ, [], None, length, replicate, slice_index};
+ghost use Rattle.std.specs.Prelude.{◌≡◌, ◌<◌, ◌≤◌, ◌+◌, ◌*◌, ℕ, [], None, length, replicate, slice_index};
 ghost use Rattle.go_board.specs.Points.{IsOn};
 ghost use Rattle.go_board.specs.Reaching.{area};
 ghost use Rattle.go_board.specs.Rows.{AreStones};

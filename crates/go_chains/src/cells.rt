@@ -4,7 +4,6 @@ ghost use Rattle.go_board.specs.Packs.{code_of, colour_coded, packed_of};
 ghost use Rattle.go_board.specs.declared.size.TheConstants.{MAX_LINES, MAX_POINTS};
 ghost use Rattle.go_chains.specs.declared.cells.TheConstants.{COUNT, LIBERTIES};
 ghost use Rattle.go_board.specs.declared.point_set.TheConstants.{WORDS};
-ghost use Rattle.go_board.specs.PointSets.{words_for};
 ghost use Rattle.go_chains.specs.Boards.{colouring_of};
 ghost use Rattle.go_chains.specs.inner.Codes.{code_in};
 

@@ -57,9 +57,9 @@ abbrev pub spare_for : Vertex → ℕ
 spare_for Pass = 0
 spare_for (At p) = reads_around
 
--- What a turn does to a game beside what it stands for: refused it leaves the game as it was, and made it is logged. The
--- cells that are read and written are counted, at most three times the most changes, and four times where a play was
--- taken back; off the board, and where a stone stands, nothing is read or written.
+-- What a turn does to a game beside what it stands for: refused it leaves the game as it was, and made it is logged.
+-- The cells that are read and written are counted, at most three times the most changes, and four times where a play
+-- was taken back; off the board, and where a stone stands, nothing is read or written.
 pub record TurnCosts {A : Type 0} (made : Move) (result : Result A PlayError) (old new : GameValue) : Type 0 where
   pub err : OnErr result (IsAsBefore old new)
   pub logged : OnOk result (IsLogged old new (most_for old.standing made.colour made.vertex))

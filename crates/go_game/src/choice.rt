@@ -1,6 +1,6 @@
 //! What is legal, and the plain choice of a play. Plays that take nothing are judged without being
 //! played; others are tried on the game itself, and taken back.
-ghost use Rattle.std.specs.Prelude.{◌≡◌, ◌≢◌, ◌<◌, ◌≤◌, ◌+◌, ◌*◌, ◌↔◌, false, true, Contains, IfOk, IsTrue, OnErr, None, Some, if◌then◌else◌, slice_set};
+ghost use Rattle.std.specs.Prelude.{◌≡◌, ◌≢◌, ◌<◌, ◌≤◌, ◌+◌, ◌*◌, ◌↔◌, false, true, Contains, IfOk, IsTrue, OnErr, None, Some, slice_set};
 ghost use Rattle.go_game.specs.inner.Trials.{better_of};
 
 use crate::holdings::{Holdings, ahead};

@@ -1,5 +1,5 @@
 //! Moves played and taken back.
-ghost use Rattle.std.specs.Prelude.{◌≡◌, ◌≤◌, ◌++◌, ◌∷◌, ◌*◌, [], ◌↔◌, ℕ, Err, IfErr, IfNone, IfOk, IfSome, OnErr, OnOk, Some, None, ◌+◌, ◌⊎◌, length};
+ghost use Rattle.std.specs.Prelude.{◌≡◌, ◌++◌, ◌∷◌, [], ◌↔◌, ℕ, Err, IfErr, IfNone, IfOk, IfSome, OnErr, OnOk, Some, None, ◌+◌, ◌⊎◌, length};
 ghost use Rattle.go_board.specs.Grids.{stone_at};
 ghost use Rattle.go_board.specs.Points.{IsOn};
 ghost use Rattle.go_game.specs.Counts.{IsTakenBack, TurnCosts};

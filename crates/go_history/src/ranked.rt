@@ -19,6 +19,7 @@ pub struct Ranked {
 }
 
 impl Ranked {
+    /// A key behind its hash.
     pub fn new(key: &Key) -> Ranked
         ensures { result ≡ ranked key.now }
     {

@@ -46,10 +46,11 @@ pub record FoundNoEnd {R : Type 0} (limit : ℕ) (input : source.Ghosts R) (read
   pub many_bytes : ReadsAtLeast limit (input.left reader) (input.left reader')
   pub no_end : input.ends reader' ≡ input.ends reader
 
--- What a run of so many reads at most does to its devices: it finds one end at most, and an input endless only where it found
--- none; a fault of a device is counted once, where it ended the run; where the writer doesn't fail it holds nothing back.
-pub record RunsOn {T R W : Type 0} (limit : ℕ) (input : source.Ghosts R) (output : sink.Ghosts W) (result : Result T RunError)
-    (reader reader' : R) (writer writer' : W) : Type 0 where
+-- What a run of so many reads at most does to its devices: it finds one end at most, and an input endless only where it
+-- found none; a fault of a device is counted once, where it ended the run; where the writer doesn't fail it holds
+-- nothing back.
+pub record RunsOn {T R W : Type 0} (limit : ℕ) (input : source.Ghosts R) (output : sink.Ghosts W)
+    (result : Result T RunError) (reader reader' : R) (writer writer' : W) : Type 0 where
   pub pulls : input.pulls reader' ≤ input.pulls reader + limit
   pub one_end : input.ends reader' ≤ input.ends reader + 1
   pub endless : IsErrOf result Endless → FoundNoEnd limit input reader reader'

@@ -19,6 +19,7 @@ pub struct NamedFiles<'a, A, F> {
 }
 
 impl<'a, A, F> NamedFiles<'a, A, F> {
+    /// The files of this system.
     pub fn new(alloc: A, system: &'a F) -> NamedFiles<'a, A, F> {
         NamedFiles { alloc, system }
     }

@@ -1,5 +1,4 @@
 //! What answers tell, as texts behind a space.
-ghost use Rattle.std.specs.Prelude.{◌≡◌};
 ghost use Rattle.std.specs.List.{join_with_byte};
 ghost use Rattle.go_board.specs.Pens.{Writes};
 ghost use Rattle.go_board.specs.Vertices.{vertex_word};

@@ -69,9 +69,9 @@ abbrev pub write_failures_after : {T : Type 0} → Result T ToolError → ℕ �
 write_failures_after (Err Write) old = old + 1
 write_failures_after _ old = old
 
--- What a tool does to its devices. It reads no more than the largest record wants, and finds one end at most; a fault of a
--- device is counted once, where it ended the tool. Nothing is written but where a fault of the writer ended it, or none
--- did, and then nothing is held back.
+-- What a tool does to its devices. It reads no more than the largest record wants, and finds one end at most; a fault
+-- of a device is counted once, where it ended the tool. Nothing is written but where a fault of the writer ended it, or
+-- none did, and then nothing is held back.
 pub record UsesDevices {T R W : Type 0} (input : source.Ghosts R) (output : sink.Ghosts W) (result : Result T ToolError)
     (reader reader' : R) (writer writer' : W) : Type 0 where
   pub reads : Reads (input.left reader) (input.left reader')

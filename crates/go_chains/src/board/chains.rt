@@ -1,5 +1,5 @@
 //! What a board tells of its chains and their liberties.
-ghost use Rattle.std.specs.Prelude.{◌≡◌, ◌<◌, ◌≤◌, ◌+◌, ◌*◌, ◌/◌, ◌∷◌, if◌then◌else◌, ℕ, None, Some, drop, replicate};
+ghost use Rattle.std.specs.Prelude.{◌≡◌, ◌<◌, ◌+◌, ◌*◌, ◌/◌, ◌∷◌, if◌then◌else◌, None, Some, drop, replicate};
 ghost use Rattle.go_board.specs.Points.{IsOn, number_of, point_at};
 ghost use Rattle.go_board.specs.PointSets.{points_from};
 ghost use Rattle.go_board.specs.declared.point_set.TheConstants.{WORDS};

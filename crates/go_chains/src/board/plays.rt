@@ -1,10 +1,9 @@
 //! Plays and their way back, and stones that would take nothing.
-ghost use Rattle.std.specs.Prelude.{◌≡◌, ◌<◌, ◌≤◌, ◌+◌, ◌*◌, ◌/◌, ◌↔◌, IfOk, IsErrOf, IsTrue, OnOk, Some, length, slice_set};
+ghost use Rattle.std.specs.Prelude.{◌≡◌, ◌<◌, ◌≤◌, ◌+◌, ◌↔◌, IfOk, IsErrOf, IsTrue, OnOk, Some, length, slice_set};
 ghost use Rattle.go_board.specs.Chains.{liberties};
 ghost use Rattle.go_board.specs.Colours.{other};
 ghost use Rattle.go_board.specs.Points.{IsOn, number_of};
 ghost use Rattle.go_chains.specs.declared.cells.TheConstants.{COUNT};
-ghost use Rattle.go_board.specs.declared.point_set.TheConstants.{WORDS};
 ghost use Rattle.go_chains.specs.Playing.{PlayCosts, most_at, played, reads_around, went};
 ghost use Rattle.go_chains.specs.Rewound.{ForLast, IsRewound, NamesCells, rewound};
 ghost use Rattle.go_chains.specs.Sound.{IsKept};
