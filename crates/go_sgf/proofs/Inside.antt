@@ -5,7 +5,7 @@ use Rattle.std.proofs.lemmas.List.{take-append-drop, take_at, length-take-le}
 use Rattle.std.proofs.Math.Seq.{get_or-append_seam}
 use Rattle.std.specs.List.{list_all}
 use Rattle.go_sgf.specs.Record.{is_inside, IsValue}
-use Rattle.go_sgf.specs.inner.Reads.{is_ordinary}
+use Rattle.go_sgf.specs.inner.Reads.{HasNoEnd, is_ordinary}
 
 pub is_inside-append : (e : Bool) (v w : List ℕ) → is_inside e v ≡ true → is_inside e (v ++ w) ≡ is_inside false w
 is_inside-append true [] w h = cc
@@ -88,3 +88,17 @@ pub value_past_escape : (n : ℕ) (b front more : List ℕ) → n ≤ length b �
     (n + length front + 2 ≤ length b) × IsValue (take (n + length front + 2) b)
 value_past_escape n b front [] h v o e some = cc
 value_past_escape n b front (x ∷ rest) h v o e some = past_escape n b front x rest h v o e
+
+-- ---- no end
+
+pub no_end : (b : List ℕ) → IsValue b → HasNoEnd b
+no_end b h = λ v more i e.
+    let inside : is_inside false (v ++ (93 ∷ more)) ≡ true = subst (λ (xs : List ℕ). is_inside false xs ≡ true) e h in
+    let at : is_inside false (93 ∷ more) ≡ true = sym (is_inside-append false v (93 ∷ more) i) ∙ inside in
+    cc
+
+pub no_end_escape : (b : List ℕ) → IsValue b → HasNoEnd (b ++ (92 ∷ []))
+no_end_escape b h = λ v more i e.
+    let inside : IsValue (b ++ (92 ∷ 120 ∷ [])) = is_inside-append false b (92 ∷ 120 ∷ []) h in
+    no_end (b ++ (92 ∷ 120 ∷ [])) inside v (more ++ (120 ∷ [])) i
+    (sym (append_assoc b (92 ∷ []) (120 ∷ [])) ∙ ap (λ (xs : List ℕ). xs ++ (120 ∷ [])) e ∙ append_assoc v (93 ∷ more) (120 ∷ []))

@@ -14,6 +14,7 @@ pub mod Passed
 pub mod Tidied
 pub mod Canonical
 pub mod Unambiguous
+pub mod LineWalks
 pub mod Fronts
 pub mod Fronted
 pub mod Rectangles

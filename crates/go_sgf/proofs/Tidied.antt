@@ -33,7 +33,7 @@ pub record TreesLeft (c : Trees) (written rest : List ℕ) : Type 0 where
   pub ended : is_tree_first end ≡ false
   pub text : canonical c ≡ written ++ canonical later
 
-trimmed_first : (source : List ℕ) → begins_space (tree_in source) ≡ false
+pub trimmed_first : (source : List ℕ) → begins_space (tree_in source) ≡ false
 trimmed_first source = trimmed_text (tree_in source) (from_tree_begins source)
   where
     trimmed_text : (b : List ℕ) → (b ≢ [] → is_tree_first b ≡ true) → begins_space b ≡ false

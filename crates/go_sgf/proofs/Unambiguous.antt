@@ -14,7 +14,7 @@ use Rattle.go_sgf.proofs.Stops.{tree_begins}
 -- ---- values
 
 -- a value ends at its first `]` that belongs to no `\`
-value_same : (e : Bool) (v w a b : List ℕ) → is_inside e v ≡ true → is_inside e w ≡ true → v ++ (93 ∷ a) ≡ w ++ (93 ∷ b) → (v ≡ w) × (a ≡ b)
+pub value_same : (e : Bool) (v w a b : List ℕ) → is_inside e v ≡ true → is_inside e w ≡ true → v ++ (93 ∷ a) ≡ w ++ (93 ∷ b) → (v ≡ w) × (a ≡ b)
 value_same true [] w a b h k e = cc
 value_same true (c ∷ cs) [] a b h k e = cc
 value_same true (c ∷ cs) (d ∷ ds) a b h k e =
@@ -59,7 +59,7 @@ values_same (v ∷ vs) (w ∷ ws) b r q i j s t e f =
 -- ---- properties
 
 -- letters end where no letter follows
-letters_same : (n m a b : List ℕ) → list_all is_letter_byte n ≡ true → list_all is_letter_byte m ≡ true → n ++ a ≡ m ++ b →
+pub letters_same : (n m a b : List ℕ) → list_all is_letter_byte n ≡ true → list_all is_letter_byte m ≡ true → n ++ a ≡ m ++ b →
     is_letter_first a ≡ false → is_letter_first b ≡ false → (n ≡ m) × (a ≡ b)
 letters_same [] [] a b h k e f g = (refl, e)
 letters_same [] (d ∷ ds) a b h k e f g =
@@ -91,7 +91,7 @@ property_same p q b r u i j s t e f =
     let values = values_same p.values q.values s.0 r u i.inside j.inside s.2 (subst P (sym names.1) t.2) e f in
     (ap (λ n. made n p.values) names.0 ∙ ap (made q.name) values.0, values.1)
 
-letter_no_bracket : (b : List ℕ) → is_letter_first b ≡ true → is_first 91 b ≡ false
+pub letter_no_bracket : (b : List ℕ) → is_letter_first b ≡ true → is_first 91 b ≡ false
 letter_no_bracket [] e = refl
 letter_no_bracket (c ∷ cs) e = grind (arith, nat_tests)
 

@@ -3,6 +3,7 @@ pub mod View
 pub mod Spelling
 pub mod Stands
 pub mod Refusals
+pub mod MainLine
 pub mod Laws
 pub mod Cooked
 pub mod Numbers

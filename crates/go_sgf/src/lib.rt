@@ -4,6 +4,7 @@
 //! - [`check`]: the same answer, with nothing kept and no memory taken.
 //! - [`Collection`], [`Tree`], [`Node`], [`Property`]: the parts of a record, as lists of the parts
 //!   below them. Names and values are parts of the source, which isn't copied.
+//! - [`MainLine`]: a walk along a record's main line, from value to value, without lists.
 //! - [`write`], [`tidy`]: the one canonical spelling, of a record that was read or of a source.
 //! - [`number_of`], [`hundredths_of`], [`point_of`], [`points_of`], [`trim`]: what values say.
 //! - [`points_in`], [`Rectangle`], [`Row`]: the points of one value, without a list of them.
@@ -16,12 +17,13 @@
 //! write(&collection, &mut writer)?;
 //! ```
 //!
-//! What is promised is in the clauses of `reader.rt`, `writer.rt`, `record.rt`, `nodes.rt` and the
-//! files of values: `numbers.rt`, `hundredths.rt`, `points.rt`, `rectangle.rt` and `cooking.rt`.
-//! Their words are in `specs/`: `Spelling` says which bytes spell a record, `Record` what it is as
-//! plain data, `View` which of that the types stand for, `Refusals` and `Stands` why a text is
-//! refused, and `Numbers`, `BoardValues`, `Rectangles` and `Cooked` what values say. `Laws` has what
-//! holds of all records. What `specs/inner/` defines serves private functions alone.
+//! What is promised is in the clauses of `reader.rt`, `writer.rt`, `record.rt`, `nodes.rt`,
+//! `main_line.rt` and the files of values: `numbers.rt`, `hundredths.rt`, `points.rt`,
+//! `rectangle.rt` and `cooking.rt`. Their words are in `specs/`: `Spelling` says which bytes spell a
+//! record, `Record` what it is as plain data, `View` which of that the types stand for, `MainLine`
+//! what is left of a main line, `Refusals` and `Stands` why a text is refused, and `Numbers`,
+//! `BoardValues`, `Rectangles` and `Cooked` what values say. `Laws` has what holds of all records.
+//! What `specs/inner/` defines serves private functions alone.
 #![tactic(auto)]
 
 mod cooking;
@@ -31,6 +33,7 @@ mod hundredths;
 mod keep;
 pub mod laws;
 mod limits;
+mod main_line;
 mod nodes;
 mod numbers;
 mod points;
@@ -47,7 +50,8 @@ pub use cooking::{cook_simple, cook_text, escape};
 pub use error::SgfError;
 pub use hundredths::hundredths_of;
 pub use limits::{MAX_DEPTH, MAX_RECORD};
-pub use nodes::{Node, Property};
+pub use main_line::MainLine;
+pub use nodes::{Node, Property, is_named};
 pub use numbers::{number_of, trim};
 pub use points::{point_of, points_in, points_of};
 pub use reader::{check, read};

@@ -82,7 +82,7 @@ impl<'a, A: Allocator + Copy> Property<'a, A> {
     pub fn is(&self, name: &[u8]) -> bool
         ensures { result ≡ bytes_eq (plain_property self.now).name name.now }
     {
-        is_plain_name(self.name(), name)
+        is_named(self.name(), name)
     }
 
     /// The values, in the source's order, without their brackets.
@@ -154,12 +154,12 @@ impl<'a, A: Allocator + Copy> Sequence<'a, A> {
     }
 }
 
-/// Whether the upper-case letters of a property's name are this name.
-fn is_plain_name(letters: &[u8], name: &[u8]) -> bool
-    ensures { result ≡ bytes_eq (filter is_upper_byte letters.now) name.now }
+/// Whether a property's name, lower-case letters aside, is this one.
+pub fn is_named(name: &[u8], plain: &[u8]) -> bool
+    ensures { result ≡ bytes_eq (filter is_upper_byte name.now) plain.now }
 {
-    let mut rest = name;
-    for letter in letters {
+    let mut rest = plain;
+    for letter in name {
         if is_upper(*letter) {
             match strip(rest, *letter) {
                 Some(more) => rest = more,

@@ -1,4 +1,5 @@
 ghost use Rattle.std.specs.Prelude.{◌≡◌, ◌≢◌, []};
+ghost use Rattle.go_sgf.specs.Spelling.{Spells};
 ghost use Rattle.go_sgf.specs.View.{tree_of, trees_of};
 
 use crate::nodes::{Node, Sequence};
@@ -35,6 +36,13 @@ impl<'a, A: Allocator + Copy> Model for Collection<'a, A> {
 }
 
 impl<'a, A: Allocator + Copy> Collection<'a, A> {
+    /// The source, which spells the trees.
+    pub fn source(&self) -> &'a [u8]
+        ensures { Spells result.now self.now }
+    {
+        self.source
+    }
+
     /// The trees, in the source's order. There is at least one.
     pub fn trees(&self) -> &[Tree<'a, A>]
         ensures trees { trees_of result.now ≡ self.now }

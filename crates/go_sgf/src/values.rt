@@ -1,5 +1,5 @@
 ghost use Rattle.std.specs.Prelude.{◌≡◌, ◌∷◌, ◌++◌, ℕ, Err, IfNone, IfSome, take};
-ghost use Rattle.go_sgf.specs.inner.Reads.{IsBracketAt};
+ghost use Rattle.go_sgf.specs.inner.Reads.{HasNoEnd, IsBracketAt};
 ghost use Rattle.go_sgf.specs.declared.error.Fault.TheVariants.{End};
 ghost use Rattle.go_sgf.specs.declared.limits.TheConstants.{MAX_DEPTH};
 ghost use Rattle.go_sgf.specs.inner.Outcome.{IsWithin, outcome};
@@ -17,6 +17,7 @@ pub(crate) fn value(bytes: &[u8]) -> Option<(&[u8], &[u8])>
     ensures none { IfNone result ((d : ℕ) → IsWithin MAX_DEPTH d
         → outcome MAX_DEPTH in_value d bytes.now ≡ Err End) }
     ensures unended { IfNone result (NeverEnds bytes.now) }
+    ensures no_end { IfNone result (HasNoEnd bytes.now) }
 {
     match value_end(bytes) {
         Some(place) => Some((bytes.split_at(place).0, bytes.split_at(place + 1).1)),
@@ -32,6 +33,7 @@ fn value_end(bytes: &[u8]) -> Option<usize>
     ensures none { IfNone result ((d : ℕ) → IsWithin MAX_DEPTH d
         → outcome MAX_DEPTH in_value d bytes.now ≡ Err End) }
     ensures unended { IfNone result (NeverEnds bytes.now) }
+    ensures no_end { IfNone result (HasNoEnd bytes.now) }
 {
     match near_bracket(bytes) {
         Some(place) => Some(place),
@@ -47,6 +49,7 @@ fn far_end(bytes: &[u8]) -> Option<usize>
     ensures none { IfNone result ((d : ℕ) → IsWithin MAX_DEPTH d
         → outcome MAX_DEPTH in_value d bytes.now ≡ Err End) }
     ensures unended { IfNone result (NeverEnds bytes.now) }
+    ensures no_end { IfNone result (HasNoEnd bytes.now) }
 {
     let mut read = 0;
     while let Some((front, byte, more)) = ordinary(bytes.split_at(read).1) {

@@ -14,6 +14,8 @@ mod kinds;
 #[cfg(test)]
 mod laws;
 #[cfg(test)]
+mod lines;
+#[cfg(test)]
 mod needs;
 #[cfg(test)]
 mod records;

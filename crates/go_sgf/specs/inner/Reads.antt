@@ -39,6 +39,10 @@ is_ordinary c = not (c == 93 || c == 92)
 abbrev pub IsBracketAt : List ℕ → ℕ → Type 0
 IsBracketAt b place = (place < length b) × (slice_index b place ≡ 93)
 
+-- no value ends in the bytes
+abbrev pub HasNoEnd : List ℕ → Type 0
+HasNoEnd b = (v more : List ℕ) → IsValue v → b ≡ v ++ (93 ∷ more) → ⊥
+
 abbrev pub begins_space : List ℕ → Bool
 begins_space [] = false
 begins_space (c ∷ cs) = is_space c

@@ -1,6 +1,6 @@
 use Rattle.std.proofs.Common.{arith}
 use Rattle.std.proofs.lemmas.Grind.{common_steps}
-use Rattle.go_sgf.proofs.nodes.is_plain_name.Goals as goal
+use Rattle.go_sgf.proofs.nodes.is_named.Goals as goal
 
 pub returns : goal.returns
 returns c = grind (arith, common_steps)

@@ -1,0 +1,106 @@
+ghost use Rattle.std.specs.Prelude.{◌≡◌, ◌<◌, ℕ, List, [], IfNone, IfSome, IsFalse, IsTrue, length, true};
+ghost use Rattle.go_sgf.specs.MainLine.{IsLeft, NextName, NextNode, NextValue, main_line};
+ghost use Rattle.go_sgf.specs.Record.{Property, Trees};
+ghost use Rattle.go_sgf.specs.Spelling.{Spells};
+
+use crate::scan::{after_space, begins_letter, from_tree, name_at, strip, to_bracket};
+use crate::values::value;
+use std::marker::Model;
+
+/// A walk along the main line of a record, from node to node, in a node from property to property,
+/// and in a property from value to value. It goes over the source itself, so it takes no memory. Of
+/// a source that spells no record nothing is said.
+#[derive(Drop)]
+pub struct MainLine<'a> {
+    rest: &'a [u8],
+}
+
+impl<'a> Model for MainLine<'a> {
+    ghost use Rattle.std.specs.Prelude.{ℕ, List};
+
+    ghost Value = { List ℕ };
+
+    ghost view = { λ m. m.rest.now };
+}
+
+impl<'a> MainLine<'a> {
+    /// The walk along the main line of the record that a source spells, before its first node.
+    pub fn of(source: &'a [u8]) -> MainLine<'a>
+        ensures { (c : Trees) → Spells source.now c → IsLeft result [] [] (main_line c) }
+    {
+        match strip(from_tree(source), b'(') {
+            Some(rest) => MainLine { rest },
+            None => MainLine { rest: &[] },
+        }
+    }
+
+    /// Another walk, from the same place.
+    pub fn fork(&self) -> MainLine<'a>
+        ensures { result ≡ self.now }
+    {
+        MainLine { rest: self.rest }
+    }
+
+    /// Enters the next node, from behind the last property of the one before. False where the line
+    /// has no more of them.
+    pub fn next_node(&mut self) -> bool
+        ensures next { (nodes : List (List Property)) → IsLeft self.old [] [] nodes
+            → NextNode result nodes self.new }
+        ensures shorter { IsTrue result → length self.new < length self.old }
+        ensures same { IsFalse result → self.new ≡ self.old }
+    {
+        match to_node(self.rest) {
+            Some(inside) => {
+                self.rest = inside;
+                true
+            }
+            None => false,
+        }
+    }
+
+    /// The name of the node's next property, as it is written, from behind the last value of the
+    /// one before. None where the node has no more of them.
+    pub fn next_name(&mut self) -> Option<&'a [u8]>
+        ensures next { (properties : List Property) (nodes : List (List Property))
+            → IsLeft self.old [] properties nodes → NextName result properties nodes self.new }
+        ensures shorter { IfSome result (λ _. length self.new < length self.old) }
+        ensures same { IfNone result (self.new ≡ self.old) }
+    {
+        let here = after_space(self.rest);
+        if !begins_letter(here) {
+            return None;
+        }
+        let (name, behind, _) = name_at(here);
+        self.rest = behind;
+        Some(name)
+    }
+
+    /// The property's next value, without its brackets. None where it has no more of them.
+    pub fn next_value(&mut self) -> Option<&'a [u8]>
+        ensures next { (values : List (List ℕ)) (properties : List Property)
+            (nodes : List (List Property)) → IsLeft self.old values properties nodes
+            → NextValue result values properties nodes self.new }
+        ensures shorter { IfSome result (λ _. length self.new < length self.old) }
+        ensures same { IfNone result (self.new ≡ self.old) }
+    {
+        let inside = strip(to_bracket(self.rest), b'[')?;
+        let (value, behind) = value(inside)?;
+        self.rest = behind;
+        Some(value)
+    }
+}
+
+/// What stands behind the `;` of the next node, which may be the first of a child.
+fn to_node(text: &[u8]) -> Option<&[u8]>
+    ensures some { IfSome result (λ inside. (nodes : List (List Property))
+        → IsLeft text.now [] [] nodes → NextNode true nodes inside.now) }
+    ensures none { IfNone result ((nodes : List (List Property))
+        → IsLeft text.now [] [] nodes → nodes ≡ []) }
+    ensures shorter { IfSome result (λ inside. length inside.now < length text.now) }
+{
+    let here = after_space(text);
+    match strip(here, b'(') {
+        Some(child) => strip(after_space(child), b';'),
+        None => strip(here, b';'),
+    }
+}

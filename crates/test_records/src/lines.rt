@@ -1,0 +1,67 @@
+//! Walks along main lines: records beside what is passed of each.
+use go_sgf::{MainLine, is_named, read};
+use std::alloc::{AllocError, Global};
+use std::test::Fail;
+
+/// Records, and what a walk passes: `;` for a node, and each name and value as it is written.
+const LINES: &[(&[u8], &[u8])] = &[
+    (b"(;)", b";"),
+    (b"(;GM[1]SZ[9];B[ee];W[])", b";GM[1]SZ[9];B[ee];W[]"),
+    (b"(;;;)", b";;;"),
+    (
+        b"(;FF[4](;B[aa];W[bb](;B[cc])(;B[dd]))(;B[ee]))(;GM[2])",
+        b";FF[4];B[aa];W[bb];B[cc]",
+    ),
+    (b"(;A[b](;C[d](;E[f]))(;G[h]))", b";A[b];C[d];E[f]"),
+    (
+        b"a (b) ( ; AddBlack [aa]\n[bb]\t C[(;)\\]\\\\] ( ; W [] ) ) rest",
+        b";AddBlack[aa][bb]C[(;)\\]\\\\];W[]",
+    ),
+];
+
+/// What a walk along the main line of a source passes.
+fn passed(alloc: Global, source: &[u8]) -> Result<Vec<u8, Global>, AllocError> {
+    let mut text = Vec::new(alloc);
+    let mut line = MainLine::of(source);
+    while line.next_node() {
+        text.extend_from_slice(b";")?;
+        while let Some(name) = line.next_name() {
+            text.extend_from_slice(name)?;
+            while let Some(value) = line.next_value() {
+                text.extend_from_slice(b"[")?;
+                text.extend_from_slice(value)?;
+                text.extend_from_slice(b"]")?;
+            }
+        }
+    }
+    Ok(text)
+}
+
+#[test]
+fn main_lines(rt: HostRuntime) -> Result<(), Fail> {
+    for (row, (source, text)) in LINES.iter().enumerate() {
+        let told = passed(rt.alloc(), source)?;
+        assert!(rt; told.as_slice() == *text, "row {row}");
+        let collection = read(rt.alloc(), source).expect(&rt, "a record");
+        let told = passed(rt.alloc(), collection.source())?;
+        assert!(rt; told.as_slice() == *text, "row {row}");
+    }
+    Ok(())
+}
+
+#[test]
+fn a_walk_goes_on_by_itself(rt: HostRuntime) {
+    let mut line = MainLine::of(b"(;B[aa][bb]W[cc])");
+    assert!(rt; line.next_node() && line.next_name() == Some(b"B".as_slice()));
+    let mut other = line.fork();
+    assert!(rt; line.next_value() == Some(b"aa".as_slice()));
+    assert!(rt; line.next_value() == Some(b"bb".as_slice()));
+    assert!(rt; line.next_value().is_none() && line.next_name() == Some(b"W".as_slice()));
+    assert!(rt; other.next_value() == Some(b"aa".as_slice()));
+}
+
+#[test]
+fn names_without_their_small_letters(rt: HostRuntime) {
+    assert!(rt; is_named(b"AddBlack", b"AB") && is_named(b"AB", b"AB"));
+    assert!(rt; !is_named(b"AB", b"A") && !is_named(b"A", b"AB") && !is_named(b"Ab", b"AB"));
+}
