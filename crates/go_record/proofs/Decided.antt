@@ -20,7 +20,8 @@ use Rattle.go_record.specs.declared.error.RecordError.{RecordError}
 use Rattle.go_record.specs.declared.error.RecordError.TheVariants.{BadKomi, BadSize, BadValue, DeadSetup, Illegal, NotGo, SetupAfterMove}
 use Rattle.go_record.specs.Games.{IsGameOf, Needs, OrElse, is_go_value, komi_in, lines_in, value_at_root}
 use Rattle.go_record.specs.Laws.{OneOutcome}
-use Rattle.go_record.specs.MainLine.{Event, stones, turn, move_met, events_from, looked_at, main_line}
+use Rattle.go_sgf.specs.MainLine.{main_line}
+use Rattle.go_record.specs.MainLine.{Event, stones, turn, move_met, events_from, looked_at}
 use Rattle.go_record.specs.Walks.{Begins, IsReason, IsRefused, OrBad, Outcome, Plays, SetsUp, colour_stated, start_of, with_points}
 use Rattle.go_record.proofs.Painting.{back_at, on_at}
 use Rattle.go_record.proofs.Unique.{one_game}

@@ -2,6 +2,7 @@ pub mod Writes
 pub mod Searches
 pub mod Walking
 pub mod Lines
+pub mod LineSteps
 pub mod Unique
 pub mod Spelled
 pub mod Painting

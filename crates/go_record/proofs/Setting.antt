@@ -39,6 +39,29 @@ set_more n c g values value later new newer ps h is more = record {
   colours = more ∙ ap (λ (g : Colouring). with_points n c g ps) h.colours ∙ sym (with_points_append n c g h.set ps);
 }
 
+-- at first none is set
+pub set_first : (n : ℕ) (c : Option Colour) (g : Colouring) (values : List (List ℕ)) → SetSoFar n c g values values g
+set_first n c g values = record { set = []; split = none_before (points_by_values n values); colours = refl }
+  where
+    none_before : (o : Option (List Point)) → both (Some []) o ≡ o
+    none_before None = refl
+    none_before (Some ps) = refl
+
+-- all are set
+pub set_whole : (n : ℕ) (c : Option Colour) (g : Colouring) (values left : List (List ℕ)) (new : Colouring) → left ≡ [] → SetSoFar n c g values left new →
+    (ps : List Point) × (points_by_values n values ≡ Some ps) × (new ≡ with_points n c g ps)
+set_whole n c g values left new none h = (
+  h.set,
+  sym h.split ∙ ap (λ (vs : List (List ℕ)). both (Some h.set) (points_by_values n vs)) none ∙ ap Some (append-nil h.set),
+  h.colours,
+)
+
+-- a value is malformed
+pub set_bad : (n : ℕ) (c : Option Colour) (g : Colouring) (values : List (List ℕ)) (value : List ℕ) (later : List (List ℕ)) (new : Colouring) →
+    SetSoFar n c g values (value ∷ later) new → points_listed n value ≡ None → points_by_values n values ≡ None
+set_bad n c g values value later new h e =
+    sym h.split ∙ ap (λ (o : Option (List Point)). both (Some h.set) (both o (points_by_values n later))) e
+
 -- ---- row by row
 
 front_of : {X : Type 0} (P : X → Type 0) (xs ys : List X) → All P (xs ++ ys) → All P xs

@@ -3,13 +3,14 @@ use Rattle.std.specs.Prelude.{◌≡◌, ◌*◌, ℕ, ℤ, pos, Bool, true, fal
 use Rattle.go_board.specs.Sizes.{size_with}
 use Rattle.std.specs.List.{list_all}
 use Rattle.std.specs.Option.{option_and_then}
+use Rattle.go_sgf.specs.MainLine.{main_line}
 use Rattle.go_sgf.specs.Numbers.{hundredths_by, number_in}
 use Rattle.go_sgf.specs.Record.{Property, Trees, none, tree}
 use Rattle.go_sgf.specs.Spelling.{is_space}
 use Rattle.go_record.specs.declared.error.RecordError.{RecordError}
 use Rattle.go_record.specs.declared.error.RecordError.TheVariants.{BadKomi, BadSize, NotGo}
 use Rattle.go_record.specs.declared.root.TheConstants.{USUAL_LINES}
-use Rattle.go_record.specs.MainLine.{events_from, leading_value, is_named, looked_at, main_line}
+use Rattle.go_record.specs.MainLine.{events_from, leading_value, is_named, looked_at}
 use Rattle.go_record.specs.Walks.{Outcome, SetsUp}
 
 -- the properties of the first node of the first tree

@@ -1,16 +1,11 @@
--- What the main line of a record says, in the order in which it is judged.
+-- What the nodes of a record's main line say, in the order in which it is judged.
 use Rattle.std.specs.Prelude.{ℕ, zero, suc, ◌+◌, ◌-◌, if◌then◌else◌, Bool, List, [], ◌∷◌, ◌++◌, Option, Some, None, bytes_eq, codes}
 use Rattle.std.specs.List.{flat_map}
 use Rattle.go_board.specs.declared.colour.Colour.{Colour}
 use Rattle.go_board.specs.declared.colour.Colour.TheVariants.{Black, White}
-use Rattle.go_sgf.specs.Record.{Property, Trees, none, tree, plain_property}
+use Rattle.go_sgf.specs.Record.{Property, plain_property}
 use Rattle.go_record.specs.declared.kind.Kind.{Kind}
 use Rattle.go_record.specs.declared.kind.Kind.TheVariants.{Stones, Turn, Move, Other}
-
--- the nodes of the first tree, then those of its first child, and so on
-abbrev pub main_line : Trees → List (List Property)
-main_line none = []
-main_line (tree nodes children later) = nodes ++ main_line children
 
 -- lower-case letters of a name don't count
 abbrev pub is_named : List ℕ → Property → Bool

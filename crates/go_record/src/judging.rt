@@ -2,11 +2,15 @@ ghost use Rattle.std.specs.Prelude.{◌≡◌, ◌≢◌, ◌-ℤ◌, Err, IfErr
 ghost use Rattle.go_board.specs.Komi.{IsKomi};
 ghost use Rattle.go_record.specs.declared.error.RecordError.TheVariants.{Memory};
 ghost use Rattle.go_record.specs.Games.{IsGameOf};
-ghost use Rattle.go_record.specs.Verdicts.{IsStated, IsVerdict, is_number_first, margin_spelled, margin_by, size_spelled};
+ghost use Rattle.go_record.specs.Verdicts.{IsStated, IsVerdict, is_number_first, margin_spelled, size_spelled};
+ghost use Rattle.go_sgf.specs.Cooked.{cooked_simple};
+ghost use Rattle.go_sgf.specs.Numbers.{trimmed};
+ghost use Rattle.go_sgf.specs.Record.{Trees};
+ghost use Rattle.go_sgf.specs.Spelling.{Spells};
 
 use crate::error::RecordError;
-use crate::replaying::replay;
-use crate::root::root_value;
+use crate::replaying::replay_from;
+use crate::root::root_values;
 use crate::verdict::{Stated, Verdict};
 use go_sgf::{Collection, cook_simple, hundredths_of, trim};
 use std::alloc::{AllocError, Allocator};
@@ -23,8 +27,19 @@ pub fn judge<A: Allocator + Copy>(
     ensures err { IfErr result
         (λ e. e ≢ Memory → IsGameOf collection.now None (Err e)) }
 {
-    let stated = margin_stated(alloc, collection)?;
-    let game = replay(alloc, collection, None)?;
+    judge_source(alloc, collection.source())
+}
+
+/// The verdict on the record that a source spells, as [`judge`] gives it, without lists of its parts.
+/// Of a source that spells no record nothing is said.
+pub fn judge_source<A: Allocator + Copy>(alloc: A, source: &[u8]) -> Result<Verdict, RecordError>
+    ensures ok { (c : Trees) → Spells source.now c → IfOk result (IsVerdict c) }
+    ensures err { (c : Trees) → Spells source.now c
+        → IfErr result (λ e. e ≢ Memory → IsGameOf c None (Err e)) }
+{
+    let values = root_values(source);
+    let stated = margin_stated(alloc, values.result)?;
+    let game = replay_from(alloc, &values, source, None)?;
     let margin = game.margin();
     Ok(Verdict {
         moves: game.move_count(),
@@ -43,16 +58,14 @@ fn compared(stated: Option<i64>, margin: i64) -> Stated
     }
 }
 
-/// The margin that a record states, on Black's side. It stays out of `judge`, where it would hide from
-/// the compiler that what a game is moved out of needn't be emptied.
+/// The margin that an RE value states, on Black's side. It stays out of `judge_source`, where it would
+/// hide from the compiler that what a game is moved out of needn't be emptied.
 #[inline(never)]
-fn margin_stated<A: Allocator + Copy>(
-    alloc: A,
-    collection: &Collection<'_, A>,
-) -> Result<Option<i64>, AllocError>
-    ensures { IfOk result (λ stated. stated ≡ margin_by collection.now) }
+fn margin_stated<A: Allocator + Copy>(alloc: A, value: &[u8]) -> Result<Option<i64>, AllocError>
+    ensures { IfOk result
+        (λ stated. stated ≡ margin_spelled (trimmed (cooked_simple value.now))) }
 {
-    let text = cook_simple(alloc, root_value(collection, b"RE"))?;
+    let text = cook_simple(alloc, value)?;
     Ok(margin_in(trim(&text)))
 }
 

@@ -1,9 +1,9 @@
-ghost use Rattle.std.specs.Prelude.{◌≡◌};
-ghost use Rattle.go_record.specs.MainLine.{leading_value, kind_by};
+ghost use Rattle.std.specs.Prelude.{◌≡◌, ℕ, [], false};
+ghost use Rattle.go_sgf.specs.Record.{Property};
+ghost use Rattle.go_record.specs.MainLine.{kind_by, move_event};
 
 use go_board::Colour;
-use go_sgf::Property;
-use std::alloc::Allocator;
+use go_sgf::is_named;
 
 /// What a property is for.
 #[derive(Clone, Copy)]
@@ -18,32 +18,33 @@ pub(crate) enum Kind {
     Other,
 }
 
-pub(crate) fn kind_of<A: Allocator + Copy>(property: &Property<'_, A>) -> Kind
-    ensures { result ≡ kind_by property.now }
-{
-    if property.is(b"B") {
-        Kind::Move(Colour::Black)
-    } else if property.is(b"W") {
-        Kind::Move(Colour::White)
-    } else if property.is(b"AB") {
-        Kind::Stones(Some(Colour::Black))
-    } else if property.is(b"AW") {
-        Kind::Stones(Some(Colour::White))
-    } else if property.is(b"AE") {
-        Kind::Stones(None)
-    } else if property.is(b"PL") {
-        Kind::Turn
-    } else {
-        Kind::Other
+impl Kind {
+    /// Whether it is a move.
+    pub(crate) fn is_move(self) -> bool
+        ensures { result ≡ false → (node : ℕ) (p : Property) → self ≡ kind_by p
+            → move_event node p ≡ [] }
+    {
+        matches!(self, Kind::Move(_))
     }
 }
 
-/// The first value of a property, or an empty one where it has none.
-pub(crate) fn first_value<'a, A: Allocator + Copy>(property: &Property<'a, A>) -> &'a [u8]
-    ensures { result.now ≡ leading_value property.now.values }
+/// What a property with this name is for.
+pub(crate) fn kind_of(name: &[u8]) -> Kind
+    ensures { (p : Property) → name.now ≡ p.name → result ≡ kind_by p }
 {
-    match property.values().first() {
-        Some(value) => *value,
-        None => b"",
+    if is_named(name, b"B") {
+        Kind::Move(Colour::Black)
+    } else if is_named(name, b"W") {
+        Kind::Move(Colour::White)
+    } else if is_named(name, b"AB") {
+        Kind::Stones(Some(Colour::Black))
+    } else if is_named(name, b"AW") {
+        Kind::Stones(Some(Colour::White))
+    } else if is_named(name, b"AE") {
+        Kind::Stones(None)
+    } else if is_named(name, b"PL") {
+        Kind::Turn
+    } else {
+        Kind::Other
     }
 }

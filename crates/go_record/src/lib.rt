@@ -2,6 +2,8 @@
 //!
 //! - [`replay`], [`replay_on`], [`RecordError`]: the game of a record, or why it has none.
 //! - [`judge`], [`Verdict`], [`Stated`]: its score, and whether the record states that score.
+//! - [`replay_source`], [`replay_source_on`], [`judge_source`]: the same of the record that a source
+//!   spells, without lists of its parts.
 //! - [`write_record`], [`put_record`]: the record of a game, which replays to it.
 //!
 //! The game of a record before its eleventh move:
@@ -12,7 +14,7 @@
 //! ```
 //!
 //! What is promised is in the clauses of `replaying.rt`, `judging.rt` and `writer.rt`. Their words
-//! are in `specs/`: `MainLine` says what a record's main line has, `Walks` and `Games` what comes
+//! are in `specs/`: `MainLine` says what the nodes of a main line say, `Walks` and `Games` what comes
 //! of it, `Verdicts` what is judged, and `Records` what a game's record is. `Laws` has what holds
 //! of all of them. What `specs/inner/` defines serves private functions alone.
 #![tactic(auto)]
@@ -25,13 +27,14 @@ mod replaying;
 mod root;
 mod start;
 mod state;
+mod values;
 mod verdict;
 mod walk;
 mod writer;
 
 pub use error::RecordError;
-pub use judging::judge;
-pub use replaying::{replay, replay_on};
+pub use judging::{judge, judge_source};
+pub use replaying::{replay, replay_on, replay_source, replay_source_on};
 pub use root::USUAL_LINES;
 pub use verdict::{Stated, Verdict};
 pub use writer::{put_record, write_record};

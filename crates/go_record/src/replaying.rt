@@ -1,17 +1,20 @@
-ghost use Rattle.std.specs.Prelude.{◌≡◌, ◌≢◌, ◌+◌, Err, IfErr, IfOk, Ok, OnErr, OnOk, length, true};
+ghost use Rattle.std.specs.Prelude.{◌≡◌, ◌≢◌, Err, IfErr, IfOk, Ok, OnErr, OnOk, true};
 ghost use Rattle.go_record.specs.declared.error.RecordError.TheVariants.{Memory};
 ghost use Rattle.go_game.specs.Standings.{is_vacant_standing};
 ghost use Rattle.go_record.specs.Games.{IsGameOf};
-ghost use Rattle.go_record.specs.MainLine.{events_from, main_line};
-ghost use Rattle.go_record.specs.inner.Progress.{Says, Walked, left_by};
+ghost use Rattle.go_record.specs.MainLine.{events_from};
+ghost use Rattle.go_record.specs.inner.Progress.{IsRootOf, Says, Walked, left_by};
+ghost use Rattle.go_sgf.specs.MainLine.{main_line};
+ghost use Rattle.go_sgf.specs.Record.{Trees};
+ghost use Rattle.go_sgf.specs.Spelling.{Spells};
 
 use crate::error::RecordError;
-use crate::root::{Root, root_of};
+use crate::root::{Root, RootValues, root_of, root_values};
 use crate::state::{Left, Walk};
 use crate::walk::next;
 use go_board::Grid;
 use go_game::Game;
-use go_sgf::{Collection, Node};
+use go_sgf::{Collection, MainLine};
 use std::alloc::Allocator;
 
 /// The game of a record: that of the main line of its first tree, with the size, komi and start
@@ -28,9 +31,39 @@ pub fn replay<A: Allocator + Copy>(
     ensures err { IfErr result
         (λ e. e ≢ Memory → IsGameOf collection.now number (Err e)) }
 {
-    let root = root_of(collection)?;
+    replay_source(alloc, collection.source(), number)
+}
+
+/// The game of the record that a source spells, as [`replay`] gives it, without lists of its parts.
+/// Of a source that spells no record nothing is said.
+pub fn replay_source<A: Allocator + Copy>(
+    alloc: A,
+    source: &[u8],
+    number: Option<u32>,
+) -> Result<Game<A>, RecordError>
+    ensures ok { (c : Trees) → Spells source.now c → IfOk result
+        (λ game. IsGameOf c number (Ok game.standing)) }
+    ensures err { (c : Trees) → Spells source.now c → IfErr result
+        (λ e. e ≢ Memory → IsGameOf c number (Err e)) }
+{
+    replay_from(alloc, &root_values(source), source, number)
+}
+
+/// The game of the record that a source spells, whose root has these values.
+pub(crate) fn replay_from<A: Allocator + Copy>(
+    alloc: A,
+    values: &RootValues<'_>,
+    source: &[u8],
+    number: Option<u32>,
+) -> Result<Game<A>, RecordError>
+    ensures ok { (c : Trees) → Spells source.now c → IsRootOf values.now c → IfOk result
+        (λ game. IsGameOf c number (Ok game.standing)) }
+    ensures err { (c : Trees) → Spells source.now c → IsRootOf values.now c → IfErr result
+        (λ e. e ≢ Memory → IsGameOf c number (Err e)) }
+{
+    let root = root_of(values)?;
     let mut game = Game::new(alloc, root.size);
-    walk_on(&mut game, &root, collection, number)?;
+    walk_on(&mut game, &root, source, number)?;
     Ok(game)
 }
 
@@ -46,7 +79,22 @@ pub fn replay_on<A: Allocator + Copy>(
         (λ e. e ≢ Memory → IsGameOf collection.now number (Err e)) }
     ensures vacant { OnErr result (is_vacant_standing game.new.standing ≡ true) }
 {
-    match bring(game, collection, number) {
+    replay_source_on(game, collection.source(), number)
+}
+
+/// Brings a game to where [`replay_source`] does, in place. Where that refuses, the game is vacant.
+pub fn replay_source_on<A: Allocator + Copy>(
+    game: &mut Game<A>,
+    source: &[u8],
+    number: Option<u32>,
+) -> Result<(), RecordError>
+    ensures ok { (c : Trees) → Spells source.now c → OnOk result
+        (IsGameOf c number (Ok game.new.standing)) }
+    ensures err { (c : Trees) → Spells source.now c → IfErr result
+        (λ e. e ≢ Memory → IsGameOf c number (Err e)) }
+    ensures vacant { OnErr result (is_vacant_standing game.new.standing ≡ true) }
+{
+    match bring(game, source, number) {
         Ok(()) => Ok(()),
         Err(why) => {
             game.clear();
@@ -58,30 +106,29 @@ pub fn replay_on<A: Allocator + Copy>(
 /// Brings a game to where a record's game stands, or to where the walk along it was refused.
 fn bring<A: Allocator + Copy>(
     game: &mut Game<A>,
-    collection: &Collection<'_, A>,
+    source: &[u8],
     number: Option<u32>,
 ) -> Result<(), RecordError>
-    ensures ok { OnOk result
-        (IsGameOf collection.now number (Ok game.new.standing)) }
-    ensures err { IfErr result
-        (λ e. e ≢ Memory → IsGameOf collection.now number (Err e)) }
+    ensures ok { (c : Trees) → Spells source.now c → OnOk result
+        (IsGameOf c number (Ok game.new.standing)) }
+    ensures err { (c : Trees) → Spells source.now c → IfErr result
+        (λ e. e ≢ Memory → IsGameOf c number (Err e)) }
 {
-    let root = root_of(collection)?;
-    walk_on(game, &root, collection, number)
+    let root = root_of(&root_values(source))?;
+    walk_on(game, &root, source, number)
 }
 
 /// Walks along a record whose root says this.
 fn walk_on<A: Allocator + Copy>(
     game: &mut Game<A>,
     root: &Root,
-    collection: &Collection<'_, A>,
+    source: &[u8],
     number: Option<u32>,
 ) -> Result<(), RecordError>
-    requires { Says collection.now root.now.size root.now.komi }
-    ensures ok { OnOk result
-        (IsGameOf collection.now number (Ok game.new.standing)) }
-    ensures err { IfErr result
-        (λ e. e ≢ Memory → IsGameOf collection.now number (Err e)) }
+    ensures ok { (c : Trees) → Spells source.now c → Says c root.now.size root.now.komi
+        → OnOk result (IsGameOf c number (Ok game.new.standing)) }
+    ensures err { (c : Trees) → Spells source.now c → Says c root.now.size root.now.komi
+        → IfErr result (λ e. e ≢ Memory → IsGameOf c number (Err e)) }
 {
     let mut walk = Walk {
         komi: root.komi,
@@ -90,7 +137,7 @@ fn walk_on<A: Allocator + Copy>(
         is_playing: false,
         left: left_of(number),
     };
-    pass_line(&mut walk, game, collection)?;
+    pass_line(&mut walk, game, source)?;
     walk.finish(game)
 }
 
@@ -105,39 +152,23 @@ fn left_of(number: Option<u32>) -> Left
     }
 }
 
-/// Passes the main line of the first tree.
+/// Passes the main line of the record that a source spells, as far as it is looked at.
 fn pass_line<A: Allocator + Copy>(
     walk: &mut Walk,
     game: &mut Game<A>,
-    collection: &Collection<'_, A>,
+    source: &[u8],
 ) -> Result<(), RecordError>
-    ensures { Walked result (walk.old, game.old)
-        (events_from 0 (main_line collection.now)) (walk.new, game.new) }
+    ensures { (c : Trees) → Spells source.now c → Walked result (walk.old, game.old)
+        (events_from 0 (main_line c)) (walk.new, game.new) }
 {
+    let mut line = MainLine::of(source);
     let mut count = 0;
-    let mut current = collection.trees().first();
-    while let Some(tree) = current {
-        count = pass_nodes(walk, game, tree.nodes(), count)?;
-        current = tree.children().first();
-    }
-    Ok(())
-}
-
-/// Passes nodes, the first of which has this number, and gives the number of the next.
-fn pass_nodes<A: Allocator + Copy>(
-    walk: &mut Walk,
-    game: &mut Game<A>,
-    nodes: &[Node<'_, A>],
-    first: usize,
-) -> Result<usize, RecordError>
-    ensures walked { Walked result (walk.old, game.old)
-        (events_from first nodes.now) (walk.new, game.new) }
-    ensures count { IfOk result (λ count. count ≡ first + length nodes.now) }
-{
-    let mut count = first;
-    for node in nodes {
-        walk.pass_node(game, node, count)?;
+    while line.next_node() {
+        walk.pass_node(game, &mut line, count)?;
+        if walk.is_over() {
+            return Ok(());
+        }
         count = next(count)?;
     }
-    Ok(count)
+    Ok(())
 }

@@ -1,16 +1,60 @@
 ghost use Rattle.std.specs.Prelude.{◌≡◌, ◌==◌, ◌<◌, Err, IfErr, IfOk, IfSome, ℕ, Option, length, position};
 ghost use Rattle.go_board.specs.Komi.{IsKomi};
-ghost use Rattle.go_record.specs.inner.Progress.{Says};
-ghost use Rattle.go_record.specs.Games.{IsGameOf, is_blank_value, is_go_value, is_number_one, komi_in, lines_in, number_by, value_at_root, number_of_both, value_named};
+ghost use Rattle.go_record.specs.inner.Progress.{IsRootOf, Says};
+ghost use Rattle.go_record.specs.Games.{IsGameOf, is_blank_value, is_go_value, is_number_one, komi_in, lines_in, number_by, number_of_both, value_at_root};
+ghost use Rattle.go_sgf.specs.Record.{Trees};
+ghost use Rattle.go_sgf.specs.Spelling.{Spells};
 
 use crate::error::RecordError;
-use crate::kind::first_value;
+use crate::values::{first_value, skip_values};
 use go_board::Size;
-use go_sgf::{Collection, Property, hundredths_of, number_of};
-use std::alloc::Allocator;
+use go_sgf::{MainLine, hundredths_of, is_named, number_of};
 
 /// The lines of a board whose record says nothing of them.
 pub const USUAL_LINES: u8 = 19;
+
+/// What a record's first node says beside its events: the first value of the first property with
+/// each name, or an empty one.
+#[derive(Clone, Copy)]
+pub(crate) struct RootValues<'a> {
+    /// GM.
+    pub(crate) game: &'a [u8],
+    /// SZ.
+    pub(crate) size: &'a [u8],
+    /// KM.
+    pub(crate) komi: &'a [u8],
+    /// RE.
+    pub(crate) result: &'a [u8],
+}
+
+/// The values at the root of the record that a source spells.
+pub(crate) fn root_values(source: &[u8]) -> RootValues<'_>
+    ensures { (c : Trees) → Spells source.now c → IsRootOf result c }
+{
+    RootValues {
+        game: root_value(source, b"GM"),
+        size: root_value(source, b"SZ"),
+        komi: root_value(source, b"KM"),
+        result: root_value(source, b"RE"),
+    }
+}
+
+/// The first value of the first property with this name in the first node, or an empty one.
+fn root_value<'a>(source: &'a [u8], name: &[u8]) -> &'a [u8]
+    ensures { (c : Trees) → Spells source.now c → result.now ≡ value_at_root name.now c }
+{
+    let mut line = MainLine::of(source);
+    if !line.next_node() {
+        return b"";
+    }
+    while let Some(found) = line.next_name() {
+        if is_named(found, name) {
+            return first_value(&mut line);
+        }
+        skip_values(&mut line);
+    }
+    b""
+}
 
 /// What a record's first node says of its game before any event.
 #[derive(Clone, Copy)]
@@ -21,51 +65,22 @@ pub(crate) struct Root {
 }
 
 /// The size and the komi of a record. The first refusal that is met: the game, the size, the komi.
-pub(crate) fn root_of<A: Allocator + Copy>(
-    collection: &Collection<'_, A>,
-) -> Result<Root, RecordError>
-    ensures ok { IfOk result
-        (λ root. Says collection.now root.size root.komi) }
-    ensures err { IfErr result (λ e. (number : Option ℕ)
-        → IsGameOf collection.now number (Err e)) }
+pub(crate) fn root_of(values: &RootValues<'_>) -> Result<Root, RecordError>
+    ensures ok { (c : Trees) → IsRootOf values.now c
+        → IfOk result (λ root. Says c root.size root.komi) }
+    ensures err { (c : Trees) → IsRootOf values.now c
+        → IfErr result (λ e. (number : Option ℕ) → IsGameOf c number (Err e)) }
 {
-    if !is_go(root_value(collection, b"GM")) {
+    if !is_go(values.game) {
         return Err(RecordError::NotGo);
     }
-    let Some(size) = size_of(root_value(collection, b"SZ")) else {
+    let Some(size) = size_of(values.size) else {
         return Err(RecordError::BadSize);
     };
-    match komi_of(root_value(collection, b"KM")) {
+    match komi_of(values.komi) {
         Some(komi) => Ok(Root { size, komi }),
         None => Err(RecordError::BadKomi),
     }
-}
-
-/// The first value of the first property with this name in the first node, or an empty one.
-pub(crate) fn root_value<'a, A: Allocator + Copy>(
-    collection: &Collection<'a, A>,
-    name: &[u8],
-) -> &'a [u8]
-    ensures { result.now ≡ value_at_root name.now collection.now }
-{
-    let Some(tree) = collection.trees().first() else {
-        return b"";
-    };
-    match tree.nodes().first() {
-        Some(node) => value_in(name, node.properties()),
-        None => b"",
-    }
-}
-
-fn value_in<'a, A: Allocator + Copy>(name: &[u8], properties: &[Property<'a, A>]) -> &'a [u8]
-    ensures { result.now ≡ value_named name.now properties.now }
-{
-    for property in properties {
-        if property.is(name) {
-            return first_value(property);
-        }
-    }
-    b""
 }
 
 /// Whether a GM value says that the game is Go, which goes without saying.

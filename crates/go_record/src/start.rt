@@ -1,26 +1,38 @@
-ghost use Rattle.std.specs.Prelude.{◌≡◌, All, IfNone, List, None, OnSome, Some};
+ghost use Rattle.std.specs.Prelude.{◌≡◌, ◌≤◌, ℕ, All, IfNone, List, None, OnSome, Some, length};
 ghost use Rattle.go_board.specs.declared.point.Point.{Point};
 ghost use Rattle.go_board.specs.Points.{IsOn};
 ghost use Rattle.go_board.specs.Reaching.{is_same};
 ghost use Rattle.go_sgf.specs.BoardValues.{points_by_values};
-ghost use Rattle.go_sgf.specs.Record.{values_of};
+ghost use Rattle.go_sgf.specs.MainLine.{IsLeft};
+ghost use Rattle.go_sgf.specs.Record.{Property};
 ghost use Rattle.go_sgf.specs.Rectangles.{listed};
+ghost use Rattle.go_record.specs.inner.Progress.{IsAmongValues};
 ghost use Rattle.go_record.specs.Walks.{colour_stated, opening_mover, holds_stones, with_points};
 
 use go_board::{Colour, Grid, Point};
-use go_sgf::{Rectangle, Row, points_in, trim};
+use go_sgf::{MainLine, Rectangle, Row, points_in, trim};
 
-/// Gives the points of values a colour, or empties them, value by value. None at the first that is
-/// malformed: the points of those before it are set then.
-pub(crate) fn set_points(grid: &mut Grid, colour: Option<Colour>, values: &[&[u8]]) -> Option<()>
+/// Gives the points of a property's values a colour, or empties them, value by value. None at the
+/// first that is malformed: the points of those before it are set then.
+pub(crate) fn set_points(
+    grid: &mut Grid,
+    colour: Option<Colour>,
+    line: &mut MainLine<'_>,
+) -> Option<()>
     ensures lines { grid.new.lines ≡ grid.old.lines }
-    ensures set { OnSome result ((ps : List Point)
-        × (points_by_values grid.old.lines (values_of values.now) ≡ Some ps)
+    ensures set { OnSome result ((values : List (List ℕ)) (later : List Property)
+        (nodes : List (List Property)) → IsLeft line.old values later nodes
+        → (ps : List Point) × (points_by_values grid.old.lines values ≡ Some ps)
         × (grid.new.colours ≡ with_points grid.old.lines colour grid.old.colours ps)) }
-    ensures bad { IfNone result (points_by_values grid.old.lines (values_of values.now) ≡ None) }
+    ensures bad { IfNone result ((values : List (List ℕ)) (later : List Property)
+        (nodes : List (List Property)) → IsLeft line.old values later nodes
+        → points_by_values grid.old.lines values ≡ None) }
+    ensures line { (later : List Property) (nodes : List (List Property))
+        → IsAmongValues line.old later nodes → IsAmongValues line.new later nodes }
+    ensures onward { length line.new ≤ length line.old }
 {
     let size = grid.size();
-    for value in values {
+    while let Some(value) = line.next_value() {
         set_rows(grid, colour, points_in(value, size)?);
     }
     Some(())

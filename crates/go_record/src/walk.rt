@@ -1,107 +1,146 @@
-ghost use Rattle.std.specs.Prelude.{◌≡◌, ◌≢◌, [], ◌∷◌, Err, IfErr, IfOk, List, Ok, OnOk, ◌+◌, Some, true};
+ghost use Rattle.std.specs.Prelude.{◌≡◌, ◌≢◌, ◌≤◌, ◌+◌, ℕ, [], ◌∷◌, Err, IfErr, IfOk, List, Ok, OnOk, Some, false, length, true};
 ghost use Rattle.go_record.specs.declared.error.RecordError.{RecordError};
 ghost use Rattle.go_record.specs.declared.error.RecordError.TheVariants.{Memory};
-ghost use Rattle.go_record.specs.MainLine.{events_of, Event, move_met, move_event, setup_event, stones, turn};
-ghost use Rattle.go_record.specs.inner.Progress.{Goes, GoesFrom, Walked, is_nothing, playing};
+ghost use Rattle.go_record.specs.MainLine.{events_of, Event, kind_by, move_met, move_event, setup_event, stones, turn};
+ghost use Rattle.go_record.specs.inner.Progress.{Goes, GoesFrom, IsAmongValues, Walked, is_nothing, playing};
 ghost use Rattle.go_game.specs.Standings.{GameValue};
 ghost use Rattle.go_board.specs.Living.{AreAlive};
 ghost use Rattle.go_record.specs.Walks.{IsDeadSetup, Outcome, Plays, start_of};
-ghost use Rattle.go_sgf.specs.Record.{values_of};
+ghost use Rattle.go_sgf.specs.MainLine.{IsLeft};
+ghost use Rattle.go_sgf.specs.Record.{Property};
 ghost use Rattle.std.specs.List.{flat_map};
 
 use crate::error::RecordError;
-use crate::kind::{Kind, first_value, kind_of};
+use crate::kind::{Kind, kind_of};
 use crate::start::{colour_of, first_mover, set_points};
 use crate::state::{Left, Walk};
+use crate::values::{first_value, skip_values};
 use go_board::{Colour, Grid, Move, Vertex};
 use go_game::{Game, PlayError, SetupError};
-use go_sgf::{Node, Property, point_of};
+use go_sgf::{MainLine, point_of};
 use std::alloc::Allocator;
 
 impl Walk {
-    /// Passes a node with this number.
+    /// Passes the node that was entered, which has this number: what sets up comes before the moves.
     pub(crate) fn pass_node<A: Allocator + Copy>(
         &mut self,
         game: &mut Game<A>,
-        node: &Node<'_, A>,
+        line: &mut MainLine<'_>,
         number: usize,
     ) -> Result<(), RecordError>
-        ensures { Walked result (self.old, game.old) (events_of number node.now)
+        ensures walked { (properties : List Property) (nodes : List (List Property))
+            → IsLeft line.old [] properties nodes
+            → Walked result (self.old, game.old) (events_of number properties)
             (self.new, game.new) }
+        ensures line { (properties : List Property) (nodes : List (List Property))
+            → IsLeft line.old [] properties nodes → OnOk result (IsLeft line.new [] [] nodes) }
+        ensures onward { length line.new ≤ length line.old }
     {
-        self.set_up(node.properties(), number)?;
-        self.play_moves(game, node.properties(), number)
-    }
-
-    /// Sets up what the properties of a node say. No game is touched.
-    fn set_up<A: Allocator + Copy>(
-        &mut self,
-        properties: &[Property<'_, A>],
-        node: usize,
-    ) -> Result<(), RecordError>
-        ensures { (game : GameValue) → Walked result (self.old, game)
-            (flat_map (setup_event node) properties.now) (self.new, game) }
-    {
-        for property in properties {
-            self.pass_setup(property, node)?;
+        let mut again = line.fork();
+        if self.set_up(line, number)? {
+            self.play_moves(game, &mut again, number)?;
         }
         Ok(())
     }
 
-    fn play_moves<A: Allocator + Copy>(
-        &mut self,
-        game: &mut Game<A>,
-        properties: &[Property<'_, A>],
-        node: usize,
-    ) -> Result<(), RecordError>
-        ensures { Walked result (self.old, game.old)
-            (flat_map (move_event node) properties.now) (self.new, game.new) }
+    /// Sets up what the properties of a node say, and tells whether one of them is a move.
+    fn set_up(&mut self, line: &mut MainLine<'_>, node: usize) -> Result<bool, RecordError>
+        ensures walked { (properties : List Property) (nodes : List (List Property))
+            → IsLeft line.old [] properties nodes → (game : GameValue)
+            → Walked result (self.old, game) (flat_map (setup_event node) properties)
+            (self.new, game) }
+        ensures still { (properties : List Property) (nodes : List (List Property))
+            → IsLeft line.old [] properties nodes → IfOk result (λ has_move. has_move ≡ false
+            → flat_map (move_event node) properties ≡ []) }
+        ensures line { (properties : List Property) (nodes : List (List Property))
+            → IsLeft line.old [] properties nodes → OnOk result (IsLeft line.new [] [] nodes) }
+        ensures onward { length line.new ≤ length line.old }
     {
-        for property in properties {
-            self.pass_move(game, property, node)?;
+        let mut has_move = false;
+        while let Some(name) = line.next_name() {
+            let kind = kind_of(name);
+            self.pass_setup(kind, line, node)?;
+            has_move |= kind.is_move();
+            skip_values(line);
         }
-        Ok(())
+        Ok(has_move)
     }
 
-    fn pass_setup<A: Allocator + Copy>(
+    /// Sets up what the values of a property of this kind say.
+    fn pass_setup(
         &mut self,
-        property: &Property<'_, A>,
+        kind: Kind,
+        line: &mut MainLine<'_>,
         node: usize,
     ) -> Result<(), RecordError>
-        ensures { (game : GameValue) → Walked result (self.old, game)
-            (setup_event node property.now) (self.new, game) }
+        ensures walked { (p : Property) (later : List Property) (nodes : List (List Property))
+            → kind ≡ kind_by p → IsLeft line.old p.values later nodes → (game : GameValue)
+            → Walked result (self.old, game) (setup_event node p) (self.new, game) }
+        ensures line { (later : List Property) (nodes : List (List Property))
+            → IsAmongValues line.old later nodes → IsAmongValues line.new later nodes }
+        ensures onward { length line.new ≤ length line.old }
     {
-        match kind_of(property) {
-            Kind::Stones(colour) => self.set_stones(colour, property.values(), node),
-            Kind::Turn => self.set_turn(first_value(property), node),
+        match kind {
+            Kind::Stones(colour) => self.set_stones(colour, line, node),
+            Kind::Turn => self.set_turn(first_value(line), node),
             Kind::Move(_) | Kind::Other => Ok(()),
         }
     }
 
+    /// Plays the moves among the properties of a node.
+    fn play_moves<A: Allocator + Copy>(
+        &mut self,
+        game: &mut Game<A>,
+        line: &mut MainLine<'_>,
+        node: usize,
+    ) -> Result<(), RecordError>
+        ensures { (properties : List Property) (nodes : List (List Property))
+            → IsLeft line.old [] properties nodes
+            → Walked result (self.old, game.old) (flat_map (move_event node) properties)
+            (self.new, game.new) }
+    {
+        while let Some(name) = line.next_name() {
+            self.pass_move(game, kind_of(name), line, node)?;
+            skip_values(line);
+        }
+        Ok(())
+    }
+
+    /// Plays the move of a property of this kind, where it is one.
     fn pass_move<A: Allocator + Copy>(
         &mut self,
         game: &mut Game<A>,
-        property: &Property<'_, A>,
+        kind: Kind,
+        line: &mut MainLine<'_>,
         node: usize,
     ) -> Result<(), RecordError>
-        ensures { Walked result (self.old, game.old) (move_event node property.now)
-            (self.new, game.new) }
+        ensures walked { (p : Property) (later : List Property) (nodes : List (List Property))
+            → kind ≡ kind_by p → IsLeft line.old p.values later nodes
+            → Walked result (self.old, game.old) (move_event node p) (self.new, game.new) }
+        ensures line { (later : List Property) (nodes : List (List Property))
+            → IsAmongValues line.old later nodes → IsAmongValues line.new later nodes }
+        ensures onward { length line.new ≤ length line.old }
     {
-        match kind_of(property) {
-            Kind::Move(colour) => self.take_turn(game, colour, first_value(property), node),
+        match kind {
+            Kind::Move(colour) => self.take_turn(game, colour, first_value(line), node),
             Kind::Stones(_) | Kind::Turn | Kind::Other => Ok(()),
         }
     }
 
-    /// Gives the points of values a colour, or empties them.
+    /// Gives the points of a property's values a colour, or empties them.
     fn set_stones(
         &mut self,
         colour: Option<Colour>,
-        values: &[&[u8]],
+        line: &mut MainLine<'_>,
         node: usize,
     ) -> Result<(), RecordError>
-        ensures { (game : GameValue) → Walked result (self.old, game)
-            (stones node colour (values_of values.now) ∷ []) (self.new, game) }
+        ensures walked { (values : List (List ℕ)) (later : List Property)
+            (nodes : List (List Property)) → IsLeft line.old values later nodes
+            → (game : GameValue)
+            → Walked result (self.old, game) (stones node colour values ∷ []) (self.new, game) }
+        ensures line { (later : List Property) (nodes : List (List Property))
+            → IsAmongValues line.old later nodes → IsAmongValues line.new later nodes }
+        ensures onward { length line.new ≤ length line.old }
     {
         if self.is_over() {
             return Ok(());
@@ -109,7 +148,7 @@ impl Walk {
         if self.is_playing {
             return Err(RecordError::SetupAfterMove(node));
         }
-        match set_points(&mut self.grid, colour, values) {
+        match set_points(&mut self.grid, colour, line) {
             Some(()) => Ok(()),
             None => Err(RecordError::BadValue(node)),
         }

@@ -146,7 +146,7 @@ fn decide_on<A: Allocator + Copy>(
         Some(Command::Genmove) => play::decide_genmove(game, request),
         Some(Command::Undo) => play::decide_undo(game),
         Some(Command::RegGenmove) => play::decide_reg_genmove(game, request),
-        Some(Command::Loadsgf) => match record::load_requested(spare, alloc, request, fetched) {
+        Some(Command::Loadsgf) => match record::load_requested(spare, request, fetched) {
             Ok(()) => {
                 game.clear();
                 return (Decision::Done, true);

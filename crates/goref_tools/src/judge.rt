@@ -10,8 +10,8 @@ use crate::flushing::passed_on;
 use crate::input::read_input;
 use crate::verdict_lines::write_verdict;
 use go_board::{Sink, Source, WriteFault};
-use go_record::judge;
-use go_sgf::read;
+use go_record::judge_source;
+use go_sgf::check;
 use std::alloc::Allocator;
 
 /// Reads a record up to the end of the input, and writes the verdict on it in three lines: how many
@@ -40,8 +40,8 @@ pub fn judge_run<A: Allocator + Copy, R: Source, W: Sink>(
     ensures devices { UsesDevices R.Source W.Sink result reader.old reader.new writer.old writer.new }
 {
     let source = read_input(alloc, reader)?;
-    let collection = read(alloc, source.as_slice())?;
-    let verdict = judge(alloc, &collection)?;
+    check(source.as_slice())?;
+    let verdict = judge_source(alloc, source.as_slice())?;
     match write_verdict(verdict, writer) {
         Ok(()) => passed_on(writer),
         Err(WriteFault) => Err(ToolError::Write),

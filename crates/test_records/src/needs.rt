@@ -24,13 +24,13 @@ fn does(tool: Tool, alloc: Global, source: &[u8], bytes: u64) -> bool {
 }
 
 /// Asserts that a record is read with so many bytes, tidied with those for its own, and judged with
-/// both and so many for its game.
+/// these and so many for its game: no lists are made of its parts for that.
 fn needs_little(rt: &impl Abort, alloc: Global, source: &[u8], to_read: u64, to_play: u64) {
     let limited = Limited::new(alloc, to_read);
     assert!(rt; read(&limited, source).is_ok());
     let to_tidy = for_list(source.len() as u64, 1);
     assert!(rt; does(Tool::Tidy, alloc, source, to_tidy));
-    let to_judge = to_tidy.saturating_add(to_read).saturating_add(to_play);
+    let to_judge = to_tidy.saturating_add(to_play);
     assert!(rt; does(Tool::Judge, alloc, source, to_judge));
 }
 

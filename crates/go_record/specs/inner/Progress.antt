@@ -1,14 +1,13 @@
 -- How far the walk along a main line is. It serves the contracts of private functions alone.
-use Rattle.std.specs.Borrow.{Bor}
-use Rattle.go_sgf.specs.Record.{Trees, none, tree}
-use Rattle.go_sgf.specs.View.{tree_of}
-use Rattle.go_sgf.specs.declared.record.Tree.{Tree}
+use Rattle.go_sgf.specs.MainLine.{IsLeft}
+use Rattle.go_sgf.specs.Record.{Property, Trees}
 use Rattle.std.specs.Prelude.{◌≡◌, ◌≢◌, codes, ◌-◌, ◌++◌, ℕ, ℤ, Bool, true, false, if◌then◌else◌, List, [], Option, Some, None, Result, Err, MatchResult}
 use Rattle.go_board.specs.declared.colour.Colour.{Colour}
 use Rattle.go_board.specs.Colours.{Colouring}
 use Rattle.go_game.specs.Standings.{GameValue}
 use Rattle.go_record.specs.declared.error.RecordError.{RecordError}
 use Rattle.go_record.specs.declared.error.RecordError.TheVariants.{Memory}
+use Rattle.go_record.specs.declared.root.RootValues.{RootValues}
 use Rattle.go_record.specs.declared.state.Left.{Left}
 use Rattle.go_record.specs.declared.state.Left.TheVariants.{All, Moves, Nothing}
 use Rattle.go_record.specs.declared.state.Walk.{Walk}
@@ -71,7 +70,13 @@ abbrev pub left_by : Option ℕ → Left
 left_by None = All
 left_by (Some n) = Moves (n - 1)
 
--- what is left of a main line from a tree on
-abbrev pub line_from : {A : Type 0} → Option (Bor (Tree A)) → Trees
-line_from None = none
-line_from (Some t) = tree (tree_of t.now).0 (tree_of t.now).1 none
+-- some values of a property are left, and then these properties and nodes
+abbrev pub IsAmongValues : List ℕ → List Property → List (List Property) → Type 0
+IsAmongValues text properties nodes = (values : List (List ℕ)) × IsLeft text values properties nodes
+
+-- the values at the root of a record
+pub record IsRootOf (values : RootValues) (c : Trees) : Type 0 where
+  pub game : values.game.now ≡ value_at_root (codes "GM") c
+  pub size : values.size.now ≡ value_at_root (codes "SZ") c
+  pub komi : values.komi.now ≡ value_at_root (codes "KM") c
+  pub result_said : values.result.now ≡ value_at_root (codes "RE") c

@@ -9,15 +9,14 @@ use crate::decision::Refusal;
 use crate::fetched::Fetched;
 use crate::loading::load_asked;
 use go_game::Game;
-use go_record::{RecordError, replay_on};
-use go_sgf::{SgfError, read};
+use go_record::{RecordError, replay_source_on};
+use go_sgf::{SgfError, check};
 use goref_lines::Request;
 use std::alloc::Allocator;
 
 /// Loads what a request asks for on a game, or tells why not.
 pub fn load_requested<A: Allocator + Copy>(
     game: &mut Game<A>,
-    alloc: A,
     request: &Request,
     fetched: &Fetched<A>,
 ) -> Result<(), Refusal>
@@ -26,14 +25,13 @@ pub fn load_requested<A: Allocator + Copy>(
 {
     match load_asked(request) {
         None => Err(Refusal::SyntaxError),
-        Some(load) => load_fetched(game, alloc, fetched, load.number),
+        Some(load) => load_fetched(game, fetched, load.number),
     }
 }
 
 /// Loads what was fetched, or tells why there is nothing to load.
 fn load_fetched<A: Allocator + Copy>(
     game: &mut Game<A>,
-    alloc: A,
     fetched: &Fetched<A>,
     number: Option<u32>,
 ) -> Result<(), Refusal>
@@ -41,7 +39,7 @@ fn load_fetched<A: Allocator + Copy>(
         (after_load s game.new.standing result) }
 {
     match fetched {
-        Fetched::Bytes(bytes) => load_bytes(game, alloc, bytes.as_slice(), number),
+        Fetched::Bytes(bytes) => load_bytes(game, bytes.as_slice(), number),
         Fetched::Memory => Err(Refusal::OutOfMemory),
         Fetched::None => Err(Refusal::CannotLoad),
         Fetched::Missing => Err(Refusal::CannotLoad),
@@ -52,14 +50,13 @@ fn load_fetched<A: Allocator + Copy>(
 /// Loads a record from its bytes, or tells why not.
 fn load_bytes<A: Allocator + Copy>(
     game: &mut Game<A>,
-    alloc: A,
     bytes: &[u8],
     number: Option<u32>,
 ) -> Result<(), Refusal>
     ensures { (s : Standing) → DecidesBytes s bytes.now number
         (after_load s game.new.standing result) }
 {
-    match load_on(game, alloc, bytes, number) {
+    match load_on(game, bytes, number) {
         Ok(()) => Ok(()),
         Err(LoadError::Cannot) => Err(Refusal::CannotLoad),
         Err(LoadError::Memory) => Err(Refusal::OutOfMemory),
@@ -70,15 +67,14 @@ fn load_bytes<A: Allocator + Copy>(
 /// refusal leaves it at no standing that was asked for.
 fn load_on<A: Allocator + Copy>(
     game: &mut Game<A>,
-    alloc: A,
     bytes: &[u8],
     number: Option<u32>,
 ) -> Result<(), LoadError>
     ensures ok { OnOk result (Loads bytes.now number game.new.standing) }
     ensures cannot { IsErrOf result LoadError.Cannot → LoadsNone bytes.now number }
 {
-    let collection = read(alloc, bytes)?;
-    replay_on(game, &collection, number)?;
+    check(bytes)?;
+    replay_source_on(game, bytes, number)?;
     Ok(())
 }
 

@@ -1,49 +1,55 @@
-use Rattle.std.proofs.Common.{◌≡◌, ◌∙◌, ◌+◌, ◌++◌, List, Option, ap, subst, sym, length, refl}
+use Rattle.std.proofs.Common.{◌∙◌, ◌+◌, ◌++◌, [], List, ap, subst, sym, refl}
 use Rattle.std.specs.Prelude.{Err}
+use Rattle.std.proofs.lemmas.List.{append-nil}
 use Rattle.std.proofs.lemmas.Result.{err_from_is_err_and}
-use Rattle.go_sgf.specs.View.{tree_of}
-use Rattle.go_record.specs.MainLine.{Event, events_from, main_line}
-use Rattle.go_record.specs.inner.Progress.{Goes, WalkedGame, line_from}
-use Rattle.go_record.proofs.Lines.{first_line, less_deep, line_split}
-use Rattle.go_record.proofs.Walking.{walked_stops}
+use Rattle.go_sgf.specs.MainLine.{main_line}
+use Rattle.go_sgf.specs.Record.{Property}
+use Rattle.go_record.specs.MainLine.{Event, events_from, events_of}
+use Rattle.go_record.specs.inner.Progress.{Passes, Stops, WalkedGame}
+use Rattle.go_record.proofs.Lines.{node_on}
+use Rattle.go_record.proofs.Walking.{passes_nothing, passes_over, passes_passes, passes_stops, stops_longer, walked_stops}
 use Rattle.go_record.proofs.replaying.pass_line.Goals as goal
 
-pub returns-in_err-count : goal.returns-in_err-count
-returns-in_err-count g c =
-    let p = err_from_is_err_and c.from_residual.result c.from_residual.ensures.1 in
-    let e = c.in_err-count.field-0.0 in
-    let w : WalkedGame = (c.loop-current.walk, c.loop-current.game) in
-    let count = c.loop-current.count in
-    let nodes = c.nodes.result.now in
-    let rest = main_line (tree_of c.in-Some.tree.now).1 in
-    walked_stops c.from_residual.result e (c.args.walk.now, c.args.game.now) (c.pass_nodes.new.walk, c.pass_nodes.new.game) _ (p.1 ∙ ap Err p.2) (record {
-      stopped = λ some later.
-          let behind = events_from (count + length nodes) rest ++ later in
-          c.loop-current.invariant later (Err e) (subst (λ (es : List Event). Goes w es (Err e))
-          (line_split count (count + length nodes) c.loop-current.current c.in-Some.tree nodes rest later c.in-Some.is c.nodes.ensures.nodes refl refl)
-          (c.in_err-count.ensures.walked.stopped some behind));
-    })
+pub loop-line-init : goal.loop-line-init
+loop-line-init g c = λ t s. (main_line t, c.of-line.ensures t s, [], refl, passes_nothing (c.args.walk.now, c.args.game.now))
 
-pub loop-current-preserved : goal.loop-current-preserved
-loop-current-preserved g c = λ later outcome h.
-    let w : WalkedGame = (c.loop-current.walk, c.loop-current.game) in
-    let count = c.loop-current.count in
-    let nodes = c.nodes.result.now in
-    let rest = main_line (line_from c.first-current-in-Some.result) in
-    let after : c.in_ok-count.count ≡ count + length nodes = c.in_ok-count.ensures.count in
-    c.loop-current.invariant later outcome (subst (λ (es : List Event). Goes w es outcome)
-    (line_split count c.in_ok-count.count c.loop-current.current c.in-Some.tree nodes rest later c.in-Some.is c.nodes.ensures.nodes
-    (first_line c.children.result.now c.first-current-in-Some.result c.first-current-in-Some.ensures.value ∙ ap main_line c.children.ensures) after)
-    (c.in_ok-count.ensures.walked.passed (events_from c.in_ok-count.count rest ++ later) outcome h))
+pub loop-line-preserved : goal.loop-line-preserved
+loop-line-preserved g c = λ t s.
+    let i = c.loop-line.invariant t s in
+    let next = c.loop-line-test.ensures.next i.0 i.1 in (
+      next.1,
+      c.in_ok-pass_node.ensures.line next.0 next.1 next.3,
+      i.2 ++ events_of c.loop-line.count next.0,
+      node_on c.loop-line.count c.in_ok-count.count i.2 i.0 next.0 next.1 next.2 c.in_ok-count.ensures.ok ∙ i.3,
+      passes_passes i.4 (c.in_ok-pass_node.ensures.walked next.0 next.1 next.3),
+    )
 
 pub returns : goal.returns
-returns g c = record {
-  passed = λ later outcome h.
-      c.loop-current.invariant later outcome (subst (λ (o : Option _). Goes (c.loop-current.walk, c.loop-current.game)
-      (events_from c.loop-current.count (main_line (line_from o)) ++ later) outcome) (sym c.in_default.is) h);
-}
+returns g c = λ t s.
+    let i = c.loop-line.invariant t s in
+    let none = c.loop-line-test.ensures.next i.0 i.1 in
+    subst (λ (es : List Event). Passes (c.args.walk.now, c.args.game.now) es (c.loop-line.walk, c.loop-line.game))
+    (sym (append-nil i.2) ∙ ap (λ (ns : List (List Property)). i.2 ++ events_from c.loop-line.count ns) (sym none) ∙ i.3) i.4
 
-pub loop-current-smaller : goal.loop-current-smaller
-loop-current-smaller g c =
-    less_deep c.loop-current.current c.in-Some.tree c.children.result.now c.first-current-in-Some.result c.in-Some.is c.children.ensures
-    c.first-current-in-Some.ensures.value
+pub returns-in_err-pass_node : goal.returns-in_err-pass_node
+returns-in_err-pass_node g c = λ t s.
+    let p = err_from_is_err_and c.from_residual.result c.from_residual.ensures.1 in
+    let e = c.in_err-pass_node.field-0.0 in
+    let count = c.loop-line.count in
+    let i = c.loop-line.invariant t s in
+    let next = c.loop-line-test.ensures.next i.0 i.1 in
+    walked_stops c.from_residual.result e (c.args.walk.now, c.args.game.now) (c.pass_node.new.self, c.pass_node.new.game) _ (p.1 ∙ ap Err p.2)
+    (subst (λ (es : List Event). Stops (c.args.walk.now, c.args.game.now) es e)
+    (node_on count (count + 1) i.2 i.0 next.0 next.1 next.2 refl ∙ i.3)
+    (stops_longer (passes_stops i.4 (c.in_err-pass_node.ensures.walked next.0 next.1 next.3)) (events_from (count + 1) next.1)))
+
+pub returns-then-is_over : goal.returns-then-is_over
+returns-then-is_over g c = λ t s.
+    let count = c.loop-line.count in
+    let i = c.loop-line.invariant t s in
+    let next = c.loop-line-test.ensures.next i.0 i.1 in
+    let new : WalkedGame = (c.pass_node.new.self, c.pass_node.new.game) in
+    subst (λ (es : List Event). Passes (c.args.walk.now, c.args.game.now) es new)
+    (node_on count (count + 1) i.2 i.0 next.0 next.1 next.2 refl ∙ i.3)
+    (passes_passes (passes_passes i.4 (c.in_ok-pass_node.ensures.walked next.0 next.1 next.3))
+    (passes_over new (sym c.is_over.ensures ∙ c.if-is_over.true) (events_from (count + 1) next.1)))

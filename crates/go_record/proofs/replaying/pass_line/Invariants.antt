@@ -1,14 +1,14 @@
-use Rattle.std.proofs.Common.{List, ◌++◌}
-use Rattle.go_sgf.specs.Record.{depth}
-use Rattle.go_record.specs.MainLine.{Event, events_from, main_line}
-use Rattle.go_record.specs.inner.Progress.{Goes, line_from}
-use Rattle.go_record.specs.Walks.{Outcome}
+use Rattle.std.proofs.Common.{◌≡◌, ◌++◌, [], List, length}
+use Rattle.go_sgf.specs.MainLine.{IsLeft, main_line}
+use Rattle.go_sgf.specs.Record.{Property, Trees}
+use Rattle.go_sgf.specs.Spelling.{Spells}
+use Rattle.go_record.specs.MainLine.{Event, events_from}
+use Rattle.go_record.specs.inner.Progress.{Passes}
 use Rattle.go_record.proofs.replaying.pass_line.Given as goal
 
-abbrev pub invariant-loop-current : goal.invariant-loop-current
-invariant-loop-current g l =
-    (later : List Event) (outcome : Outcome) → Goes (l.walk, l.game) (events_from l.count (main_line (line_from l.current)) ++ later) outcome
-    → Goes (l.initial.walk, l.initial.game) (events_from 0 (main_line l.collection) ++ later) outcome
+abbrev pub invariant-loop-line : goal.invariant-loop-line
+invariant-loop-line g l = (t : Trees) → Spells l.source t → (left : List (List Property)) × IsLeft l.line [] [] left
+    × (done : List Event) × (done ++ events_from l.count left ≡ events_from 0 (main_line t)) × Passes (l.fn.walk, l.fn.game) done (l.walk, l.game)
 
-abbrev pub decreases-loop-current : goal.decreases-loop-current
-decreases-loop-current g l = depth (line_from l.current)
+abbrev pub decreases-loop-line : goal.decreases-loop-line
+decreases-loop-line g l = length l.line

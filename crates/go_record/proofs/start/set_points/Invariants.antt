@@ -1,10 +1,16 @@
-use Rattle.std.proofs.Common.{◌≡◌, drop}
-use Rattle.go_sgf.specs.Record.{values_of}
+use Rattle.std.proofs.Common.{◌≡◌, ◌≤◌, ℕ, List, length}
+use Rattle.go_sgf.specs.MainLine.{IsLeft}
+use Rattle.go_sgf.specs.Record.{Property}
 use Rattle.go_record.proofs.Setting.{SetSoFar}
 use Rattle.go_record.proofs.start.set_points.Given as goal
 
 abbrev pub invariant-loop-value : goal.invariant-loop-value
 invariant-loop-value l = record {
   lines : l.grid.lines ≡ l.fn.grid.lines;
-  set : SetSoFar l.fn.grid.lines l.colour l.fn.grid.colours (values_of l.values) (values_of (drop l.value-index l.values)) l.grid.colours;
+  onward : length l.line ≤ length l.fn.line;
+  set : (values : List (List ℕ)) (later : List Property) (nodes : List (List Property)) → IsLeft l.fn.line values later nodes →
+      (left : List (List ℕ)) × IsLeft l.line left later nodes × SetSoFar l.fn.grid.lines l.colour l.fn.grid.colours values left l.grid.colours;
 }
+
+abbrev pub decreases-loop-value : goal.decreases-loop-value
+decreases-loop-value l = length l.line

@@ -1,35 +1,73 @@
-use Rattle.std.proofs.Common.{◌++◌, ◌+◌, List, ◌∙◌, ap, drop, subst}
+use Rattle.std.proofs.Common.{◌++◌, [], List, ◌∙◌, refl, ap, sym, subst, arith, length}
+use Rattle.std.proofs.lemmas.Bool.{or_parts}
+use Rattle.std.proofs.lemmas.List.{append-nil}
 use Rattle.std.proofs.lemmas.Result.{err_from_is_err_and}
 use Rattle.std.specs.List.{flat_map}
 use Rattle.std.specs.Prelude.{Err}
-use Rattle.go_record.specs.MainLine.{Event, setup_event}
-use Rattle.go_record.specs.inner.Progress.{Stops}
-use Rattle.go_record.proofs.Lines.{left_of_slice}
-use Rattle.go_record.proofs.Walking.{one_on, passes_passes, passes_stops, stops_longer, walked_stops}
+use Rattle.go_sgf.specs.Record.{Property}
+use Rattle.go_record.specs.MainLine.{Event, move_event, setup_event}
+use Rattle.go_record.specs.inner.Progress.{Passes, Stops}
+use Rattle.go_record.proofs.Walking.{one_on, passes_nothing, passes_passes, passes_stops, stops_longer, walked_stops}
 use Rattle.go_record.proofs.state.Walk.set_up.Goals as goal
 
-pub returns-in_err-pass_setup : goal.returns-in_err-pass_setup
-returns-in_err-pass_setup g c = λ game.
+pub loop-name-init : goal.loop-name-init
+loop-name-init c = record {
+  onward = omega arith;
+  passed = λ properties nodes l. (properties, l, [], refl, λ game. passes_nothing (c.args.self.now, game), λ still. refl);
+}
+
+pub returns-in_err-pass_setup-clause-walked : goal.returns-in_err-pass_setup-clause-walked
+returns-in_err-pass_setup-clause-walked c = λ properties nodes l game.
     let p = err_from_is_err_and c.from_residual.result c.from_residual.ensures.1 in
     let e = c.in_err-pass_setup.field-0.0 in
     let f = setup_event c.args.node in
-    let i = c.loop-property.invariant in
-    let all = c.args.properties.now in
-    let at = c.loop-property.property-index in
-    let one = c.property-item.result in
+    let i = c.loop-name.invariant.passed properties nodes l in
+    let next = c.in-Some.ensures.next i.0 nodes i.1 in
+    let kind_is = c.kind_of-kind.ensures next.0 next.3 in
     walked_stops c.from_residual.result e (c.args.self.now, game) (c.pass_setup.new.self, game) _ (p.1 ∙ ap Err p.2)
     (subst (λ (es : List Event). Stops (c.args.self.now, game) es e)
-    (one_on f i.0 (drop at all) one (drop (at + 1) all) (left_of_slice all at one c.loop-property-test.true c.property-item.is) ∙ i.1)
-    (stops_longer (passes_stops (i.2 game) (c.in_err-pass_setup.ensures game)) (flat_map f (drop (at + 1) all))))
+    (one_on f i.2 i.0 next.0 next.1 next.2 ∙ i.3)
+    (stops_longer (passes_stops (i.4 game) (c.in_err-pass_setup.ensures.walked next.0 next.1 nodes kind_is next.4 game)) (flat_map f next.1)))
 
-pub loop-property-preserved : goal.loop-property-preserved
-loop-property-preserved g c =
-    let f = setup_event c.args.node in
-    let i = c.loop-property.invariant in
-    let all = c.args.properties.now in
-    let at = c.loop-property.property-index in
-    let one = c.property-item.result in (
-      i.0 ++ f one,
-      one_on f i.0 (drop at all) one (drop (at + 1) all) (left_of_slice all at one c.loop-property-test.true c.property-item.is) ∙ i.1,
-      λ game. passes_passes (i.2 game) (c.in_ok-pass_setup.ensures game),
-    )
+pub loop-name-preserved : goal.loop-name-preserved
+loop-name-preserved c = record {
+  onward = omega (arith, c.loop-name.invariant.onward, c.in-Some.ensures.shorter, c.pass_setup.ensures.onward, c.skip_values.ensures.onward);
+  passed = λ properties nodes l.
+      let f = setup_event c.args.node in
+      let i = c.loop-name.invariant.passed properties nodes l in
+      let next = c.in-Some.ensures.next i.0 nodes i.1 in
+      let kind_is = c.kind_of-kind.ensures next.0 next.3 in (
+        next.1,
+        c.skip_values.ensures.line next.1 nodes (c.pass_setup.ensures.line next.1 nodes (next.0.values, next.4)),
+        i.2 ++ f next.0,
+        one_on f i.2 i.0 next.0 next.1 next.2 ∙ i.3,
+        λ game. passes_passes (i.4 game) (c.in_ok-pass_setup.ensures.walked next.0 next.1 nodes kind_is next.4 game),
+        λ still.
+            let both = or_parts c.loop-name.has_move c.is_move-has_move.result still in
+            i.5 both.0 ∙ ap (flat_map (move_event c.args.node)) next.2
+            ∙ ap (λ es. es ++ flat_map (move_event c.args.node) next.1) (c.is_move-has_move.ensures both.1 c.args.node next.0 kind_is),
+      );
+}
+
+pub loop-name-smaller : goal.loop-name-smaller
+loop-name-smaller c = omega (arith, c.in-Some.ensures.shorter, c.pass_setup.ensures.onward, c.skip_values.ensures.onward)
+
+pub returns-clause-walked : goal.returns-clause-walked
+returns-clause-walked c = λ properties nodes l game.
+    let i = c.loop-name.invariant.passed properties nodes l in
+    let end = c.in_default.ensures.next i.0 nodes i.1 in
+    subst (λ (es : List Event). Passes (c.args.self.now, game) es (c.loop-name.self, game))
+    (sym (append-nil i.2) ∙ ap (λ (ps : List Property). i.2 ++ flat_map (setup_event c.args.node) ps) (sym end.0) ∙ i.3) (i.4 game)
+
+pub returns-clause-still : goal.returns-clause-still
+returns-clause-still c = λ properties nodes l still.
+    let i = c.loop-name.invariant.passed properties nodes l in
+    i.5 still ∙ ap (flat_map (move_event c.args.node)) (c.in_default.ensures.next i.0 nodes i.1).0
+
+pub returns-clause-line : goal.returns-clause-line
+returns-clause-line c = λ properties nodes l.
+    let i = c.loop-name.invariant.passed properties nodes l in
+    (c.in_default.ensures.next i.0 nodes i.1).1
+
+pub returns-clause-onward : goal.returns-clause-onward
+returns-clause-onward c = omega (arith, c.loop-name.invariant.onward, ap length c.in_default.ensures.same)

@@ -1,11 +1,21 @@
-use Rattle.std.proofs.Common.{◌≡◌, ◌++◌, List, drop}
+use Rattle.std.proofs.Common.{◌≡◌, ◌≤◌, ◌++◌, [], List, false, length}
 use Rattle.std.specs.List.{flat_map}
 use Rattle.go_game.specs.Standings.{GameValue}
-use Rattle.go_record.specs.MainLine.{Event, setup_event}
+use Rattle.go_sgf.specs.MainLine.{IsLeft}
+use Rattle.go_sgf.specs.Record.{Property}
+use Rattle.go_record.specs.MainLine.{Event, move_event, setup_event}
 use Rattle.go_record.specs.inner.Progress.{Passes}
 use Rattle.go_record.proofs.state.Walk.set_up.Given as goal
 
-abbrev pub invariant-loop-property : goal.invariant-loop-property
-invariant-loop-property g l =
-    (done : List Event) × (done ++ flat_map (setup_event l.node) (drop l.property-index l.properties) ≡ flat_map (setup_event l.node) l.properties)
-    × ((game : GameValue) → Passes (l.fn.self, game) done (l.self, game))
+abbrev pub invariant-loop-name : goal.invariant-loop-name
+invariant-loop-name l = record {
+  onward : length l.line ≤ length l.fn.line;
+  passed : (properties : List Property) (nodes : List (List Property)) → IsLeft l.fn.line [] properties nodes →
+      (left : List Property) × IsLeft l.line [] left nodes
+      × (done : List Event) × (done ++ flat_map (setup_event l.node) left ≡ flat_map (setup_event l.node) properties)
+      × ((game : GameValue) → Passes (l.fn.self, game) done (l.self, game))
+      × (l.has_move ≡ false → flat_map (move_event l.node) properties ≡ flat_map (move_event l.node) left);
+}
+
+abbrev pub decreases-loop-name : goal.decreases-loop-name
+decreases-loop-name l = length l.line

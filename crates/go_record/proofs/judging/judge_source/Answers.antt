@@ -1,0 +1,19 @@
+use Rattle.std.proofs.Common.{◌≡◌, ◌∙◌, ap, rules, subst}
+use Rattle.std.specs.Prelude.{Option, ℤ}
+use Rattle.go_game.specs.Scores.{margin_of}
+use Rattle.go_sgf.specs.Cooked.{cooked_simple}
+use Rattle.go_sgf.specs.Numbers.{trimmed}
+use Rattle.go_record.specs.Verdicts.{IsStated, margin_by, margin_spelled}
+use Rattle.go_record.proofs.judging.judge_source.Goals as goal
+
+pub returns-clause-ok : goal.returns-clause-ok
+returns-clause-ok g c = λ t s.
+    let root = c.root_values-values.ensures t s in
+    let is : c.in_ok-stated.stated ≡ margin_by t = c.in_ok-stated.ensures ∙ ap (λ v. margin_spelled (trimmed (cooked_simple v))) root.result_said in
+    record {
+      standing = c.in_ok-game.game.standing;
+      game = c.in_ok-game.ensures.ok t s root;
+      moves = search rules;
+      margin = search rules;
+      stated = subst (λ (o : Option ℤ). IsStated o (margin_of c.in_ok-game.game.standing) c.compared.result) is (search rules);
+    }

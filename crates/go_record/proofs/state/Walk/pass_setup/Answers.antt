@@ -1,0 +1,17 @@
+use Rattle.std.proofs.Common.{◌∷◌, [], ℕ, List, ◌∙◌, sym, subst}
+use Rattle.go_record.specs.MainLine.{setup_by, turn}
+use Rattle.go_record.specs.declared.kind.Kind.{Kind}
+use Rattle.go_record.specs.inner.Progress.{Walked}
+use Rattle.go_record.proofs.state.Walk.pass_setup.Goals as goal
+
+pub returns-in-Stones-clause-walked : goal.returns-in-Stones-clause-walked
+returns-in-Stones-clause-walked c = λ p later nodes kind_is l game.
+    subst (λ (k : Kind). Walked c.set_stones.result (c.args.self.now, game) (setup_by c.args.node k p.values) (c.set_stones.new.self, game))
+    (sym c.in-Stones.is ∙ kind_is) (c.set_stones.ensures.walked p.values later nodes l game)
+
+pub returns-in-Turn-clause-walked : goal.returns-in-Turn-clause-walked
+returns-in-Turn-clause-walked c = λ p later nodes kind_is l game.
+    subst (λ (k : Kind). Walked c.set_turn.result (c.args.self.now, game) (setup_by c.args.node k p.values) (c.set_turn.new.self, game))
+    (sym c.in-Turn.is ∙ kind_is)
+    (subst (λ (v : List ℕ). Walked c.set_turn.result (c.args.self.now, game) (turn c.args.node v ∷ []) (c.set_turn.new.self, game))
+    (c.first_value.ensures.value p.values later nodes l) (c.set_turn.ensures game))
