@@ -1,4 +1,4 @@
-ghost use Rattle.std.specs.Prelude.{◌≡◌, ◌+◌, ◌<◌, ◌≤◌, ℕ, List, [], ◌∷◌, ◌++◌, length, take, false, true};
+ghost use Rattle.std.specs.Prelude.{◌≡◌, ◌+◌, ◌<◌, ◌≤◌, ℕ, IfSome, List, [], ◌∷◌, ◌++◌, length, take, false, true};
 ghost use Rattle.std.specs.List.{list_all, list_any, prefix_len};
 ghost use Rattle.goref_lines.specs.Kept.{Kept, kept, is_control_byte, is_hash, printable, spaced};
 ghost use Rattle.goref_lines.specs.Words.{has_bytes, is_plain_space};
@@ -219,8 +219,18 @@ fn is_blank(byte: u8) -> bool
     byte == b' ' || byte == b'\t'
 }
 
-/// Whether a space or a tab is among bytes. It looks at all, so that many are looked at at once.
+/// Whether a space or a tab is among bytes, as mostly the first is one. Else it looks at all, so that
+/// many are looked at at once.
 fn has_blank(bytes: &[u8]) -> bool
+    ensures { result ≡ list_any (λ b. is_plain_space (spaced b)) bytes.now }
+{
+    match bytes.first() {
+        Some(first) if is_blank(*first) => true,
+        _ => any_blank(bytes),
+    }
+}
+
+fn any_blank(bytes: &[u8]) -> bool
     ensures { result ≡ list_any (λ b. is_plain_space (spaced b)) bytes.now }
 {
     let mut found = false;
@@ -274,15 +284,40 @@ fn words_end(start: usize, place: usize) -> usize
     }
 }
 
-/// How many controls and white space stand first, up to [`BLOCK`] of them where there are so many.
+/// How many controls and white space stand first. Where they are many, whole blocks are told.
 fn gap_front(bytes: &[u8]) -> usize
     ensures gap { AreBetweenWords (take result bytes.now) }
     ensures bound { result ≤ length bytes.now }
 {
-    if bytes.len() >= BLOCK && is_gap(bytes.split_at(BLOCK).0) {
-        return BLOCK;
+    let count = bytes.len() - behind_blocks(bytes).len();
+    if count > 0 {
+        return count;
     }
     gap_len(bytes)
+}
+
+/// What stands behind the first blocks that are controls and white space.
+fn behind_blocks(bytes: &[u8]) -> &[u8]
+    ensures { (gap : List ℕ) × (bytes.now ≡ gap ++ result.now) × AreBetweenWords gap }
+{
+    let mut rest = bytes;
+    while let Some(more) = behind_block(rest) {
+        rest = more;
+    }
+    rest
+}
+
+/// What stands behind a block, where that is controls and white space.
+fn behind_block(bytes: &[u8]) -> Option<&[u8]>
+    ensures gap { IfSome result (λ more. (gap : List ℕ) × (bytes.now ≡ gap ++ more.now)
+        × AreBetweenWords gap) }
+    ensures shorter { IfSome result (λ more. length more.now < length bytes.now) }
+{
+    if bytes.len() < BLOCK {
+        return None;
+    }
+    let (block, more) = bytes.split_at(BLOCK);
+    if is_gap(block) { Some(more) } else { None }
 }
 
 /// How many controls and white space stand first.
