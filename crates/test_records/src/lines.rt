@@ -19,20 +19,44 @@ const LINES: &[(&[u8], &[u8])] = &[
     ),
 ];
 
+/// More than the steps of any of these walks.
+const STEPS: u8 = 20;
+
+/// Puts the values of a property that are left.
+fn put_values(text: &mut Vec<u8, Global>, line: &mut MainLine<'_>) -> Result<(), AllocError> {
+    for _ in 0..STEPS {
+        let Some(value) = line.next_value() else {
+            return Ok(());
+        };
+        text.extend_from_slice(b"[")?;
+        text.extend_from_slice(value)?;
+        text.extend_from_slice(b"]")?;
+    }
+    Ok(())
+}
+
+/// Puts the properties of a node that are left.
+fn put_properties(text: &mut Vec<u8, Global>, line: &mut MainLine<'_>) -> Result<(), AllocError> {
+    for _ in 0..STEPS {
+        let Some(name) = line.next_name() else {
+            return Ok(());
+        };
+        text.extend_from_slice(name)?;
+        put_values(text, line)?;
+    }
+    Ok(())
+}
+
 /// What a walk along the main line of a source passes.
 fn passed(alloc: Global, source: &[u8]) -> Result<Vec<u8, Global>, AllocError> {
     let mut text = Vec::new(alloc);
     let mut line = MainLine::of(source);
-    while line.next_node() {
-        text.extend_from_slice(b";")?;
-        while let Some(name) = line.next_name() {
-            text.extend_from_slice(name)?;
-            while let Some(value) = line.next_value() {
-                text.extend_from_slice(b"[")?;
-                text.extend_from_slice(value)?;
-                text.extend_from_slice(b"]")?;
-            }
+    for _ in 0..STEPS {
+        if !line.next_node() {
+            return Ok(text);
         }
+        text.extend_from_slice(b";")?;
+        put_properties(&mut text, &mut line)?;
     }
     Ok(text)
 }
