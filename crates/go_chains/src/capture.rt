@@ -8,7 +8,7 @@ ghost use Rattle.go_chains.specs.inner.Tables.{IsDead, tables_of};
 ghost use Rattle.go_chains.specs.inner.CellSteps.{AreColours, AreTidy, AreWhole, Captures, CapturesMore, TakesDead, TakesStones};
 
 use crate::cells::{Cells, LABELS};
-use crate::change::Change;
+use crate::change::LoggedChange;
 use crate::lift::take_off;
 use crate::masks::has_liberty_in;
 use go_board::point_set::{mask_of, words_of};
@@ -46,7 +46,7 @@ pub fn is_dead<K>(
 /// that were.
 pub fn take_one<K, A: Allocator + Copy>(
     cells: &mut Cells<K>,
-    changes: &mut Vec<Change, A>,
+    changes: &mut Vec<LoggedChange, A>,
     meter: &mut Meter<K>,
     size: Size,
     near: usize,
@@ -80,7 +80,7 @@ pub fn take_one<K, A: Allocator + Copy>(
 /// stones that were.
 pub fn capture<K, A: Allocator + Copy>(
     cells: &mut Cells<K>,
-    changes: &mut Vec<Change, A>,
+    changes: &mut Vec<LoggedChange, A>,
     meter: &mut Meter<K>,
     size: Size,
     beside: &[usize],

@@ -9,7 +9,7 @@ ghost use Rattle.go_chains.specs.inner.Edits.{Edited};
 ghost use Rattle.go_chains.specs.inner.CellSteps.{AreTidy, Connects, ConnectsAll, HasStone};
 
 use crate::cells::{Cells, LABELS, SIZES};
-use crate::change::Change;
+use crate::change::LoggedChange;
 use crate::join::join;
 use go_board::{Meter, Size};
 use std::alloc::Allocator;
@@ -18,7 +18,7 @@ use std::alloc::Allocator;
 /// The smaller of the two is relabelled.
 fn connect_one<K, A: Allocator + Copy>(
     cells: &mut Cells<K>,
-    changes: &mut Vec<Change, A>,
+    changes: &mut Vec<LoggedChange, A>,
     meter: &mut Meter<K>,
     size: Size,
     point: usize,
@@ -52,7 +52,7 @@ fn connect_one<K, A: Allocator + Copy>(
 /// Makes one chain of a stone's and all chains of its colour beside it.
 pub fn connect<K, A: Allocator + Copy>(
     cells: &mut Cells<K>,
-    changes: &mut Vec<Change, A>,
+    changes: &mut Vec<LoggedChange, A>,
     meter: &mut Meter<K>,
     size: Size,
     point: usize,

@@ -5,14 +5,14 @@ ghost use Rattle.go_chains.specs.inner.Writes.{IsWritten};
 ghost use Rattle.go_chains.specs.inner.Edits.{Edited};
 
 use crate::cells::Cells;
-use crate::change::Change;
+use crate::change::{Change, LoggedChange};
 use go_board::Meter;
 use std::alloc::Allocator;
 
 /// Writes a number into a cell whose number is known, and logs that if it is another one.
 pub(crate) fn replace<K, A: Allocator + Copy>(
     cells: &mut Cells<K>,
-    changes: &mut Vec<Change, A>,
+    changes: &mut Vec<LoggedChange, A>,
     meter: &mut Meter<K>,
     place: usize,
     old: u64,
@@ -27,7 +27,7 @@ pub(crate) fn replace<K, A: Allocator + Copy>(
     if old == number {
         return;
     }
-    let pushed = changes.push(Change { place, old });
+    let pushed = changes.push(LoggedChange::of(Change { place, old }));
     prove!(pushed.is_ok());
     let _ = pushed;
     cells.set(place, number, meter);
@@ -36,7 +36,7 @@ pub(crate) fn replace<K, A: Allocator + Copy>(
 /// Writes a number into a cell, and logs that if the cell has another one.
 pub(crate) fn put<K, A: Allocator + Copy>(
     cells: &mut Cells<K>,
-    changes: &mut Vec<Change, A>,
+    changes: &mut Vec<LoggedChange, A>,
     meter: &mut Meter<K>,
     place: usize,
     number: u64,

@@ -9,7 +9,7 @@ ghost use Rattle.go_chains.specs.inner.Rings.{steps};
 ghost use Rattle.go_chains.specs.inner.CellSteps.{AreTidy, HasStone, Joins, Merges, Relabels};
 
 use crate::cells::{Cells, LABELS, LINKS, SIZES, word_place};
-use crate::change::Change;
+use crate::change::LoggedChange;
 use crate::edits::{put, replace};
 use go_board::point_set::words_of;
 use go_board::{Meter, Size};
@@ -18,7 +18,7 @@ use std::alloc::Allocator;
 /// Gives so many points along a ring one label.
 fn relabel<K, A: Allocator + Copy>(
     cells: &mut Cells<K>,
-    changes: &mut Vec<Change, A>,
+    changes: &mut Vec<LoggedChange, A>,
     meter: &mut Meter<K>,
     from: usize,
     stones: usize,
@@ -40,7 +40,7 @@ fn relabel<K, A: Allocator + Copy>(
 /// Gives one label the liberties of another too.
 fn merge_words<K, A: Allocator + Copy>(
     cells: &mut Cells<K>,
-    changes: &mut Vec<Change, A>,
+    changes: &mut Vec<LoggedChange, A>,
     meter: &mut Meter<K>,
     size: Size,
     keep: usize,
@@ -65,7 +65,7 @@ fn merge_words<K, A: Allocator + Copy>(
 /// Makes the second stone's chain part of the first one's, which keeps its label.
 pub fn join<K, A: Allocator + Copy>(
     cells: &mut Cells<K>,
-    changes: &mut Vec<Change, A>,
+    changes: &mut Vec<LoggedChange, A>,
     meter: &mut Meter<K>,
     size: Size,
     first: usize,

@@ -9,7 +9,7 @@ ghost use Rattle.go_chains.specs.inner.CellSteps.{AreTidy, AreWhole, FitsWith, G
 
 use crate::beside::put_beside;
 use crate::cells::{Cells, LABELS, LINKS, SIZES, word_place};
-use crate::change::Change;
+use crate::change::LoggedChange;
 use crate::edits::replace;
 use arrayvec::ArrayVec;
 use go_board::{Meter, Point, Size};
@@ -18,7 +18,7 @@ use std::alloc::Allocator;
 /// Makes a point a liberty of a label too.
 fn set_liberty<K, A: Allocator + Copy>(
     cells: &mut Cells<K>,
-    changes: &mut Vec<Change, A>,
+    changes: &mut Vec<LoggedChange, A>,
     meter: &mut Meter<K>,
     label: usize,
     point: usize,
@@ -37,7 +37,7 @@ fn set_liberty<K, A: Allocator + Copy>(
 /// Makes a point a liberty of the stone on another point, if one of this colour is there.
 fn give_one<K, A: Allocator + Copy>(
     cells: &mut Cells<K>,
-    changes: &mut Vec<Change, A>,
+    changes: &mut Vec<LoggedChange, A>,
     meter: &mut Meter<K>,
     near: usize,
     point: usize,
@@ -60,7 +60,7 @@ fn give_one<K, A: Allocator + Copy>(
 /// Makes a point a liberty of the stones of this colour beside it.
 fn give_back<K, A: Allocator + Copy>(
     cells: &mut Cells<K>,
-    changes: &mut Vec<Change, A>,
+    changes: &mut Vec<LoggedChange, A>,
     meter: &mut Meter<K>,
     beside: &[usize],
     point: usize,
@@ -82,7 +82,7 @@ fn give_back<K, A: Allocator + Copy>(
 /// Takes one stone off, and makes its point a liberty of the stones of the other colour beside it.
 fn lift<K, A: Allocator + Copy>(
     cells: &mut Cells<K>,
-    changes: &mut Vec<Change, A>,
+    changes: &mut Vec<LoggedChange, A>,
     meter: &mut Meter<K>,
     size: Size,
     point: usize,
@@ -105,7 +105,7 @@ fn lift<K, A: Allocator + Copy>(
 /// Takes the chain of a stone off, and says how many stones that were.
 pub fn take_off<K, A: Allocator + Copy>(
     cells: &mut Cells<K>,
-    changes: &mut Vec<Change, A>,
+    changes: &mut Vec<LoggedChange, A>,
     meter: &mut Meter<K>,
     size: Size,
     stone: usize,

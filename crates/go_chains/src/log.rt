@@ -4,7 +4,7 @@ ghost use Rattle.go_chains.specs.Rewound.{ForLast, NamesCells, rewound, undone};
 ghost use Rattle.go_chains.specs.inner.Undoing.{IsPutBack, before_end, end_of};
 
 use crate::cells::Cells;
-use crate::change::Change;
+use crate::change::LoggedChange;
 use go_board::Meter;
 use std::alloc::{AllocError, Allocator};
 use std::marker::Model;
@@ -14,7 +14,7 @@ use std::marker::Model;
 #[derive(Drop)]
 pub struct Log<A: Allocator + Copy> {
     /// The changes of all plays, in the order in which they were made.
-    pub(crate) changes: Vec<Change, A>,
+    pub(crate) changes: Vec<LoggedChange, A>,
     /// How many changes each play made.
     pub(crate) lengths: Vec<usize, A>,
 }
@@ -67,7 +67,7 @@ impl<A: Allocator + Copy> Log<A> {
 /// Puts the last changes back, so many of them, from the last to the first.
 fn put_back_changes<K, A: Allocator + Copy>(
     cells: &mut Cells<K>,
-    changes: &mut Vec<Change, A>,
+    changes: &mut Vec<LoggedChange, A>,
     meter: &mut Meter<K>,
     count: usize,
 )
@@ -80,7 +80,8 @@ fn put_back_changes<K, A: Allocator + Copy>(
     ensures count { meter.new ≡ meter.old + count }
 {
     for _ in 0..count {
-        if let Some(change) = changes.pop() {
+        if let Some(logged) = changes.pop() {
+            let change = logged.change();
             cells.set(change.place, change.old, meter);
         }
     }
@@ -90,7 +91,7 @@ fn put_back_changes<K, A: Allocator + Copy>(
 /// with all its room, of which a game's first play uses next to nothing; so the changes of that play
 /// are moved alone, to where there is room for twice as many as a play makes at most.
 pub(crate) fn reserve_play<A: Allocator + Copy>(
-    changes: &mut Vec<Change, A>,
+    changes: &mut Vec<LoggedChange, A>,
     lengths: &mut Vec<usize, A>,
     most: usize,
 ) -> Result<(), AllocError>
@@ -111,7 +112,7 @@ pub(crate) fn reserve_play<A: Allocator + Copy>(
 }
 
 /// Moves changes to an empty list that has room for them.
-fn widen<A: Allocator + Copy>(changes: &mut Vec<Change, A>, mut wider: Vec<Change, A>)
+fn widen<A: Allocator + Copy>(changes: &mut Vec<LoggedChange, A>, mut wider: Vec<LoggedChange, A>)
     requires empty { wider.items ≡ [] }
     requires room { vec_len changes.old ≤ vec_capacity wider }
     ensures changes { changes.new.items ≡ changes.old.items }

@@ -9,7 +9,7 @@ ghost use Rattle.go_chains.specs.inner.Writes.{IsDeprived, MarksEmpty, MarksOne}
 ghost use Rattle.go_chains.specs.inner.CellSteps.{AreTidy, DeprivesAll, DeprivesAt, Fills, Fits, Occupies};
 
 use crate::cells::{Cells, LABELS, LINKS, SIZES, word_place};
-use crate::change::Change;
+use crate::change::LoggedChange;
 use crate::edits::{put, replace};
 use go_board::point_set::words_of;
 use go_board::{MAX_POINTS, Meter, PointSet, Size};
@@ -47,7 +47,7 @@ pub(crate) fn put_empty<K>(
 /// Takes a point out of the liberties of a label.
 fn clear_liberty<K, A: Allocator + Copy>(
     cells: &mut Cells<K>,
-    changes: &mut Vec<Change, A>,
+    changes: &mut Vec<LoggedChange, A>,
     meter: &mut Meter<K>,
     label: usize,
     point: usize,
@@ -73,7 +73,7 @@ fn clear_liberty<K, A: Allocator + Copy>(
 /// Takes a point out of the liberties of the stone on another point, if one is there.
 fn deprive_one<K, A: Allocator + Copy>(
     cells: &mut Cells<K>,
-    changes: &mut Vec<Change, A>,
+    changes: &mut Vec<LoggedChange, A>,
     meter: &mut Meter<K>,
     near: usize,
     point: usize,
@@ -95,7 +95,7 @@ fn deprive_one<K, A: Allocator + Copy>(
 /// Takes a point out of the liberties of the stones beside it.
 fn deprive<K, A: Allocator + Copy>(
     cells: &mut Cells<K>,
-    changes: &mut Vec<Change, A>,
+    changes: &mut Vec<LoggedChange, A>,
     meter: &mut Meter<K>,
     beside: &[usize],
     point: usize,
@@ -116,7 +116,7 @@ fn deprive<K, A: Allocator + Copy>(
 /// Writes a set as a label's liberties, as many words as the board has.
 fn fill_words<K, A: Allocator + Copy>(
     cells: &mut Cells<K>,
-    changes: &mut Vec<Change, A>,
+    changes: &mut Vec<LoggedChange, A>,
     meter: &mut Meter<K>,
     size: Size,
     label: usize,
@@ -137,7 +137,7 @@ fn fill_words<K, A: Allocator + Copy>(
 /// Puts a stone of this colour on an empty point.
 pub fn occupy<K, A: Allocator + Copy>(
     cells: &mut Cells<K>,
-    changes: &mut Vec<Change, A>,
+    changes: &mut Vec<LoggedChange, A>,
     meter: &mut Meter<K>,
     size: Size,
     colour: u64,

@@ -13,7 +13,7 @@ ghost use Rattle.go_chains.specs.inner.CellSteps.{colours_in};
 
 use crate::capture::{capture, take_one};
 use crate::cells::Cells;
-use crate::change::Change;
+use crate::change::LoggedChange;
 use crate::connect::connect;
 use crate::occupy::occupy;
 use go_board::laws::{joined_by_a_path, reaches_by_a_path};
@@ -28,7 +28,7 @@ pub const ROOM: usize = (WORDS + 8) + 4 * (MAX_POINTS + WORDS + 3) + 25 * MAX_PO
 /// Plays a stone on an empty point, whose neighbours are given, and says what that took.
 pub fn place<K, A: Allocator + Copy>(
     cells: &mut Cells<K>,
-    changes: &mut Vec<Change, A>,
+    changes: &mut Vec<LoggedChange, A>,
     meter: &mut Meter<K>,
     size: Size,
     colour: Colour,
