@@ -1,12 +1,14 @@
 -- A colouring's bytes tell the colour of each point.
-use Rattle.std.proofs.Common.{arith, ◌≡◌, ◌<◌, ◌≤◌, ◌+◌, ◌*◌, ◌/◌, ◌%◌, ◌↔◌, ◌∙◌, ℕ, List, Option, Some, None, ap, get_or, inl, inr, length, refl, subst, sym}
+use Rattle.std.proofs.Common.{arith, ◌≡◌, ◌<◌, ◌≤◌, ◌+◌, ◌*◌, ◌/◌, ◌%◌, ◌↔◌, ◌∙◌, ◌&&◌, ℕ, nat_eq, Bool, true, false, true≢false, List, [], ◌∷◌, Option, Some, None, ap, ap₂, get_or, inl, inr, length, refl, replicate, subst, sym}
 use Rattle.std.proofs.lemmas.Bool.{cases_eq}
+use Rattle.std.proofs.lemmas.Bool.Decides.{nat_tests}
 use Rattle.std.proofs.lemmas.List.FromFn.{get_or-map-range_with_len}
 use Rattle.go_board.specs.declared.colour.Colour.{Colour}
 use Rattle.go_board.specs.declared.colour.Colour.TheVariants.{Black, White}
 use Rattle.go_board.specs.declared.pack.TheConstants.{PACK_BYTES}
 use Rattle.go_board.specs.declared.size.TheConstants.{MAX_POINTS}
 use Rattle.go_board.specs.Colours.{Colouring, colour_at}
+use Rattle.go_board.specs.PackBytes.{are_zero}
 use Rattle.go_board.specs.Packs.{byte_of, code_of, packed_of}
 use Rattle.go_board.proofs.Equal.{equal_by_points}
 
@@ -70,3 +72,12 @@ packs_tell_apart g h same few = (
   λ e. equal_by_points (length g) g h refl (sym same) (λ k low. same_point g h k (same_byte g h e (k / 4) (omega (arith, low, few)))),
   λ e. ap packed_of e,
 )
+
+-- bytes that are all 0 are told by how many there are
+pub zeros : (bytes : List ℕ) → are_zero bytes ≡ true → bytes ≡ replicate (length bytes) 0
+zeros [] is = refl
+zeros (b ∷ bytes) is = here (nat_eq b 0) refl is (zeros bytes)
+  where
+    here : (x : Bool) → nat_eq b 0 ≡ x → (x && are_zero bytes) ≡ true → (are_zero bytes ≡ true → bytes ≡ replicate (length bytes) 0) → b ∷ bytes ≡ replicate (length (b ∷ bytes)) 0
+    here true e rest more = ap₂ (λ (y : ℕ) (l : List ℕ). y ∷ l) (grind (arith, nat_tests, e)) (more rest)
+    here false e rest more = absurd (true≢false (sym rest))

@@ -1,6 +1,6 @@
-ghost use Rattle.std.specs.Prelude.{◌≡◌, ◌<◌, ◌≤◌, ◌+◌, ◌*◌, replicate, slice_index, slice_set};
+ghost use Rattle.std.specs.Prelude.{◌≡◌, ◌<◌, ◌≤◌, ◌+◌, ◌*◌, IfNone, IfSome, drop, false, length, replicate, slice_index, slice_set};
 ghost use Rattle.go_board.specs.declared.pack.TheConstants.{PACK_BYTES};
-ghost use Rattle.go_board.specs.PackBytes.{bytes_of};
+ghost use Rattle.go_board.specs.PackBytes.{are_zero, bytes_of, pack_of_front};
 ghost use Rattle.go_board.specs.Packs.{byte_of, code_of, packed_of};
 
 use crate::{Grid, MAX_POINTS};
@@ -42,6 +42,41 @@ impl Packed {
         }
     }
 
+    /// The first bytes, so many, of a pack that is 0 behind them, as packs of small boards are; or
+    /// none where it isn't, or hasn't so many bytes.
+    pub fn front(&self, count: usize) -> Option<&[u8]>
+        ensures some { IfSome result (λ front. (length front.now ≡ count)
+            × (pack_of_front front.now ≡ self.now)) }
+        ensures none { IfNone result (count ≤ PACK_BYTES
+            → are_zero (drop count (bytes_of self.now)) ≡ false) }
+    {
+        let (front, rest) = self.bytes().split_at_checked(count)?;
+        if are_all_zero(rest) {
+            Some(front)
+        } else {
+            None
+        }
+    }
+
+    /// All bytes.
+    pub fn bytes(&self) -> &[u8]
+        ensures value { result.now ≡ bytes_of self.now }
+        ensures long { length result.now ≡ PACK_BYTES }
+        ensures pack { pack_of_front result.now ≡ self.now }
+    {
+        &self.bytes
+    }
+
+    /// The pack with these first bytes, and 0 behind them.
+    pub fn of_front(front: &[u8]) -> Packed
+        requires { length front.now ≤ PACK_BYTES }
+        ensures { result ≡ pack_of_front front.now }
+    {
+        let mut bytes = [0; PACK_BYTES];
+        bytes.split_at_mut(front.len()).0.copy_from_slice(front);
+        Packed { bytes }
+    }
+
     /// The byte at a place: of four points, the first of which has four times the place's number.
     pub fn byte(&self, at: usize) -> u8
         requires { at < PACK_BYTES }
@@ -58,6 +93,12 @@ impl Packed {
     {
         self.bytes[place] = byte;
     }
+}
+
+fn are_all_zero(bytes: &[u8]) -> bool
+    ensures { result ≡ are_zero bytes.now }
+{
+    bytes.iter().all(|byte| *byte == 0)
 }
 
 /// The byte of four codes, the first lowest. A code is 0 for an empty point, 1 for Black, 2 for

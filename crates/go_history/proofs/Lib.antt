@@ -2,3 +2,5 @@ pub mod Noting
 pub mod Noted
 pub mod Trees
 pub mod Places
+mod KeptEntries
+mod Apart

@@ -4,7 +4,7 @@ use Rattle.std.specs.Option.{option_or}
 use Rattle.std.proofs.Common.{◌≡◌, ◌<◌, ◌+◌, ◌∙◌, ℕ, zero, suc, Bool, true, false, cond, List, [], ◌∷◌, ◌++◌, Option, Some, None, arith, length, length-set, slice_index_or, slice_set, take, ap, ap₂, refl, sym, subst}
 use Rattle.std.proofs.lemmas.List.{get_or-set_same, get_or-take, length-take-le, take_all, take_more}
 use Rattle.go_history.specs.declared.key.Key.{Key}
-use Rattle.go_history.specs.declared.key_tree.Entry.{Entry}
+use Rattle.go_history.specs.declared.entries.Entry.{Entry}
 use Rattle.go_history.specs.declared.ranked.Ranked.{Ranked}
 use Rattle.go_history.specs.Keys.{key_eq}
 use Rattle.go_history.specs.inner.Trees.{IsOwn, IsTree, Leads, StandsAt, StandsNowhere, key_at, link_to, noted, noted_by, ranked}

@@ -24,7 +24,7 @@ lookup_alike f h alike [] = refl
 lookup_alike f h alike (e ∷ es) = ap₂ (λ b o. cond b (Some e.1) o) (alike e.0) (lookup_alike f h alike es)
 
 -- the test of keys is that of their packs and movers
-key_is : (a b : Key) → eq-value.it a b ≡ key_eq a b
+pub key_is : (a b : Key) → eq-value.it a b ≡ key_eq a b
 key_is a b = mover_is a.mover b.mover
   where
     mover_is : (x y : Option Colour) → eq-value.it (record { pack = a.pack; mover = x }) (record { pack = b.pack; mover = y }) ≡ key_eq (record { pack = a.pack; mover = x }) (record { pack = b.pack; mover = y })

@@ -4,7 +4,7 @@ use Rattle.std.proofs.Math.ListN.{get_or-map}
 use Rattle.std.proofs.Math.Seq.{get_or-append_seam, map-set_same, take-append_seam}
 use Rattle.std.proofs.lemmas.List.{length-map, take-map}
 use Rattle.go_history.specs.declared.key.Key.{Key}
-use Rattle.go_history.specs.declared.key_tree.Entry.{Entry}
+use Rattle.go_history.specs.declared.entries.Entry.{Entry}
 use Rattle.go_history.specs.declared.ranked.Ranked.{Ranked}
 use Rattle.go_history.specs.Keys.{key_eq}
 use Rattle.go_history.specs.inner.Trees.{IsTree, key_at, places_of, ranked, ranked_eq}
@@ -37,12 +37,11 @@ last_key entries places k d is =
     ∙ get_or-append_seam places k [] d.ranked.key
 
 -- a key of the last place isn't overlooked
-pub not_last : (entries found : List Entry) (links : List ℕ) (key : Key) (r : Ranked) (places : List Key) (k : Key) (d : Entry) → IsTree entries links → found ≡ entries → r ≡ ranked key
-    → (0 < length found → ranked_eq r (slice_index_or found (length found - 1) d).ranked ≡ false) → places_of entries ≡ places ++ k ∷ [] → key_eq key k ≡ true → ⊥
-not_last entries found links key r places k d tree is own other ends same =
+pub not_last : (entries : List Entry) (links : List ℕ) (key : Key) (r : Ranked) (places : List Key) (k : Key) (d : Entry) → IsTree entries links → r ≡ ranked key
+    → (0 < length entries → ranked_eq r (slice_index_or entries (length entries - 1) d).ranked ≡ false) → places_of entries ≡ places ++ k ∷ [] → key_eq key k ≡ true → ⊥
+not_last entries links key r places k d tree own other ends same =
     let long = count entries places k ends in
-    let none : ranked_eq r (slice_index_or entries (length entries - 1) d).ranked ≡ false =
-    subst (λ (es : List Entry). 0 < length es → ranked_eq r (slice_index_or es (length es - 1) d).ranked ≡ false) is other (omega (arith, long)) in
+    let none = other (omega (arith, long)) in
     let by_key = ap (ranked_eq r) (tree.own (length entries - 1) d (omega (arith, long))) in
     let alike = ap (λ s. ranked_eq s (ranked (key_at entries (length entries - 1) d))) own ∙ ranked_alike key (key_at entries (length entries - 1) d) ∙ ap (key_eq key) (last_key entries places k d ends) ∙ same in
     true≢false (sym alike ∙ sym by_key ∙ none)

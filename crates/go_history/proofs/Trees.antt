@@ -5,7 +5,7 @@ use Rattle.std.proofs.Math.Seq.{get_or-append_seam}
 use Rattle.std.proofs.lemmas.Bool.Decides.{nat_tests}
 use Rattle.std.proofs.lemmas.List.{get_or_append_left, get_or_default, get_or-take, length-take-le}
 use Rattle.go_history.specs.declared.key.Key.{Key}
-use Rattle.go_history.specs.declared.key_tree.Entry.{Entry}
+use Rattle.go_history.specs.declared.entries.Entry.{Entry}
 use Rattle.go_history.specs.declared.ranked.Ranked.{Ranked}
 use Rattle.go_history.specs.Keys.{key_eq}
 use Rattle.go_history.specs.inner.Trees.{EndsAt, IsLinkTo, IsOwn, IsTree, Leads, StandsAt, StandsNowhere, at_depth, digit_of, key_at, link_to, rank_place, ranked, ranked_eq, way}

@@ -5,7 +5,7 @@ ghost use Rattle.go_history.specs.declared.key.Key.{Key};
 ghost use Rattle.go_history.specs.Histories.{IsBegun, IsChangedAt, IsForgotten, IsUnchanged, later_at, number_at};
 
 use crate::Key;
-use crate::key_tree::KeyTree;
+use crate::far_keys::FarKeys;
 use std::alloc::{AllocError, Allocator};
 use std::collections::HashMap;
 use std::hash::{BuildHasherDefault, FoldHasher};
@@ -29,7 +29,7 @@ pub struct History<A: Allocator + Copy> {
     first: HashMap<Key, usize, BuildHasherDefault<FoldHasher>, A>,
     /// The same of the keys that were noted behind them, in a tree, so that no choice of moves makes
     /// a look-up long.
-    further: KeyTree<A>,
+    further: FarKeys<A>,
     alloc: A,
 }
 
@@ -41,7 +41,7 @@ impl<A: Allocator + Copy> Model for History<A> {
 
     ghost view = { λ h. record {
       start = h.start;
-      later = h.first.entries ++ h.further.noted;
+      later = h.first.entries ++ h.further;
     } };
 }
 
@@ -53,7 +53,7 @@ impl<A: Allocator + Copy> History<A> {
         History {
             start,
             first: HashMap::new(alloc),
-            further: KeyTree::new(alloc),
+            further: FarKeys::new(alloc),
             alloc,
         }
     }
@@ -127,7 +127,7 @@ impl<A: Allocator + Copy> History<A> {
         ensures { IsBegun self.new start }
     {
         self.start = start;
-        self.further = KeyTree::new(self.alloc);
+        self.further = FarKeys::new(self.alloc);
         if self.first.capacity() > KEPT_KEYS {
             self.first = HashMap::new(self.alloc);
         } else {

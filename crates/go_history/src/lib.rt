@@ -15,6 +15,8 @@
 //! `specs/Keys`.
 #![tactic(auto)]
 
+mod entries;
+mod far_keys;
 mod history;
 mod key;
 mod key_tree;

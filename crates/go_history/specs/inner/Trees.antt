@@ -1,9 +1,10 @@
 -- A tree of keys: entries in a list, and the links between them.
-use Rattle.std.specs.Prelude.{◌≡◌, ◌≢◌, ◌<◌, ◌≤◌, ◌+◌, ◌++◌, ◌*◌, ◌/◌, ◌%◌, ◌^◌, ◌&&◌, ℕ, zero, suc, nat_eq, Bool, true, false, List, [], ◌∷◌, Option, Some, None, length, map, slice_index, slice_index_or}
+use Rattle.std.specs.Prelude.{◌≡◌, ◌≢◌, ◌<◌, ◌≤◌, ◌+◌, ◌++◌, ◌*◌, ◌/◌, ◌%◌, ◌^◌, ◌&&◌, ◌⊎◌, ℕ, zero, suc, nat_eq, Bool, true, false, List, [], ◌∷◌, Option, Some, None, length, map, slice_index, slice_index_or}
+use Rattle.std.specs.Map.{lookup}
 use Rattle.std.specs.Hash.FoldHasher.{initial, write, finish}
 use Rattle.go_board.specs.PackBytes.{bytes_of}
 use Rattle.go_history.specs.declared.key.Key.{Key}
-use Rattle.go_history.specs.declared.key_tree.Entry.{Entry}
+use Rattle.go_history.specs.declared.entries.Entry.{Entry}
 use Rattle.go_history.specs.declared.ranked.Ranked.{Ranked}
 use Rattle.go_history.specs.Keys.{key_eq}
 
@@ -79,9 +80,10 @@ noted (e ∷ entries) = noted_by e.ranked.key e.number ++ noted entries
 abbrev pub places_of : List Entry → List Key
 places_of entries = map (λ e. e.ranked.key) entries
 
--- what contracts see of a tree: the keys with their numbers, and the keys that have places, also those without a number,
+-- what contracts see of a tree: how many bytes are kept of each pack, the keys with their numbers, and the keys that have places, also those without a number,
 -- in the order in which they were noted
 pub record TreeValue : Type 0 where
+  pub width : ℕ
   pub noted : List (Key × ℕ)
   pub places : List Key
 
@@ -102,3 +104,7 @@ pub record StandsAt (entries : List Entry) (links : List ℕ) (k : Key) (i : ℕ
 pub record StandsNowhere (entries : List Entry) (links : List ℕ) (k : Key) (link : Option ℕ) : Type 0 where
   pub none : (i : ℕ) (d : Entry) → i < length entries → key_eq k (key_at entries i d) ≡ false
   pub by : (n : ℕ) × (EndsAt links (length entries) (ranked k) n × (link ≡ link_to links (ranked k) n))
+
+-- no key is noted in both
+abbrev pub AreApart : List (Key × ℕ) → List (Key × ℕ) → Type 0
+AreApart xs ys = (q : Key) → (lookup (key_eq q) xs ≡ None) ⊎ (lookup (key_eq q) ys ≡ None)

@@ -10,7 +10,7 @@ use Rattle.go_chains.proofs.log.put_back_changes.Goals.{in-Some, in_default}
 pub set-requires : goal.set-requires
 set-requires g c =
     let split : c.loop.changes.items ≡ c.pop.new.self.items ++ c.change-change.result ∷ [] = c.pop.ensures.items
-        ∙ ap (λ o. c.pop.new.self.items ++ option_to_list o) c.in-Some.is ∙ ap (λ x. c.pop.new.self.items ++ x ∷ []) (sym c.change-change.ensures) in
+    ∙ ap (λ o. c.pop.new.self.items ++ option_to_list o) c.in-Some.is ∙ ap (λ x. c.pop.new.self.items ++ x ∷ []) (sym c.change-change.ensures) in
     let p = popped c.args.changes.now.items c.loop.changes.items c.pop.new.self.items c.change-change.result c.loop.counter (omega arith) c.loop.invariant.changes split in
     popped_names COUNT c.args.changes.now.items c.pop.new.self.items c.change-change.result c.loop.counter c.args.count (omega arith) c.requires.enough p c.requires.names
 
@@ -18,7 +18,7 @@ pub loop-preserved : goal.loop-preserved
 loop-preserved g c = elim c.match-pop.branch [
   | in-Some w ↦
       let split : c.loop.changes.items ≡ c.pop.new.self.items ++ w.change-change.result ∷ [] = c.pop.ensures.items
-          ∙ ap (λ o. c.pop.new.self.items ++ option_to_list o) w.in-Some.is ∙ ap (λ x. c.pop.new.self.items ++ x ∷ []) (sym w.change-change.ensures) in
+      ∙ ap (λ o. c.pop.new.self.items ++ option_to_list o) w.in-Some.is ∙ ap (λ x. c.pop.new.self.items ++ x ∷ []) (sym w.change-change.ensures) in
       let p = popped c.args.changes.now.items c.loop.changes.items c.pop.new.self.items w.change-change.result c.loop.counter (omega arith) c.loop.invariant.changes split in
       record {
         changes = p.rest_is;
