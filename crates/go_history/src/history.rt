@@ -27,8 +27,8 @@ pub struct History<A: Allocator + Copy> {
     start: Key,
     /// After how many moves each other key stood first, of the first so many.
     first: HashMap<Key, usize, BuildHasherDefault<FoldHasher>, A>,
-    /// The same of the keys that were noted behind them, in a tree, so that no choice of moves makes
-    /// a look-up long.
+    /// The same of the keys that were noted behind them, in trees, so that no choice of moves makes a
+    /// look-up long.
     further: FarKeys<A>,
     alloc: A,
 }

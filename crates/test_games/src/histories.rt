@@ -1,4 +1,4 @@
-use go_board::{Colour, Grid, Packed, Point, Size};
+use go_board::{Colour, Grid, PACK_BYTES, Packed, Point, Size};
 use go_history::{History, Key};
 use std::alloc::{AllocError, Allocator, Global};
 use std::process::Abort;
@@ -148,10 +148,12 @@ fn put_black(rt: &impl Abort, grid: &mut Grid, number: u16) {
     grid.set(point, Some(Colour::Black));
 }
 
-/// The key of one of many boards with two stones.
+/// The key of one of many boards with two stones. Every other one has 25 lines, and a stone where no
+/// board of 19 lines has a point.
 fn key_of_two(rt: &impl Abort, number: u16) -> Key {
-    let mut grid = Grid::new(Size::new(19).expect(rt, "a size"));
-    put_black(rt, &mut grid, number / 300);
+    let (lines, first) = if number % 2 == 0 { (19, 0) } else { (25, 364) };
+    let mut grid = Grid::new(Size::new(lines).expect(rt, "a size"));
+    put_black(rt, &mut grid, first + number / 300);
     put_black(rt, &mut grid, 20 + number % 300);
     Key {
         pack: grid.pack(),
@@ -258,5 +260,35 @@ fn keys_that_are_taken_back_leave_their_room(rt: HostRuntime) -> Result<(), Fail
         note_and_forget(&rt, &mut history, *lot)?;
         assert_eq!(rt; limited.left(), left, "boards from {}", lot.0);
     }
+    Ok(())
+}
+
+/// The key of a pack with these first bytes, and with this last one.
+fn key_of_bytes(first: u16, last: u8) -> Key {
+    let mut pack = Packed::of_front(&first.to_le_bytes());
+    pack.set(PACK_BYTES - 1, last);
+    Key { pack, mover: None }
+}
+
+/// How many bytes the many keys take whose packs have this last byte.
+fn taken_by_many(rt: &impl Abort, alloc: Global, last: u8) -> Result<u64, AllocError> {
+    let limited = Limited::new(alloc, HISTORY);
+    let mut history = History::new(&limited, key_with(rt, NO_STONE));
+    for number in 1..MANY + 1 {
+        let found = history.note(&key_of_bytes(number, last), usize::from(number))?;
+        assert!(rt; found.is_none(), "pack {number}");
+    }
+    Ok(HISTORY.saturating_sub(limited.left()))
+}
+
+/// How many bytes fewer the many take whose packs have none behind those of 19 lines: 60 for each that
+/// isn't among the first 4,096.
+const FEWER: u64 = 60 * 904;
+
+#[test]
+fn keys_of_usual_boards_take_less_room(rt: HostRuntime) -> Result<(), Fail> {
+    let usual = taken_by_many(&rt, rt.alloc(), 0)?;
+    let large = taken_by_many(&rt, rt.alloc(), 1)?;
+    assert!(rt; usual < large.saturating_sub(FEWER), "{usual} and {large}");
     Ok(())
 }
