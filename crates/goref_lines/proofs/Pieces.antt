@@ -1,5 +1,5 @@
 -- What a line keeps as several bytes come to its end.
-use Rattle.std.proofs.Common.{true≢false, inl, inr, ◌⊎◌, ◌≡◌, ◌∙◌, ◌+◌, ◌-◌, ◌<◌, ◌≤◌, get_or, ℕ, zero, suc, Some, None, Bool, true, false, not, cond, drop, if◌then◌else◌, ◌&&◌, ◌||◌, List, [], ◌∷◌, ◌++◌, refl, sym, ap, subst, take, length, nat_eq, nat_lt, map, arith, append_assoc, length-append}
+use Rattle.std.proofs.Common.{true≢false, inl, inr, ◌⊎◌, ◌≡◌, ◌∙◌, ◌+◌, ◌-◌, ◌<◌, ◌≤◌, get_or, ℕ, zero, suc, Some, None, Bool, true, false, not, cond, drop, if◌then◌else◌, ◌&&◌, ◌||◌, List, [], ◌∷◌, ◌++◌, refl, sym, ap, subst, take, length, nat_eq, nat_lt, map, arith, lit<, append_assoc, length-append}
 use Rattle.std.proofs.lemmas.Bool.{and_parts, cases_lt}
 use Rattle.std.proofs.lemmas.List.Sums.{prefix_len_passes}
 use Rattle.std.specs.List.{list_all, list_any, prefix_len}
@@ -12,9 +12,9 @@ use Rattle.memchr.specs.Find.{IsFirstByte, is_byte}
 use Rattle.goref_lines.specs.declared.line.TheConstants.{LINE_LIMIT}
 use Rattle.goref_lines.specs.Kept.{is_control_byte, is_hash, spaced, printable, before_comment, cleaned, ends_with_space, Kept, kept}
 use Rattle.goref_lines.specs.Words.{is_plain_space, has_bytes, single_spaced}
-use Rattle.goref_lines.specs.inner.Front.{AreBetweenWords, AreJoined, KeepsFront, end_of_words, goes_on_joined, is_gap_byte, is_word_byte, last_of, space_after, with_space}
+use Rattle.goref_lines.specs.inner.Front.{AreBetweenWords, AreJoined, KeepsFront, end_of_words, goes_on_joined, is_blank_byte, is_gap_byte, is_word_byte, last_of, space_after, with_space}
 use Rattle.goref_lines.proofs.Joins.{has_trailing_space, joined_push_space, joined_push_byte, has_trailing_space_push_space, has_trailing_space_push_byte}
-use Rattle.goref_lines.proofs.Pushes.{before_comment_none, kept_comment, kept_control, kept_hash, kept_space, plain, plain_is, plain_before, has_comment_is, spaced_other}
+use Rattle.goref_lines.proofs.Pushes.{before_comment_none, has_bytes-take, has_bytes_is, kept_comment, kept_control, kept_hash, kept_space, plain, plain_is, plain_before, has_comment_is, spaced_other}
 
 before_comment_append : (bs more : List ℕ) → list_any is_hash bs ≡ false → before_comment (bs ++ more) ≡ bs ++ before_comment more
 before_comment_append [] more e = refl
@@ -461,6 +461,12 @@ one_found bytes place h = hash_at bytes place (λ k l. h.0.before k (omega arith
 control_no_space : (b : ℕ) → is_control_byte b ≡ true → is_plain_space (spaced b) ≡ false
 control_no_space b e = grind (arith, nat_tests, e)
 
+pub blank_behind_controls : (front more : List ℕ) → list_all is_control_byte front ≡ true → list_any is_blank_byte more ≡ list_any is_blank_byte (front ++ more)
+blank_behind_controls [] more h = refl
+blank_behind_controls (b ∷ front) more h =
+    let both = and_parts (is_control_byte b) (list_all is_control_byte front) h in
+    blank_behind_controls front more both.1 ∙ sym (ap (λ c. c || list_any is_blank_byte (front ++ more)) (control_no_space b both.0))
+
 space_no_control : (b : ℕ) → is_plain_space (spaced b) ≡ true → is_control_byte b ≡ false
 space_no_control b e = grind (arith, nat_tests, e)
 
@@ -469,7 +475,7 @@ space_no_hash b e hash = let bad = sym e ∙ ap (λ x. is_plain_space (spaced x)
 
 -- bytes between words
 pub kept_gap : (gap line : List ℕ) (k : Kept) → k ≡ kept line → k.has_comment ≡ false → AreBetweenWords gap →
-    record k { has_space = cond (list_any (λ b. is_plain_space (spaced b)) gap) (not (nat_eq (length k.text) 0)) k.has_space } ≡ kept (line ++ gap)
+    record k { has_space = cond (list_any is_blank_byte gap) (not (nat_eq (length k.text) 0)) k.has_space } ≡ kept (line ++ gap)
 kept_gap [] line k seen none between = seen ∙ ap kept (sym (append-nil line))
 kept_gap (b ∷ gap) line k seen none between = at (is_control_byte b) (is_plain_space (spaced b)) refl refl (and_parts (is_gap_byte b) (list_all is_gap_byte gap) between).0
     (λ seen'. kept_gap gap (line ++ b ∷ []) k seen' none rest) (λ seen'. kept_gap gap (line ++ b ∷ []) spaced_out seen' none rest)
@@ -488,7 +494,7 @@ kept_gap (b ∷ gap) line k seen none between = at (is_control_byte b) (is_plain
     either false = refl
 
     any : Bool
-    any = list_any (λ b. is_plain_space (spaced b)) gap
+    any = list_any is_blank_byte gap
 
     at : (c s : Bool) → is_control_byte b ≡ c → is_plain_space (spaced b) ≡ s → (c || s) ≡ true
         → (k ≡ kept (line ++ b ∷ []) → record k { has_space = cond any has_words k.has_space } ≡ kept ((line ++ b ∷ []) ++ gap))
@@ -499,3 +505,33 @@ kept_gap (b ∷ gap) line k seen none between = at (is_control_byte b) (is_plain
     at false true e s or over gone =
         ap (λ x. record k { has_space = x }) (sym (either any)) ∙ gone (kept_space line b k seen none e (space_no_hash b s) s) ∙ ap kept (append_assoc line (b ∷ []) gap)
     at false false e s or over gone = cc or
+
+-- behind a word, and with no white space yet behind that, a gap says whether there is any
+pub kept_gap_behind_word : (gap line : List ℕ) (k : Kept) → k ≡ kept line → k.has_comment ≡ false → AreBetweenWords gap →
+    k.has_space ≡ false → nat_eq (length k.text) 0 ≡ false → record k { has_space = list_any is_blank_byte gap } ≡ kept (line ++ gap)
+kept_gap_behind_word gap line k seen none between unspaced some =
+    ap (λ s. record k { has_space = s }) (by (list_any is_blank_byte gap)) ∙ kept_gap gap line k seen none between
+  where
+    by : (c : Bool) → c ≡ cond c (not (nat_eq (length k.text) 0)) k.has_space
+    by true = sym (ap not some)
+    by false = sym unspaced
+
+spaced_behind_words : (line : List ℕ) (k : Kept) → k ≡ kept line → k.has_space ≡ (not (nat_eq (length k.text) 0) && ends_with_space (cleaned line))
+unfolding kept
+spaced_behind_words line k seen =
+    ap (λ (x : Kept). x.has_space) seen
+    ∙ ap (λ c. c && ends_with_space (cleaned line))
+    (sym (has_bytes-take LINE_LIMIT (single_spaced (cleaned line)) (lit< tt)) ∙ ap (λ (x : Kept). has_bytes x.text) (sym seen) ∙ has_bytes_is k.text)
+
+-- where white space came behind a word already, or no word came yet, a gap changes nothing
+pub kept_gap_same : (gap line : List ℕ) (k : Kept) → k ≡ kept line → k.has_comment ≡ false → AreBetweenWords gap →
+    (k.has_space ≡ true) ⊎ (nat_eq (length k.text) 0 ≡ true) → k ≡ kept (line ++ gap)
+kept_gap_same gap line k seen none between either =
+    ap (λ s. record k { has_space = s }) (sym (by (list_any is_blank_byte gap) (nat_eq (length k.text) 0) k.has_space (spaced_behind_words line k seen) either))
+    ∙ kept_gap gap line k seen none between
+  where
+    by : (c empty space : Bool) → space ≡ (not empty && ends_with_space (cleaned line)) → (space ≡ true) ⊎ (empty ≡ true) → cond c (not empty) space ≡ space
+    by false empty space is h = refl
+    by true true space is h = sym is
+    by true false space is (inl h) = sym h
+    by true false space is (inr h) = cc h

@@ -165,7 +165,7 @@ plain_after line b none control hash =
     ap plain (sym (cleaned_other line b control any hash))
     ∙ sym (plain_is (line ++ b ∷ []) (ap (list_any is_hash) (printable_other line b control) ∙ any_push (printable line) b ∙ ap (λ c. c || is_hash b) any ∙ hash))
 
-has_bytes-take : (n : ℕ) (text : List ℕ) → 0 < n → has_bytes (take n text) ≡ has_bytes text
+pub has_bytes-take : (n : ℕ) (text : List ℕ) → 0 < n → has_bytes (take n text) ≡ has_bytes text
 has_bytes-take zero text h = absurd (omega arith)
 has_bytes-take (suc n) [] h = refl
 has_bytes-take (suc n) (b ∷ text) h = refl

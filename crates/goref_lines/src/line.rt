@@ -1,8 +1,8 @@
 ghost use Rattle.std.specs.Prelude.{◌≡◌, ◌+◌, ◌<◌, ◌≤◌, ℕ, IfSome, List, [], ◌∷◌, ◌++◌, length, take, false, true};
 ghost use Rattle.std.specs.List.{list_all, list_any, prefix_len};
-ghost use Rattle.goref_lines.specs.Kept.{Kept, kept, is_control_byte, is_hash, printable, spaced};
-ghost use Rattle.goref_lines.specs.Words.{has_bytes, is_plain_space};
-ghost use Rattle.goref_lines.specs.inner.Front.{AreBetweenWords, AreJoined, KeepsFront, end_of_words, is_gap_byte, is_word_byte, last_of, with_space};
+ghost use Rattle.goref_lines.specs.Kept.{Kept, kept, is_control_byte, is_hash, printable};
+ghost use Rattle.goref_lines.specs.Words.{has_bytes};
+ghost use Rattle.goref_lines.specs.inner.Front.{AreBetweenWords, AreJoined, KeepsFront, end_of_words, is_blank_byte, is_gap_byte, is_word_byte, last_of, with_space};
 
 use arrayvec::ArrayVec;
 use memchr::memchr;
@@ -173,14 +173,15 @@ impl Line {
         self.has_space = false;
     }
 
-    /// Takes controls and white space.
+    /// Takes controls and white space. They say nothing where no word came yet, or white space came
+    /// behind it already.
     fn push_gap(&mut self, gap: &[u8])
         requires plain { self.old.has_comment ≡ false }
         requires gap { AreBetweenWords gap.now }
         ensures { (line : List ℕ) → self.old ≡ kept line → self.new ≡ kept (line ++ gap.now) }
     {
-        if has_blank(gap) {
-            self.has_space = !self.text.is_empty();
+        if !self.has_space && !self.text.is_empty() {
+            self.has_space = has_blank(gap);
         }
     }
 
@@ -214,30 +215,55 @@ fn is_control(byte: u8) -> bool
 }
 
 fn is_blank(byte: u8) -> bool
-    ensures { result ≡ is_plain_space (spaced byte) }
+    ensures { result ≡ is_blank_byte byte }
 {
     byte == b' ' || byte == b'\t'
 }
 
-/// Whether a space or a tab is among bytes, as mostly the first is one. Else it looks at all, so that
-/// many are looked at at once.
+/// Whether a space or a tab is among bytes. Where controls are many, whole blocks are passed.
 fn has_blank(bytes: &[u8]) -> bool
-    ensures { result ≡ list_any (λ b. is_plain_space (spaced b)) bytes.now }
+    ensures { result ≡ list_any is_blank_byte bytes.now }
 {
-    match bytes.first() {
-        Some(first) if is_blank(*first) => true,
-        _ => any_blank(bytes),
+    let mut rest = bytes;
+    while let Some(more) = behind_controls(rest) {
+        rest = more;
+    }
+    finds_blank(rest)
+}
+
+/// Whether a space or a tab is among bytes. It looks no further than the first.
+fn finds_blank(bytes: &[u8]) -> bool
+    ensures { result ≡ list_any is_blank_byte bytes.now }
+{
+    bytes.iter().any(|byte| is_blank(*byte))
+}
+
+/// What stands behind a block, where that is controls, which are neither spaces nor tabs.
+fn behind_controls(bytes: &[u8]) -> Option<&[u8]>
+    ensures same { IfSome result (λ more. list_any is_blank_byte more.now
+        ≡ list_any is_blank_byte bytes.now) }
+    ensures shorter { IfSome result (λ more. length more.now < length bytes.now) }
+{
+    if bytes.len() < BLOCK {
+        return None;
+    }
+    let (block, more) = bytes.split_at(BLOCK);
+    if are_controls(block) {
+        Some(more)
+    } else {
+        None
     }
 }
 
-fn any_blank(bytes: &[u8]) -> bool
-    ensures { result ≡ list_any (λ b. is_plain_space (spaced b)) bytes.now }
+/// Whether all bytes are controls. It looks at all, so that many are looked at at once.
+fn are_controls(bytes: &[u8]) -> bool
+    ensures { result ≡ list_all is_control_byte bytes.now }
 {
-    let mut found = false;
+    let mut all = true;
     for byte in bytes {
-        found |= is_blank(*byte);
+        all &= is_control(*byte);
     }
-    found
+    all
 }
 
 /// Whether a byte stands in words.

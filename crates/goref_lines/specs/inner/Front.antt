@@ -14,9 +14,13 @@ pub record KeepsFront (text : List ℕ) (is_long : Bool) (whole : List ℕ) : Ty
 abbrev pub with_space : Bool → List ℕ → List ℕ
 with_space has_space word = if has_space then 32 ∷ word else word
 
+-- a byte of white space: a space or HT
+abbrev pub is_blank_byte : ℕ → Bool
+is_blank_byte b = is_plain_space (spaced b)
+
 -- a byte of a word: neither a control, nor the sign of a comment, nor a space
 abbrev pub is_word_byte : ℕ → Bool
-is_word_byte b = not (is_control_byte b) && (not (is_hash b) && not (is_plain_space (spaced b)))
+is_word_byte b = not (is_control_byte b) && (not (is_hash b) && not (is_blank_byte b))
 
 -- the bytes go on with words that are joined by single spaces, behind a byte of a word or behind
 -- none, up to the end of a word
@@ -35,7 +39,7 @@ end_of_words start place = if nat_lt start place then place else start - 1
 
 -- a byte between words: a control or white space
 abbrev pub is_gap_byte : ℕ → Bool
-is_gap_byte b = is_control_byte b || is_plain_space (spaced b)
+is_gap_byte b = is_control_byte b || is_blank_byte b
 
 abbrev pub AreBetweenWords : List ℕ → Type 0
 AreBetweenWords bytes = list_all is_gap_byte bytes ≡ true
