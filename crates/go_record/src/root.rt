@@ -1,8 +1,9 @@
-ghost use Rattle.std.specs.Prelude.{◌≡◌, ◌==◌, ◌<◌, Err, IfErr, IfOk, IfSome, ℕ, Option, length, position};
+ghost use Rattle.std.specs.Prelude.{◌≡◌, ◌==◌, ◌<◌, Err, IfErr, IfOk, IfSome, IsTrue, ℕ, List, [], ◌∷◌, Option, length, position};
 ghost use Rattle.go_board.specs.Komi.{IsKomi};
-ghost use Rattle.go_record.specs.inner.Progress.{IsRootOf, Says};
-ghost use Rattle.go_record.specs.Games.{IsGameOf, is_blank_value, is_go_value, is_number_one, komi_in, lines_in, number_by, number_of_both, value_at_root};
-ghost use Rattle.go_sgf.specs.Record.{Trees};
+ghost use Rattle.go_record.specs.inner.Progress.{AreFoundOf, IsRootOf, Says, value_from};
+ghost use Rattle.go_record.specs.Games.{IsGameOf, first_node, is_blank_value, is_go_value, is_number_one, komi_in, lines_in, number_by, number_of_both};
+ghost use Rattle.go_record.specs.MainLine.{leading_value};
+ghost use Rattle.go_sgf.specs.Record.{Property, Trees};
 ghost use Rattle.go_sgf.specs.Spelling.{Spells};
 
 use crate::error::RecordError;
@@ -31,29 +32,87 @@ pub(crate) struct RootValues<'a> {
 pub(crate) fn root_values(source: &[u8]) -> RootValues<'_>
     ensures { (c : Trees) → Spells source.now c → IsRootOf result c }
 {
-    RootValues {
-        game: root_value(source, b"GM"),
-        size: root_value(source, b"SZ"),
-        komi: root_value(source, b"KM"),
-        result: root_value(source, b"RE"),
-    }
-}
-
-/// The first value of the first property with this name in the first node, or an empty one.
-fn root_value<'a>(source: &'a [u8], name: &[u8]) -> &'a [u8]
-    ensures { (c : Trees) → Spells source.now c → result.now ≡ value_at_root name.now c }
-{
     let mut line = MainLine::of(source);
+    let mut found = Found::nothing();
     if !line.next_node() {
-        return b"";
+        return found.values();
     }
-    while let Some(found) = line.next_name() {
-        if is_named(found, name) {
-            return first_value(&mut line);
+    while let Some(name) = line.next_name() {
+        let value = first_value(&mut line);
+        found.keep(name, value);
+        if found.is_whole() {
+            return found.values();
         }
         skip_values(&mut line);
     }
-    b""
+    found.values()
+}
+
+/// What was found in the front of a record's first node: the first value of the first property with
+/// each name.
+#[derive(Clone, Copy)]
+struct Found<'a> {
+    game: Option<&'a [u8]>,
+    size: Option<&'a [u8]>,
+    komi: Option<&'a [u8]>,
+    result: Option<&'a [u8]>,
+}
+
+impl<'a> Found<'a> {
+    /// What is found in front of all properties.
+    fn nothing() -> Found<'a>
+        ensures { (c : Trees) → AreFoundOf result (first_node c) c }
+    {
+        Found {
+            game: None,
+            size: None,
+            komi: None,
+            result: None,
+        }
+    }
+
+    /// Takes the name and the first value of the next property.
+    fn keep(&mut self, name: &[u8], value: &'a [u8])
+        ensures { (p : Property) (later : List Property) (c : Trees) → name.now ≡ p.name
+            → value.now ≡ leading_value p.values → AreFoundOf self.old (p ∷ later) c
+            → AreFoundOf self.new later c }
+    {
+        keep_named(&mut self.game, b"GM", name, value);
+        keep_named(&mut self.size, b"SZ", name, value);
+        keep_named(&mut self.komi, b"KM", name, value);
+        keep_named(&mut self.result, b"RE", name, value);
+    }
+
+    /// Whether a property with each name was found, so that those behind say nothing.
+    fn is_whole(&self) -> bool
+        ensures { IsTrue result → (left : List Property) (c : Trees) → AreFoundOf self.now left c
+            → AreFoundOf self.now [] c }
+    {
+        self.game.is_some() && self.size.is_some() && self.komi.is_some() && self.result.is_some()
+    }
+
+    /// The values, where no property is left.
+    fn values(&self) -> RootValues<'a>
+        ensures { (c : Trees) → AreFoundOf self.now [] c → IsRootOf result c }
+    {
+        RootValues {
+            game: self.game.unwrap_or(b""),
+            size: self.size.unwrap_or(b""),
+            komi: self.komi.unwrap_or(b""),
+            result: self.result.unwrap_or(b""),
+        }
+    }
+}
+
+/// Keeps a property's first value, where its name is wanted and none with it came before.
+fn keep_named<'a>(found: &mut Option<&'a [u8]>, wanted: &[u8], name: &[u8], value: &'a [u8])
+    ensures { (p : Property) (later : List Property) → name.now ≡ p.name
+        → value.now ≡ leading_value p.values
+        → value_from wanted.now found.new later ≡ value_from wanted.now found.old (p ∷ later) }
+{
+    if found.is_none() && is_named(name, wanted) {
+        *found = Some(value);
+    }
 }
 
 /// What a record's first node says of its game before any event.

@@ -2,16 +2,18 @@
 use Rattle.go_sgf.specs.MainLine.{IsLeft}
 use Rattle.go_sgf.specs.Record.{Property, Trees}
 use Rattle.std.specs.Prelude.{◌≡◌, ◌≢◌, codes, ◌-◌, ◌++◌, ℕ, ℤ, Bool, true, false, if◌then◌else◌, List, [], Option, Some, None, Result, Err, MatchResult}
+use Rattle.std.specs.Borrow.{Bor}
 use Rattle.go_board.specs.declared.colour.Colour.{Colour}
 use Rattle.go_board.specs.Colours.{Colouring}
 use Rattle.go_game.specs.Standings.{GameValue}
 use Rattle.go_record.specs.declared.error.RecordError.{RecordError}
 use Rattle.go_record.specs.declared.error.RecordError.TheVariants.{Memory}
+use Rattle.go_record.specs.declared.root.Found.{Found}
 use Rattle.go_record.specs.declared.root.RootValues.{RootValues}
 use Rattle.go_record.specs.declared.state.Left.{Left}
 use Rattle.go_record.specs.declared.state.Left.TheVariants.{All, Moves, Nothing}
 use Rattle.go_record.specs.declared.state.Walk.{Walk}
-use Rattle.go_record.specs.Games.{is_go_value, komi_in, lines_in, value_at_root}
+use Rattle.go_record.specs.Games.{is_go_value, komi_in, lines_in, value_at_root, value_named}
 use Rattle.go_record.specs.MainLine.{Event, before_move}
 use Rattle.go_record.specs.Walks.{Outcome, Plays, SetsUp}
 
@@ -80,3 +82,15 @@ pub record IsRootOf (values : RootValues) (c : Trees) : Type 0 where
   pub size : values.size.now ≡ value_at_root (codes "SZ") c
   pub komi : values.komi.now ≡ value_at_root (codes "KM") c
   pub result_said : values.result.now ≡ value_at_root (codes "RE") c
+
+-- the first value of the first property with a name: the one that was found, or else that among the properties left
+abbrev pub value_from : List ℕ → Option (Bor (List ℕ)) → List Property → List ℕ
+value_from name None left = value_named name left
+value_from name (Some value) left = value.now
+
+-- what was found of the values at the root of a record, of whose first node these properties are left
+pub record AreFoundOf (found : Found) (left : List Property) (c : Trees) : Type 0 where
+  pub game : value_from (codes "GM") found.game left ≡ value_at_root (codes "GM") c
+  pub size : value_from (codes "SZ") found.size left ≡ value_at_root (codes "SZ") c
+  pub komi : value_from (codes "KM") found.komi left ≡ value_at_root (codes "KM") c
+  pub result_said : value_from (codes "RE") found.result left ≡ value_at_root (codes "RE") c
