@@ -1,5 +1,5 @@
 //! A plain program to compare `goref gtp` with: it reads `boardsize` with the lines that it is built for,
-//! `play`, `undo`, `genmove`, `loadsgf` and `quit`, and answers as goref does, a line that is too long too.
+//! `clear_board`, `play`, `undo`, `genmove`, `loadsgf` and `quit`, and answers as goref does, a line that is too long too.
 //! `plain script ROUNDS` writes lines for both: so many times the same 300 random plays, all of them legal,
 //! and 300 undos. `plain records FOLDER COUNT MOVES` writes records of so many random games of so many moves
 //! into a folder. Nothing of it is proved.
@@ -60,7 +60,7 @@ fn answer(game: &mut Game, line: &str, out: &mut impl Write) -> io::Result<bool>
     };
     let colour = words.peek().and_then(|word| colour_of(word));
     match (name, colour) {
-        ("boardsize", _) => {
+        ("boardsize" | "clear_board", _) => {
             *game = Game::new();
             write!(out, "={id}\n\n")?;
         }
