@@ -1,7 +1,7 @@
 -- The entries that stand for what is kept of them: one of them, one more, one fewer, and one with another number.
 use Rattle.std.proofs.Common.{◌≡◌, ◌<◌, ◌≤◌, ◌+◌, ◌*◌, ◌∙◌, ℕ, zero, suc, List, [], ◌∷◌, ◌++◌, arith, length, slice_index_or, slice_set, take, drop, ap, ap₂, refl, sym, mul-add, mul-one, mul-suc, mul-zero}
 use Rattle.std.proofs.Math.Nat.{mul-le-mul_left}
-use Rattle.std.proofs.lemmas.List.{drop-append-le, drop-drop, drop-take, length-drop, length-take-le, nil_from_length, take-append-le, take_all}
+use Rattle.std.proofs.lemmas.List.{drop-append-le, drop-drop, drop-take, length-drop, nil_from_length, take-append-le, take_all}
 use Rattle.go_history.specs.declared.entries.Entry.{Entry}
 use Rattle.go_history.specs.declared.entries.Rest.{Rest}
 use Rattle.go_history.specs.inner.Entries.{EntriesValue, entries_of, entry_of}

@@ -1,5 +1,5 @@
 -- The places of a tree's keys, once an entry was written or the last was taken away.
-use Rattle.std.proofs.Common.{◌≡◌, ◌<◌, ◌+◌, ◌-◌, ◌∙◌, true≢false, ℕ, true, false, List, [], ◌∷◌, ◌++◌, arith, length, length-append, slice_index_or, slice_set, take, ap, sym, subst}
+use Rattle.std.proofs.Common.{◌≡◌, ◌<◌, ◌+◌, ◌-◌, ◌∙◌, true≢false, ℕ, true, false, List, [], ◌∷◌, ◌++◌, arith, length, length-append, slice_index_or, slice_set, take, ap, sym}
 use Rattle.std.proofs.Math.ListN.{get_or-map}
 use Rattle.std.proofs.Math.Seq.{get_or-append_seam, map-set_same, take-append_seam}
 use Rattle.std.proofs.lemmas.List.{length-map, take-map}

@@ -26,7 +26,7 @@ struct Place {
 
 /// Keys with their numbers, each where the digits of its hash lead to from the first. So none is
 /// deeper than a hash has digits, but for keys with one hash, which stand one behind the other. All
-/// lie in two lists, which are given back at once.
+/// lie in three lists, which are given back at once.
 #[derive(Drop)]
 pub struct KeyTree<A: Allocator + Copy> {
     entries: Entries<A>,

@@ -1,4 +1,4 @@
-use Rattle.std.proofs.Common.{◌≡◌, ◌-◌, ◌*◌, ◌∙◌, ap, arith, length, length-take-le, rules, subst, sym, take}
+use Rattle.std.proofs.Common.{◌≡◌, ◌-◌, ◌*◌, ◌∙◌, ap, arith, length, length-take-le, subst, sym, take}
 use Rattle.go_history.specs.inner.Trees.{IsTree}
 use Rattle.go_history.proofs.Trees.{pruned_by}
 use Rattle.go_history.proofs.key_tree.cut.Goals as goal

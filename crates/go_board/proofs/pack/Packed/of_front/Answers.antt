@@ -1,4 +1,4 @@
-use Rattle.std.proofs.Common.{◌≡◌, ◌-◌, ◌∙◌, ◌++◌, ℕ, List, ap, ap₂, length, replicate}
+use Rattle.std.proofs.Common.{◌∙◌, ◌++◌, ℕ, List, ap, ap₂, length}
 use Rattle.std.proofs.lemmas.List.{drop-replicate}
 use Rattle.go_board.specs.declared.pack.Packed.{Packed}
 use Rattle.go_board.specs.declared.pack.TheConstants.{PACK_BYTES}

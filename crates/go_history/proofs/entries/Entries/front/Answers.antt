@@ -1,4 +1,4 @@
-use Rattle.std.proofs.Common.{◌≡◌, ◌∙◌, ◌*◌, List, ℕ, None, ap, arith, drop, length, sym, take}
+use Rattle.std.proofs.Common.{◌∙◌, ◌*◌, List, ℕ, None, ap, arith, drop, length, sym, take}
 use Rattle.go_board.specs.PackBytes.{pack_of_front}
 use Rattle.go_history.specs.declared.entries.Entry.{Entry}
 use Rattle.go_history.specs.declared.entries.Rest.{Rest}

@@ -1,4 +1,4 @@
-use Rattle.std.proofs.Common.{◌≡◌, ◌∙◌, Option, ap, ap₂, arith, sym}
+use Rattle.std.proofs.Common.{◌∙◌, Option, ap, ap₂, arith, sym}
 use Rattle.go_board.specs.declared.colour.Colour.{Colour}
 use Rattle.go_board.specs.declared.pack.Packed.{Packed}
 use Rattle.go_history.specs.Keys.{key_eq}

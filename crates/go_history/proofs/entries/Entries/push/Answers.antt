@@ -1,4 +1,4 @@
-use Rattle.std.proofs.Common.{◌≡◌, ◌∙◌, ◌+◌, ◌*◌, ◌++◌, ◌∷◌, [], List, ℕ, Option, Some, ap, ap₂, arith, length, length-append, mul-suc, rules, suc, sym}
+use Rattle.std.proofs.Common.{◌≡◌, ◌∙◌, ◌+◌, ◌*◌, ◌++◌, ◌∷◌, [], List, ℕ, Some, ap, ap₂, arith, length, length-append, mul-suc, rules, suc, sym}
 use Rattle.go_board.specs.declared.pack.Packed.{Packed}
 use Rattle.go_history.specs.declared.entries.Entry.{Entry}
 use Rattle.go_history.specs.declared.entries.Rest.{Rest}

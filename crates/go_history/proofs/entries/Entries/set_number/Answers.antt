@@ -1,6 +1,5 @@
 use Rattle.std.proofs.Common.{◌≡◌, ◌∙◌, List, ap, ap₂, arith, slice_index_or, slice_set, sym}
 use Rattle.go_history.specs.declared.entries.Entry.{Entry}
-use Rattle.go_history.specs.declared.entries.Rest.{Rest}
 use Rattle.go_history.specs.inner.Entries.{EntriesValue, entry_of}
 use Rattle.go_history.proofs.KeptEntries.{at_is, front_at, length_is, written}
 use Rattle.go_history.proofs.entries.Entries.set_number.Goals as goal
