@@ -1,6 +1,7 @@
 //! The lines of the Go Text Protocol: what is kept of a line, its words and what they ask for.
 #![tactic(auto)]
 
+mod gaps;
 pub mod laws;
 mod line;
 mod request;

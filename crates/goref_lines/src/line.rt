@@ -1,18 +1,16 @@
-ghost use Rattle.std.specs.Prelude.{◌≡◌, ◌+◌, ◌<◌, ◌≤◌, ℕ, IfSome, List, [], ◌∷◌, ◌++◌, length, take, false, true};
-ghost use Rattle.std.specs.List.{list_all, list_any, prefix_len};
-ghost use Rattle.goref_lines.specs.Kept.{Kept, kept, is_control_byte, is_hash, printable};
+ghost use Rattle.std.specs.Prelude.{◌≡◌, ◌+◌, ◌<◌, ◌≤◌, ℕ, List, [], ◌∷◌, ◌++◌, length, take, false, true};
+ghost use Rattle.std.specs.List.{list_any, prefix_len};
+ghost use Rattle.goref_lines.specs.Kept.{Kept, kept, is_hash, printable};
 ghost use Rattle.goref_lines.specs.Words.{has_bytes};
-ghost use Rattle.goref_lines.specs.inner.Front.{AreBetweenWords, AreJoined, KeepsFront, end_of_words, is_blank_byte, is_gap_byte, is_word_byte, last_of, with_space};
+ghost use Rattle.goref_lines.specs.inner.Front.{AreBetweenWords, AreJoined, KeepsFront, end_of_words, is_word_byte, last_of, with_space};
 
+use crate::gaps::{gap_front, has_blank, is_blank, is_control};
 use arrayvec::ArrayVec;
 use memchr::memchr;
 use std::marker::Model;
 
 /// The most bytes that the words of a line have, joined by single spaces.
 pub const LINE_LIMIT: usize = 8192;
-
-/// How many bytes between words are taken at once.
-const BLOCK: usize = 64;
 
 /// What is kept of a line as its bytes come in.
 #[derive(Drop)]
@@ -208,76 +206,11 @@ impl Line {
     }
 }
 
-fn is_control(byte: u8) -> bool
-    ensures { result ≡ is_control_byte byte }
-{
-    byte < 32 && byte != b'\t' || byte == 127
-}
-
-fn is_blank(byte: u8) -> bool
-    ensures { result ≡ is_blank_byte byte }
-{
-    byte == b' ' || byte == b'\t'
-}
-
-/// Whether a space or a tab is among bytes. Where controls are many, whole blocks are passed.
-fn has_blank(bytes: &[u8]) -> bool
-    ensures { result ≡ list_any is_blank_byte bytes.now }
-{
-    let mut rest = bytes;
-    while let Some(more) = behind_controls(rest) {
-        rest = more;
-    }
-    finds_blank(rest)
-}
-
-/// Whether a space or a tab is among bytes. It looks no further than the first.
-fn finds_blank(bytes: &[u8]) -> bool
-    ensures { result ≡ list_any is_blank_byte bytes.now }
-{
-    bytes.iter().any(|byte| is_blank(*byte))
-}
-
-/// What stands behind a block, where that is controls, which are neither spaces nor tabs.
-fn behind_controls(bytes: &[u8]) -> Option<&[u8]>
-    ensures same { IfSome result (λ more. list_any is_blank_byte more.now
-        ≡ list_any is_blank_byte bytes.now) }
-    ensures shorter { IfSome result (λ more. length more.now < length bytes.now) }
-{
-    if bytes.len() < BLOCK {
-        return None;
-    }
-    let (block, more) = bytes.split_at(BLOCK);
-    if are_controls(block) {
-        Some(more)
-    } else {
-        None
-    }
-}
-
-/// Whether all bytes are controls. It looks at all, so that many are looked at at once.
-fn are_controls(bytes: &[u8]) -> bool
-    ensures { result ≡ list_all is_control_byte bytes.now }
-{
-    let mut all = true;
-    for byte in bytes {
-        all &= is_control(*byte);
-    }
-    all
-}
-
 /// Whether a byte stands in words.
 fn is_of_word(byte: u8) -> bool
     ensures { result ≡ is_word_byte byte }
 {
     byte > b' ' && byte != b'#' && byte != 127
-}
-
-/// Whether a byte stands between words: white space or a control.
-fn is_of_gap(byte: u8) -> bool
-    ensures { result ≡ is_gap_byte byte }
-{
-    byte <= b' ' || byte == 127
 }
 
 /// How many bytes of words stand first that are joined by single spaces, up to the end of a word.
@@ -308,62 +241,6 @@ fn words_end(start: usize, place: usize) -> usize
     } else {
         start.saturating_sub(1)
     }
-}
-
-/// How many controls and white space stand first. Where they are many, whole blocks are told.
-fn gap_front(bytes: &[u8]) -> usize
-    ensures gap { AreBetweenWords (take result bytes.now) }
-    ensures bound { result ≤ length bytes.now }
-{
-    let count = bytes.len() - behind_blocks(bytes).len();
-    if count > 0 {
-        return count;
-    }
-    gap_len(bytes)
-}
-
-/// What stands behind the first blocks that are controls and white space.
-fn behind_blocks(bytes: &[u8]) -> &[u8]
-    ensures { (gap : List ℕ) × (bytes.now ≡ gap ++ result.now) × AreBetweenWords gap }
-{
-    let mut rest = bytes;
-    while let Some(more) = behind_block(rest) {
-        rest = more;
-    }
-    rest
-}
-
-/// What stands behind a block, where that is controls and white space.
-fn behind_block(bytes: &[u8]) -> Option<&[u8]>
-    ensures gap { IfSome result (λ more. (gap : List ℕ) × (bytes.now ≡ gap ++ more.now)
-        × AreBetweenWords gap) }
-    ensures shorter { IfSome result (λ more. length more.now < length bytes.now) }
-{
-    if bytes.len() < BLOCK {
-        return None;
-    }
-    let (block, more) = bytes.split_at(BLOCK);
-    if is_gap(block) { Some(more) } else { None }
-}
-
-/// How many controls and white space stand first.
-fn gap_len(bytes: &[u8]) -> usize
-    ensures value { result ≡ prefix_len is_gap_byte bytes.now }
-    ensures bound { result ≤ length bytes.now }
-{
-    bytes.iter().take_while(|byte| is_of_gap(**byte)).count()
-}
-
-/// Whether all bytes are controls and white space. It looks at all, so that many are looked at at
-/// once.
-fn is_gap(bytes: &[u8]) -> bool
-    ensures { result ≡ list_all is_gap_byte bytes.now }
-{
-    let mut all = true;
-    for byte in bytes {
-        all &= is_of_gap(*byte);
-    }
-    all
 }
 
 /// The last byte that is no control.

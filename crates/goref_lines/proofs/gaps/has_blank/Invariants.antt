@@ -1,7 +1,7 @@
 use Rattle.std.proofs.Common.{◌≡◌, length}
 use Rattle.std.specs.List.{list_any}
 use Rattle.goref_lines.specs.inner.Front.{is_blank_byte}
-use Rattle.goref_lines.proofs.line.has_blank.Given as goal
+use Rattle.goref_lines.proofs.gaps.has_blank.Given as goal
 
 abbrev pub invariant-loop-more : goal.invariant-loop-more
 invariant-loop-more l = list_any is_blank_byte l.rest ≡ list_any is_blank_byte l.bytes

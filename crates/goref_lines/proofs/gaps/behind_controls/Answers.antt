@@ -1,10 +1,10 @@
 use Rattle.std.proofs.Common.{◌++◌, ◌∙◌, ap, sym, take}
 use Rattle.std.specs.List.{list_any}
 use Rattle.std.proofs.lemmas.List.{take-append-drop}
-use Rattle.goref_lines.specs.declared.line.TheConstants.{BLOCK}
+use Rattle.goref_lines.specs.declared.gaps.TheConstants.{BLOCK}
 use Rattle.goref_lines.specs.inner.Front.{is_blank_byte}
 use Rattle.goref_lines.proofs.Pieces.{blank_behind_controls}
-use Rattle.goref_lines.proofs.line.behind_controls.Goals as goal
+use Rattle.goref_lines.proofs.gaps.behind_controls.Goals as goal
 
 pub returns-then-are_controls-clause-same : goal.returns-then-are_controls-clause-same
 returns-then-are_controls-clause-same c =

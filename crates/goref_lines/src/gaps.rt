@@ -1,0 +1,131 @@
+//! What stands between words: white space and controls.
+ghost use Rattle.std.specs.Prelude.{◌≡◌, ◌<◌, ◌≤◌, ◌++◌, IfSome, List, ℕ, length, take};
+ghost use Rattle.std.specs.List.{list_all, list_any, prefix_len};
+ghost use Rattle.goref_lines.specs.Kept.{is_control_byte};
+ghost use Rattle.goref_lines.specs.inner.Front.{AreBetweenWords, is_blank_byte, is_gap_byte};
+
+/// How many bytes between words are taken at once.
+const BLOCK: usize = 64;
+
+/// Whether a byte is a control, which a line leaves out; a tab is white space.
+pub(crate) fn is_control(byte: u8) -> bool
+    ensures { result ≡ is_control_byte byte }
+{
+    byte < 32 && byte != b'\t' || byte == 127
+}
+
+/// Whether a byte is a space or a tab.
+pub(crate) fn is_blank(byte: u8) -> bool
+    ensures { result ≡ is_blank_byte byte }
+{
+    byte == b' ' || byte == b'\t'
+}
+
+/// Whether a space or a tab is among bytes. Where controls are many, whole blocks are passed.
+pub(crate) fn has_blank(bytes: &[u8]) -> bool
+    ensures { result ≡ list_any is_blank_byte bytes.now }
+{
+    let mut rest = bytes;
+    while let Some(more) = behind_controls(rest) {
+        rest = more;
+    }
+    finds_blank(rest)
+}
+
+/// Whether a space or a tab is among bytes. It looks no further than the first.
+fn finds_blank(bytes: &[u8]) -> bool
+    ensures { result ≡ list_any is_blank_byte bytes.now }
+{
+    bytes.iter().any(|byte| is_blank(*byte))
+}
+
+/// What stands behind a block, where that is controls, which are neither spaces nor tabs.
+fn behind_controls(bytes: &[u8]) -> Option<&[u8]>
+    ensures same { IfSome result (λ more. list_any is_blank_byte more.now
+        ≡ list_any is_blank_byte bytes.now) }
+    ensures shorter { IfSome result (λ more. length more.now < length bytes.now) }
+{
+    if bytes.len() < BLOCK {
+        return None;
+    }
+    let (block, more) = bytes.split_at(BLOCK);
+    if are_controls(block) {
+        Some(more)
+    } else {
+        None
+    }
+}
+
+/// Whether all bytes are controls. It looks at all, so that many are looked at at once.
+fn are_controls(bytes: &[u8]) -> bool
+    ensures { result ≡ list_all is_control_byte bytes.now }
+{
+    let mut all = true;
+    for byte in bytes {
+        all &= is_control(*byte);
+    }
+    all
+}
+
+/// Whether a byte stands between words: white space or a control.
+fn is_of_gap(byte: u8) -> bool
+    ensures { result ≡ is_gap_byte byte }
+{
+    byte <= b' ' || byte == 127
+}
+
+/// How many controls and white space stand first. Where they are many, whole blocks are told.
+pub(crate) fn gap_front(bytes: &[u8]) -> usize
+    ensures gap { AreBetweenWords (take result bytes.now) }
+    ensures bound { result ≤ length bytes.now }
+{
+    let count = bytes.len() - behind_blocks(bytes).len();
+    if count > 0 {
+        return count;
+    }
+    gap_len(bytes)
+}
+
+/// What stands behind the first blocks that are controls and white space.
+fn behind_blocks(bytes: &[u8]) -> &[u8]
+    ensures { (gap : List ℕ) × (bytes.now ≡ gap ++ result.now) × AreBetweenWords gap }
+{
+    let mut rest = bytes;
+    while let Some(more) = behind_block(rest) {
+        rest = more;
+    }
+    rest
+}
+
+/// What stands behind a block, where that is controls and white space.
+fn behind_block(bytes: &[u8]) -> Option<&[u8]>
+    ensures gap { IfSome result (λ more. (gap : List ℕ) × (bytes.now ≡ gap ++ more.now)
+        × AreBetweenWords gap) }
+    ensures shorter { IfSome result (λ more. length more.now < length bytes.now) }
+{
+    if bytes.len() < BLOCK {
+        return None;
+    }
+    let (block, more) = bytes.split_at(BLOCK);
+    if is_gap(block) { Some(more) } else { None }
+}
+
+/// How many controls and white space stand first.
+fn gap_len(bytes: &[u8]) -> usize
+    ensures value { result ≡ prefix_len is_gap_byte bytes.now }
+    ensures bound { result ≤ length bytes.now }
+{
+    bytes.iter().take_while(|byte| is_of_gap(**byte)).count()
+}
+
+/// Whether all bytes are controls and white space. It looks at all, so that many are looked at at
+/// once.
+fn is_gap(bytes: &[u8]) -> bool
+    ensures { result ≡ list_all is_gap_byte bytes.now }
+{
+    let mut all = true;
+    for byte in bytes {
+        all &= is_of_gap(*byte);
+    }
+    all
+}
