@@ -73,10 +73,10 @@ impl Cells<Open> {
 
     /// The pack of the colours, as if the board had the most lines. Open cells alone tell it, so that
     /// no play looks at colours that it doesn't count.
-    pub fn pack(&self) -> Packed
-        ensures { bytes_of result ≡ packed_of (colouring_of MAX_LINES self.now.numbers) }
+    pub fn pack(&self) -> &Packed
+        ensures { bytes_of result.now ≡ packed_of (colouring_of MAX_LINES self.now.numbers) }
     {
-        self.pack
+        &self.pack
     }
 }
 

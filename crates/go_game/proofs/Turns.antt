@@ -19,21 +19,21 @@ use Rattle.go_board.specs.Points.{number_of}
 use Rattle.go_board.specs.Reaching.{moved}
 use Rattle.go_chains.specs.declared.change.Change.{Change}
 use Rattle.go_chains.specs.declared.cells.TheConstants.{COUNT}
-use Rattle.go_chains.specs.Rewound.{NamesCells, PlayLogged, rewound}
+use Rattle.go_chains.specs.Rewound.{IsRewound, NamesCells, PlayLogged, rewound}
 use Rattle.go_chains.specs.Sound.{IsKept}
 use Rattle.go_chains.specs.Boards.{BoardValue, colouring_of, grid_of}
 use Rattle.go_game.specs.declared.step.Step.{Step}
 use Rattle.go_game.specs.declared.superko.Superko.{Superko}
 use Rattle.go_game.specs.inner.Held.{IsHeld, IsKeeping, IsPlayed, made_of, standing_of}
 use Rattle.go_history.specs.declared.key.Key.{Key}
-use Rattle.go_history.specs.Histories.{HistoryValue, IsChangedAt, IsForgotten}
+use Rattle.go_history.specs.Histories.{HistoryValue, IsChangedAt, IsForgotten, IsUnchanged}
 use Rattle.go_game.specs.inner.Histories.{IsNoted, StandsFor}
 use Rattle.go_game.specs.Prisoners.{share_of}
 use Rattle.go_game.specs.Standings.{IsLegal, Seen, Situation, after_move, after_vertex, board, mover_by, seen_by, situations, stood, stood_of}
 use Rattle.go_game.specs.inner.Trails.{IsTurn, WentThrough}
 use Rattle.go_game.proofs.Keeping.{grid_is}
 use Rattle.go_game.proofs.Played.{held_push, length-moved, made_push}
-use Rattle.go_game.proofs.Remembered.{history_less, history_next, history_only}
+use Rattle.go_game.proofs.Remembered.{history_kept, history_less, history_next, history_only}
 use Rattle.go_game.proofs.Trails.{went_kept, went_more}
 
 situations_push : (n : ℕ) (g : Colouring) (c : Colour) (moves : List Move) (m : Move) → situations n g c (moves ++ m ∷ []) ≡ situations n g c moves ++ (after_move n (board n g moves) m, other m.colour) ∷ []
@@ -196,3 +196,23 @@ rewinds rule start komi first steps b b' log log' history black white most k lin
     let here = went_kept start.lines k.tracked.first (map made_of steps) log b.cells k.tracked.kept k.tracked.went in
     let R : List Change → Type 0 = λ xs. NamesCells COUNT xs × IsKept b'.lines (rewound b'.cells xs) in
     subst R last.1 (logged.names, subst (λ (n : ℕ). IsKept n (rewound b'.cells logged.changes)) (sym (lines ∙ k.tracked.lines)) (subst (IsKept start.lines) (sym logged.back) here.0))
+
+-- a play that was taken back leaves what was kept
+pub keep_back : (rule : Superko) (start : GridValue) (komi : ℤ) (first : Colour) (steps steps' : List Step) (b b' b'' : BoardValue) (log log' log'' : List (List Change)) (history history' : HistoryValue) (black white most ticks ticks' : ℕ)
+    → IsKeeping rule start komi first steps b log history black white → b'.lines ≡ b.lines → (play : PlayLogged b b' log log' most) → IsRewound b' b'' log'' log play.changes ticks ticks'
+    → IsUnchanged history history' → steps' ≡ steps → IsKeeping rule start komi first steps' b'' log'' history' black white
+keep_back rule start komi first steps steps' b b' b'' log log' log'' history history' black white most ticks ticks' k lines play back same steps_same =
+    let n = start.lines in
+    let cells : b''.cells ≡ b.cells = back.cells ∙ play.back in
+    subst (λ (xs : List Step). IsKeeping rule start komi first xs b'' log'' history' black white) (sym steps_same) (record {
+      held = k.held;
+      tracked = record {
+        lines = back.lines ∙ lines ∙ k.tracked.lines;
+        first = k.tracked.first;
+        kept = k.tracked.kept;
+        begun = k.tracked.begun;
+        went = subst (λ (l : List (List Change)). WentThrough n k.tracked.first (map made_of steps) l b''.cells) (sym back.dropped)
+            (subst (WentThrough n k.tracked.first (map made_of steps) log) (sym cells) k.tracked.went);
+      };
+      told = history_kept (n * n) history history' (stood_of (standing_of rule start komi first steps)) same k.told;
+    })

@@ -10,7 +10,7 @@ ghost use Rattle.go_game.specs.Standings.{IsLegal, IsOccupied, IsOffBoard, IsRep
 use crate::step::Step;
 use crate::{Game, PlayError};
 use go_board::laws::{packs_tell_colourings_apart, points_by_number, taken_and_left};
-use go_board::{Colour, Move, Point, Taken, Vertex};
+use go_board::{Colour, Move, Packed, Point, Taken, Vertex};
 use go_chains::PlaceError;
 use go_history::{History, Key};
 use std::alloc::Allocator;
@@ -58,7 +58,8 @@ impl<A: Allocator + Copy> Game<A> {
         if self.steps.reserve(1).is_err() {
             return Err(PlayError::Memory);
         }
-        let key = self.superko.key(self.board.pack(), colour.other());
+        let mut key = self.superko.key(Packed::empty(), colour.other());
+        self.board.write_pack(&mut key.pack);
         match self.history.note(&key, self.steps.len() + 1) {
             Ok(_known) => {}
             Err(_) => return Err(PlayError::Memory),
@@ -104,7 +105,8 @@ impl<A: Allocator + Copy> Game<A> {
             vertex: Vertex::At(p),
         };
         let step = Step { made, taken };
-        let key = self.superko.key(self.board.pack(), colour.other());
+        let mut key = self.superko.key(Packed::empty(), colour.other());
+        self.board.write_pack(&mut key.pack);
         match note(&key, &mut self.history, &mut self.steps, step) {
             Ok(()) => {
                 self.prisoners.add(colour, taken);
@@ -128,9 +130,8 @@ impl<A: Allocator + Copy> Game<A> {
     {
         packs_tell_colourings_apart();
         let step = self.steps.pop()?;
-        let key = self
-            .superko
-            .key(self.board.pack(), step.made.colour.other());
+        let mut key = self.superko.key(Packed::empty(), step.made.colour.other());
+        self.board.write_pack(&mut key.pack);
         match step.made.vertex {
             Vertex::Pass => {
                 self.history.forget_at(&key, self.steps.len() + 1);

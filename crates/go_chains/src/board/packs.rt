@@ -17,20 +17,29 @@ impl Board<Open> {
     pub fn pack(&self) -> Packed
         ensures { bytes_of result ≡ packed_of (grid_of self.now) }
     {
+        let mut packed = Packed::empty();
+        self.write_pack(&mut packed);
+        packed
+    }
+
+    /// Writes the colours in two bits a point over a pack, as [`Board::pack`] gives them. Each play
+    /// makes a key of them, and a pack that was given back would be copied into it.
+    pub fn write_pack(&self, packed: &mut Packed)
+        ensures { bytes_of packed.new ≡ packed_of (grid_of self.now) }
+    {
         bytes_make_a_pack();
         let full = usize::from(self.size().points()) / 4;
-        let mut packed = self.largest_pack();
+        *packed = *self.largest_pack();
         packed.set(full, self.last_byte());
         for place in full + 1..PACK_BYTES {
             packed.set(place, 0);
         }
-        packed
     }
 
     /// The pack of the colours as if the board had the most lines: it has the bytes of this one's
     /// points, but for the last, and then those of points that an earlier board had.
-    fn largest_pack(&self) -> Packed
-        ensures { bytes_of result ≡ packed_of (colouring_of MAX_LINES self.now.cells) }
+    fn largest_pack(&self) -> &Packed
+        ensures { bytes_of result.now ≡ packed_of (colouring_of MAX_LINES self.now.cells) }
     {
         self.cells.pack()
     }

@@ -1,6 +1,5 @@
 use Rattle.std.proofs.Common.{arith, ◌≡◌, ◌∙◌, ◌+◌, ◌++◌, ◌∷◌, [], ℕ, List, Ok, Option, Result, ap, cond, length, map, refl, rules, sym, subst}
 use Rattle.std.specs.declared.alloc.AllocError.{AllocError}
-use Rattle.go_board.specs.PackBytes.{bytes_of}
 use Rattle.go_game.specs.declared.step.Step.{Step}
 use Rattle.go_game.specs.Counts.{IsLogged}
 use Rattle.go_game.specs.inner.Histories.{IsNoted}
@@ -18,9 +17,9 @@ invariant_of-self-2 g c =
     c.push-pushed.ensures.items ∙ ap (λ b. let xs : List Step = cond b (c.reserve.new.self.items ++ passed c.args.colour ∷ []) c.reserve.new.self.items in xs) (sym c.if-prove.ensures.value)
     ∙ ap (λ (xs : List Step). xs ++ passed c.args.colour ∷ []) c.reserve.ensures.items in
     let made : map made_of c.push-pushed.new.self.items ≡ map made_of c.self.inside.steps.items ++ made_of (passed c.args.colour) ∷ [] = ap (λ (xs : List Step). map made_of xs) pushed ∙ made_push c.self.inside.steps.items (passed c.args.colour) in (
-      keep_pass c.packs_tell_colourings_apart.ensures c.self.inside.superko c.self.inside.start c.self.inside.komi c.self.inside.first c.self.inside.steps.items c.push-pushed.new.self.items c.args.colour c.self.inside.board c.self.inside.log c.self.inside.history c.note.new.self c.key-key.result
-          c.self.inside.prisoners.black c.self.inside.prisoners.white c.self.invariant.0 pushed (ap bytes_of c.key-key.ensures.pack ∙ c.pack.ensures) (c.key-key.ensures.mover ∙ ap (mover_by c.self.inside.superko) c.other.ensures)
-          (subst (λ (i : ℕ). IsNoted c.self.inside.history c.note.new.self c.key-key.result (i + 1)) (let l = c.len.ensures in let ok = c.reserve.new.self.ok in let same = ap length c.reserve.ensures.items in omega (arith, l, ok, same)) (record {
+      keep_pass c.packs_tell_colourings_apart.ensures c.self.inside.superko c.self.inside.start c.self.inside.komi c.self.inside.first c.self.inside.steps.items c.push-pushed.new.self.items c.args.colour c.self.inside.board c.self.inside.log c.self.inside.history c.note.new.self (record c.key-key.result { pack = c.write_pack.new.packed })
+          c.self.inside.prisoners.black c.self.inside.prisoners.white c.self.invariant.0 pushed c.write_pack.ensures (c.key-key.ensures.mover ∙ ap (mover_by c.self.inside.superko) c.other.ensures)
+          (subst (λ (i : ℕ). IsNoted c.self.inside.history c.note.new.self (record c.key-key.result { pack = c.write_pack.new.packed }) (i + 1)) (let l = c.len.ensures in let ok = c.reserve.new.self.ok in let same = ap length c.reserve.ensures.items in omega (arith, l, ok, same)) (record {
             known = c.in-Ok._known;
             found = c.in-Ok.ensures.known;
             noted = λ e. c.in-Ok.ensures.noted (ap (λ (o : Option ℕ). let r : Result (Option ℕ) AllocError = Ok o in r) e);

@@ -1,5 +1,4 @@
 use Rattle.std.proofs.Common.{arith, ◌≡◌, ◌∙◌, ◌++◌, ◌∷◌, [], inr, List, None, length, map, refl, sym, ap, subst, rules}
-use Rattle.go_board.specs.PackBytes.{bytes_of}
 use Rattle.std.proofs.Math.ListN.{length-map}
 use Rattle.go_board.specs.declared.vertex.Vertex.TheVariants.{At}
 use Rattle.go_board.specs.Points.{number_of}
@@ -15,7 +14,7 @@ use Rattle.go_game.proofs.Counting.{logged_put, seen, twice}
 use Rattle.go_game.proofs.Placing.{placed_more, placed_now, placed_put}
 use Rattle.go_game.proofs.Played.{made_push, room_held}
 use Rattle.go_game.proofs.Puts.{legal_put, most_is, no_stone, occupied_stone, played_put, repeats_put, same_error, taken_put}
-use Rattle.go_game.proofs.Turns.{keep_put, placed, rewinds, whole_board}
+use Rattle.go_game.proofs.Turns.{keep_back, keep_put, placed, rewinds, whole_board}
 use Rattle.go_game.proofs.game.Game.put.Goals as goal
 
 pub returns-in-Err-Occupied-clause-others : goal.returns-in-Err-Occupied-clause-others
@@ -26,13 +25,13 @@ returns-in-Err-Occupied-clause-others g c =
 pub returns-in-Err-clause-repeats : goal.returns-in-Err-clause-repeats
 returns-in-Err-clause-repeats g c k e =
     subst (λ (v : GameValue). IsRepeat v.standing c.args.colour (At c.args.p) k) c.self.view_is
-    (repeats_put c.self.inside.superko c.self.inside.start c.self.inside.komi c.self.inside.first c.self.inside.steps.items c.self.inside.board c.self.inside.log c.self.inside.history c.self.inside.prisoners.black c.self.inside.prisoners.white c.self.invariant.0 c.args.colour c.args.p c.play.new.self c.in-Ok.ensures.moved c.key-key.result (ap bytes_of c.key-key.ensures.pack ∙ c.pack.ensures) (c.key-key.ensures.mover ∙ ap (mover_by c.self.inside.superko) c.other.ensures) k (c.in-Err.ensures.repeats k (same_error c.in-Err.error _ e)))
+    (repeats_put c.self.inside.superko c.self.inside.start c.self.inside.komi c.self.inside.first c.self.inside.steps.items c.self.inside.board c.self.inside.log c.self.inside.history c.self.inside.prisoners.black c.self.inside.prisoners.white c.self.invariant.0 c.args.colour c.args.p c.play.new.self c.in-Ok.ensures.moved (record c.key-key.result { pack = c.write_pack.new.packed }) c.write_pack.ensures (c.key-key.ensures.mover ∙ ap (mover_by c.self.inside.superko) c.other.ensures) k (c.in-Err.ensures.repeats k (same_error c.in-Err.error _ e)))
 
 pub returns-in-Ok-note-clause-legal : goal.returns-in-Ok-note-clause-legal
 returns-in-Ok-note-clause-legal g c =
     let playable = subst (λ (v : GameValue). IsPlayable v.standing.lines (board_of v.standing) (At c.args.p)) (sym c.self.view_is) (c.requires.on, c.requires.vacant) in
     subst (λ (v : GameValue). IsLegal v.standing c.args.colour (At c.args.p)) c.self.view_is
-    (legal_put c.self.inside.superko c.self.inside.start c.self.inside.komi c.self.inside.first c.self.inside.steps.items c.self.inside.board c.self.inside.log c.self.inside.history c.self.inside.prisoners.black c.self.inside.prisoners.white c.self.invariant.0 c.args.colour c.args.p c.play.new.self c.in-Ok.ensures.moved c.key-key.result (ap bytes_of c.key-key.ensures.pack ∙ c.pack.ensures) (c.key-key.ensures.mover ∙ ap (mover_by c.self.inside.superko) c.other.ensures) playable c.in-Ok-note.ensures.lacked)
+    (legal_put c.self.inside.superko c.self.inside.start c.self.inside.komi c.self.inside.first c.self.inside.steps.items c.self.inside.board c.self.inside.log c.self.inside.history c.self.inside.prisoners.black c.self.inside.prisoners.white c.self.invariant.0 c.args.colour c.args.p c.play.new.self c.in-Ok.ensures.moved (record c.key-key.result { pack = c.write_pack.new.packed }) c.write_pack.ensures (c.key-key.ensures.mover ∙ ap (mover_by c.self.inside.superko) c.other.ensures) playable c.in-Ok-note.ensures.lacked)
 
 pub returns-in-Ok-note-clause-taken : goal.returns-in-Ok-note-clause-taken
 returns-in-Ok-note-clause-taken g c of =
@@ -62,19 +61,19 @@ invariant_of-self-in-Ok-note g c =
     let start = c.self.inside.start in
     let made : map made_of c.note.new.steps.items ≡ map made_of c.self.inside.steps.items ++ made_of (placed c.args.colour c.args.p c.in-Ok.taken) ∷ [] = ap (λ (xs : List Step). map made_of xs) c.in-Ok-note.ensures.pushed ∙ made_push c.self.inside.steps.items (placed c.args.colour c.args.p c.in-Ok.taken) in (
       keep_put c.packs_tell_colourings_apart.ensures c.self.inside.superko c.self.inside.start c.self.inside.komi c.self.inside.first c.self.inside.steps.items c.note.new.steps.items c.args.colour c.args.p c.in-Ok.taken c.self.inside.board c.play.new.self c.self.inside.log c.play.new.log
-          c.self.inside.history c.note.new.history c.key-key.result c.self.inside.prisoners.black c.self.inside.prisoners.white c.add.new.self.black c.add.new.self.white c.self.invariant.0 c.in-Ok-note.ensures.pushed
+          c.self.inside.history c.note.new.history (record c.key-key.result { pack = c.write_pack.new.packed }) c.self.inside.prisoners.black c.self.inside.prisoners.white c.add.new.self.black c.add.new.self.white c.self.invariant.0 c.in-Ok-note.ensures.pushed
           (record {
             lines = c.play.ensures.lines;
             moved_to = c.in-Ok.ensures.moved;
             most = most_of c.self.inside.board.lines (grid_of c.self.inside.board) c.args.colour (number_of c.self.inside.board.lines c.args.p);
             logged = c.in-Ok.ensures.costs.logged;
             kept = c.play.ensures.kept;
-            packs = ap bytes_of c.key-key.ensures.pack ∙ c.pack.ensures;
+            packs = c.write_pack.ensures;
             mover = c.key-key.ensures.mover ∙ ap (mover_by c.self.inside.superko) c.other.ensures;
             noted = record { known = None; found = sym c.in-Ok-note.ensures.lacked; noted = λ e. c.in-Ok-note.ensures.noted; stood = λ j e. cc };
           })
           (played_put c.self.inside.superko c.self.inside.start c.self.inside.komi c.self.inside.first c.self.inside.steps.items c.self.inside.board c.self.inside.log c.self.inside.history c.self.inside.prisoners.black c.self.inside.prisoners.white c.self.invariant.0 c.args.colour c.args.p c.play.new.self c.in-Ok.ensures.moved c.in-Ok.taken c.in-Ok.ensures.theirs c.in-Ok.ensures.own playable)
-          (legal_put c.self.inside.superko c.self.inside.start c.self.inside.komi c.self.inside.first c.self.inside.steps.items c.self.inside.board c.self.inside.log c.self.inside.history c.self.inside.prisoners.black c.self.inside.prisoners.white c.self.invariant.0 c.args.colour c.args.p c.play.new.self c.in-Ok.ensures.moved c.key-key.result (ap bytes_of c.key-key.ensures.pack ∙ c.pack.ensures) (c.key-key.ensures.mover ∙ ap (mover_by c.self.inside.superko) c.other.ensures) playable c.in-Ok-note.ensures.lacked) c.add.ensures.black c.add.ensures.white,
+          (legal_put c.self.inside.superko c.self.inside.start c.self.inside.komi c.self.inside.first c.self.inside.steps.items c.self.inside.board c.self.inside.log c.self.inside.history c.self.inside.prisoners.black c.self.inside.prisoners.white c.self.invariant.0 c.args.colour c.args.p c.play.new.self c.in-Ok.ensures.moved (record c.key-key.result { pack = c.write_pack.new.packed }) c.write_pack.ensures (c.key-key.ensures.mover ∙ ap (mover_by c.self.inside.superko) c.other.ensures) playable c.in-Ok-note.ensures.lacked) c.add.ensures.black c.add.ensures.white,
       placed_more c.self.inside.superko start.lines start.colours c.self.inside.first (map made_of c.self.inside.steps.items) (map made_of c.note.new.steps.items) (made_of (placed c.args.colour c.args.p c.in-Ok.taken)) made c.self.inside.placed c.put.new.self
           (λ d row col there. (c.put.ensures d row col).1 (inr there))
           (placed_put c.points_by_number.ensures start.lines start.colours (board start.lines start.colours (map made_of c.self.inside.steps.items)) c.self.inside.placed c.put.new.self c.args.colour c.args.p (whole_board start.lines start.colours (map made_of c.self.inside.steps.items) c.self.invariant.0.held.sound.whole) playable.0 c.put.ensures
@@ -83,7 +82,8 @@ invariant_of-self-in-Ok-note g c =
 
 pub invariant_of-self-in-Err : goal.invariant_of-self-in-Err
 invariant_of-self-in-Err g c = (
-  search rules,
+  keep_back c.self.inside.superko c.self.inside.start c.self.inside.komi c.self.inside.first c.self.inside.steps.items c.note.new.steps.items c.self.inside.board c.play.new.self c.rewind.new.self c.self.inside.log c.play.new.log c.rewind.new.log c.self.inside.history c.note.new.history
+      c.self.inside.prisoners.black c.self.inside.prisoners.white _ _ _ c.self.invariant.0 c.play.ensures.lines c.in-Ok.ensures.costs.logged (c.rewind.ensures.rewound c.self.inside.log c.in-Ok.ensures.costs.logged.changes c.in-Ok.ensures.costs.logged.gained) c.in-Err.ensures.history c.in-Err.ensures.steps,
   subst (λ (xs : List Step). AreOfPlaced c.self.inside.start.lines c.self.inside.start.colours c.self.inside.placed (stood c.self.inside.superko c.self.inside.start.lines c.self.inside.start.colours c.self.inside.first (map made_of xs))) (sym c.in-Err.ensures.steps) c.self.invariant.1,
 )
 

@@ -2,7 +2,6 @@ use Rattle.std.proofs.Common.{arith, ◌∙◌, ◌+◌, ◌++◌, ◌∷◌, []
 use Rattle.go_history.specs.Histories.{IsForgotten}
 use Rattle.go_chains.specs.declared.change.Change.{Change}
 use Rattle.go_game.specs.Counts.{IsTakenBack}
-use Rattle.go_board.specs.PackBytes.{bytes_of}
 use Rattle.go_game.specs.Standings.{GameValue, mover_by}
 use Rattle.go_game.proofs.Counting.{seen, taken_back_pass, taken_back_put}
 use Rattle.go_game.specs.declared.step.Step.{Step}
@@ -14,7 +13,7 @@ use Rattle.go_game.proofs.game.Game.undo.Goals as goal
 
 pub invariant_of-self-in-Pass : goal.invariant_of-self-in-Pass
 invariant_of-self-in-Pass g c = (
-  keep_less_pass c.self.inside.superko c.self.inside.start c.self.inside.komi c.self.inside.first c.self.inside.steps.items c.pop.new.self.items c.in_ok-step.step c.self.inside.board c.self.inside.log c.self.inside.history c.self.inside.prisoners.black c.self.inside.prisoners.white c.self.invariant.0 c.in_ok-step.ensures.items c.packs_tell_colourings_apart.ensures c.forget_at.new.self c.key-key.result (ap bytes_of c.key-key.ensures.pack ∙ c.pack.ensures) (c.key-key.ensures.mover ∙ ap (mover_by c.self.inside.superko) c.other.ensures) (subst (λ (i : ℕ). IsForgotten c.self.inside.history c.forget_at.new.self c.key-key.result (i + 1)) (let l = c.len.ensures in let ok = c.pop.new.self.ok in omega (arith, l, ok)) c.forget_at.ensures) c.in-Pass.is,
+  keep_less_pass c.self.inside.superko c.self.inside.start c.self.inside.komi c.self.inside.first c.self.inside.steps.items c.pop.new.self.items c.in_ok-step.step c.self.inside.board c.self.inside.log c.self.inside.history c.self.inside.prisoners.black c.self.inside.prisoners.white c.self.invariant.0 c.in_ok-step.ensures.items c.packs_tell_colourings_apart.ensures c.forget_at.new.self (record c.key-key.result { pack = c.write_pack.new.packed }) c.write_pack.ensures (c.key-key.ensures.mover ∙ ap (mover_by c.self.inside.superko) c.other.ensures) (subst (λ (i : ℕ). IsForgotten c.self.inside.history c.forget_at.new.self (record c.key-key.result { pack = c.write_pack.new.packed }) (i + 1)) (let l = c.len.ensures in let ok = c.pop.new.self.ok in omega (arith, l, ok)) c.forget_at.ensures) c.in-Pass.is,
   placed_less c.self.inside.superko c.self.inside.start.lines c.self.inside.start.colours c.self.inside.first (map made_of c.pop.new.self.items) (map made_of c.self.inside.steps.items) (made_of c.in_ok-step.step) (ap (λ (xs : List Step). map made_of xs) c.in_ok-step.ensures.items ∙ made_push c.pop.new.self.items c.in_ok-step.step) c.self.inside.placed c.self.invariant.1,
 )
 
@@ -32,7 +31,7 @@ give_back-requires-clause-white g c = (share_held c.self.inside.superko c.self.i
 
 pub invariant_of-self-in-At : goal.invariant_of-self-in-At
 invariant_of-self-in-At g c = (
-  keep_less_put c.self.inside.superko c.self.inside.start c.self.inside.komi c.self.inside.first c.self.inside.steps.items c.pop.new.self.items c.in_ok-step.step c.self.inside.board c.self.inside.log c.self.inside.history c.self.inside.prisoners.black c.self.inside.prisoners.white c.self.invariant.0 c.in_ok-step.ensures.items c.packs_tell_colourings_apart.ensures c.forget.new.self c.key-key.result (ap bytes_of c.key-key.ensures.pack ∙ c.pack.ensures) (c.key-key.ensures.mover ∙ ap (mover_by c.self.inside.superko) c.other.ensures) (forgotten_put c.self.inside.superko c.self.inside.start c.self.inside.komi c.self.inside.first c.self.inside.steps.items c.pop.new.self.items c.in_ok-step.step c.self.inside.board c.self.inside.log c.self.inside.history c.self.inside.prisoners.black c.self.inside.prisoners.white c.self.invariant.0 c.in_ok-step.ensures.items c.packs_tell_colourings_apart.ensures c.forget.new.self c.key-key.result (ap bytes_of c.key-key.ensures.pack ∙ c.pack.ensures) (c.key-key.ensures.mover ∙ ap (mover_by c.self.inside.superko) c.other.ensures) c.in-At.field-0 c.in-At.is
+  keep_less_put c.self.inside.superko c.self.inside.start c.self.inside.komi c.self.inside.first c.self.inside.steps.items c.pop.new.self.items c.in_ok-step.step c.self.inside.board c.self.inside.log c.self.inside.history c.self.inside.prisoners.black c.self.inside.prisoners.white c.self.invariant.0 c.in_ok-step.ensures.items c.packs_tell_colourings_apart.ensures c.forget.new.self (record c.key-key.result { pack = c.write_pack.new.packed }) c.write_pack.ensures (c.key-key.ensures.mover ∙ ap (mover_by c.self.inside.superko) c.other.ensures) (forgotten_put c.self.inside.superko c.self.inside.start c.self.inside.komi c.self.inside.first c.self.inside.steps.items c.pop.new.self.items c.in_ok-step.step c.self.inside.board c.self.inside.log c.self.inside.history c.self.inside.prisoners.black c.self.inside.prisoners.white c.self.invariant.0 c.in_ok-step.ensures.items c.packs_tell_colourings_apart.ensures c.forget.new.self (record c.key-key.result { pack = c.write_pack.new.packed }) c.write_pack.ensures (c.key-key.ensures.mover ∙ ap (mover_by c.self.inside.superko) c.other.ensures) c.in-At.field-0 c.in-At.is
       c.give_back.new.self.black c.give_back.new.self.white (held_front c.self.inside.superko c.self.inside.start c.self.inside.komi c.self.inside.first c.self.inside.steps.items c.pop.new.self.items c.in_ok-step.step c.self.inside.prisoners.black c.self.inside.prisoners.white c.give_back.new.self.black c.give_back.new.self.white c.in_ok-step.ensures.items c.self.invariant.0.held c.give_back.ensures.black c.give_back.ensures.white) c.forget.ensures) c.in-At.field-0 c.in-At.is c.rewind.new.self c.rewind.new.log c.give_back.new.self.black c.give_back.new.self.white
       c.self.inside.meter c.rewind.new.meter c.rewind.ensures.rewound c.give_back.ensures.black c.give_back.ensures.white,
   placed_less c.self.inside.superko c.self.inside.start.lines c.self.inside.start.colours c.self.inside.first (map made_of c.pop.new.self.items) (map made_of c.self.inside.steps.items) (made_of c.in_ok-step.step) (ap (λ (xs : List Step). map made_of xs) c.in_ok-step.ensures.items ∙ made_push c.pop.new.self.items c.in_ok-step.step) c.self.inside.placed c.self.invariant.1,

@@ -3,7 +3,7 @@ use Rattle.go_board.specs.declared.pack.TheConstants.{PACK_BYTES}
 use Rattle.go_board.specs.PackBytes.{bytes_of}
 use Rattle.go_board.specs.Packs.{byte_of}
 use Rattle.go_chains.specs.Boards.{grid_of}
-use Rattle.go_chains.proofs.board.packs.Board+Open.pack.Given as goal
+use Rattle.go_chains.proofs.board.packs.Board+Open.write_pack.Given as goal
 
 abbrev pub invariant-loop-place : goal.invariant-loop-place
 invariant-loop-place l = record {

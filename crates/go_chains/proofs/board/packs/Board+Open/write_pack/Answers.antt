@@ -8,21 +8,21 @@ use Rattle.go_board.specs.Packs.{byte_of}
 use Rattle.go_chains.specs.Boards.{grid_of}
 use Rattle.go_chains.proofs.answers.Packs.{largest-at, length-pack}
 use Rattle.go_chains.proofs.answers.Queries.{byte_none}
-use Rattle.go_chains.proofs.board.packs.Board+Open.pack.Goals as goal
+use Rattle.go_chains.proofs.board.packs.Board+Open.write_pack.Goals as goal
 
 pub loop-place-init : goal.loop-place-init
 loop-place-init c =
     let n = c.args.self.now.lines in
     let cells = c.args.self.now.cells in
-    let bytes = bytes_of c.largest_pack-packed.result in
+    let bytes = bytes_of c.largest_pack.result.now in
     let full = c.from-full.result / 4 in
     let f : ℕ → ℕ = byte_of (grid_of c.args.self.now) in
     let small = c.size.ensures.kept.small in
     let all : c.from-full.result ≡ n * n = c.from-full.ensures ∙ c.points.ensures.value ∙ ap (λ (k : ℕ). k * k) c.size.ensures.lines in
-    let whole : length bytes ≡ PACK_BYTES = ap length c.largest_pack-packed.ensures ∙ length-pack _ in
+    let whole : length bytes ≡ PACK_BYTES = ap length c.largest_pack.ensures ∙ length-pack _ in
     let last : c.last_byte.result ≡ f full = c.last_byte.ensures ∙ ap (λ (k : ℕ). f (k / 4)) (sym all) in
     let set : bytes_of c.set.new.self ≡ slice_set bytes full (f full) = c.set.ensures ∙ ap (slice_set bytes full) last in
-    let front : (k : ℕ) → k < full → slice_index_or bytes k 0 ≡ f k = λ k low. largest-at n cells bytes k small (square-le n small) (omega (arith, all)) c.largest_pack-packed.ensures in
+    let front : (k : ℕ) → k < full → slice_index_or bytes k 0 ≡ f k = λ k low. largest-at n cells bytes k small (square-le n small) (omega (arith, all)) c.largest_pack.ensures in
     record {
       whole = ap length set ∙ length-set bytes full _ ∙ whole;
       done = λ k low. ap (λ (b : List ℕ). slice_index_or b k 0) set ∙ fill_by_more f bytes full 0 (omega (arith, whole, c.points.ensures.range, c.from-full.ensures)) front k low;
