@@ -217,7 +217,7 @@ impl<A: Allocator + Copy> Game<A> {
         self.board.clear(size);
         self.log = Log::new(alloc);
         self.steps = Vec::new(alloc);
-        let key = self.superko.key(self.start.pack(), self.first);
+        let key = self.superko.key(self.board.pack(), self.first);
         self.history.restart(key);
         self.prisoners = Prisoners { black: 0, white: 0 };
         self.placed = ByColour::none();

@@ -67,7 +67,7 @@ impl<A: Allocator + Copy> Game<A> {
         self.komi = 0;
         self.superko = Superko::Positional;
         self.first = first;
-        let key = self.superko.key(grid.pack(), first);
+        let key = self.superko.key(self.board.pack(), first);
         self.history.restart(key);
         Ok(())
     }

@@ -25,7 +25,7 @@ invariant_of-self-2 g c =
           (c.fill.ensures.lines ∙ ap (λ (v : GridValue). v.lines) (sym same))
           (c.in-Ok.ensures.colours ∙ ap (λ (v : GridValue). v.colours) (sym same))
           c.fill.ensures.kept c.restart.ensures
-          (ap bytes_of c.key-key.ensures.pack ∙ c.pack.ensures ∙ ap (λ (v : GridValue). packed_of v.colours) (sym same), c.key-key.ensures.mover),
+          (ap bytes_of c.key-key.ensures.pack ∙ c.pack.ensures ∙ ap packed_of c.in-Ok.ensures.colours ∙ ap (λ (v : GridValue). packed_of v.colours) (sym same), c.key-key.ensures.mover),
       placed_start Positional start.lines start.colours c.args.first i.placed (map made_of i.steps.items) none,
     )
 
