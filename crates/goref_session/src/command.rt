@@ -88,12 +88,16 @@ pub fn command_asked(request: &Request) -> Option<Command>
     }
 }
 
-/// The command of this name. The one that most lines ask for is compared first.
+/// The command of this name. The moves and their way back, which most lines ask for, are compared
+/// first.
 pub fn command_named(name: &[u8]) -> Option<Command>
     ensures { result ≡ command_of name.now }
 {
     if name == b"play".as_slice() {
         return Some(Command::Play);
+    }
+    if name == b"undo".as_slice() {
+        return Some(Command::Undo);
     }
     command_listed(name)
 }
