@@ -28,7 +28,9 @@ pub(crate) struct RootValues<'a> {
     pub(crate) result: &'a [u8],
 }
 
-/// The values at the root of the record that a source spells.
+/// The values at the root of the record that a source spells. It stays out of what calls it, as
+/// `margin_stated` does.
+#[inline(never)]
 pub(crate) fn root_values(source: &[u8]) -> RootValues<'_>
     ensures { (c : Trees) → Spells source.now c → IsRootOf result c }
 {
