@@ -1,6 +1,6 @@
-ghost use Rattle.std.specs.Prelude.{◌≡◌, ℕ, [], false};
+ghost use Rattle.std.specs.Prelude.{◌≡◌};
 ghost use Rattle.go_sgf.specs.Record.{Property};
-ghost use Rattle.go_record.specs.MainLine.{kind_by, move_event};
+ghost use Rattle.go_record.specs.MainLine.{kind_by};
 
 use go_board::Colour;
 use go_sgf::is_named;
@@ -16,16 +16,6 @@ pub(crate) enum Kind {
     Move(Colour),
     /// Nothing that bears on the game.
     Other,
-}
-
-impl Kind {
-    /// Whether it is a move.
-    pub(crate) fn is_move(self) -> bool
-        ensures { result ≡ false → (node : ℕ) (p : Property) → self ≡ kind_by p
-            → move_event node p ≡ [] }
-    {
-        matches!(self, Kind::Move(_))
-    }
 }
 
 /// What a property with this name is for.

@@ -23,6 +23,7 @@ mod error;
 mod judging;
 mod kind;
 pub mod laws;
+mod moves;
 mod replaying;
 mod root;
 mod start;

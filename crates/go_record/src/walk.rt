@@ -1,8 +1,8 @@
-ghost use Rattle.std.specs.Prelude.{◌≡◌, ◌≢◌, ◌≤◌, ◌+◌, ℕ, [], ◌∷◌, Err, IfErr, IfOk, List, Ok, OnOk, Some, false, length, true};
+ghost use Rattle.std.specs.Prelude.{◌≡◌, ◌≢◌, ◌≤◌, ◌+◌, ◌++◌, ℕ, [], ◌∷◌, Err, IfErr, IfOk, List, Ok, OnOk, Some, false, length, true};
 ghost use Rattle.go_record.specs.declared.error.RecordError.{RecordError};
 ghost use Rattle.go_record.specs.declared.error.RecordError.TheVariants.{Memory};
 ghost use Rattle.go_record.specs.MainLine.{events_of, Event, kind_by, move_met, move_event, setup_event, stones, turn};
-ghost use Rattle.go_record.specs.inner.Progress.{Goes, GoesFrom, IsAmongValues, Walked, is_nothing, playing};
+ghost use Rattle.go_record.specs.inner.Progress.{AreMoves, Goes, GoesFrom, IsAmongValues, Walked, is_nothing, playing};
 ghost use Rattle.go_game.specs.Standings.{GameValue};
 ghost use Rattle.go_board.specs.Living.{AreAlive};
 ghost use Rattle.go_record.specs.Walks.{IsDeadSetup, Outcome, Plays, start_of};
@@ -12,6 +12,7 @@ ghost use Rattle.std.specs.List.{flat_map};
 
 use crate::error::RecordError;
 use crate::kind::{Kind, kind_of};
+use crate::moves::MovesMet;
 use crate::start::{colour_of, first_mover, set_points};
 use crate::state::{Left, Walk};
 use crate::values::{first_value, skip_values};
@@ -37,45 +38,53 @@ impl Walk {
         ensures onward { length line.new ≤ length line.old }
     {
         let mut again = line.fork();
-        if self.set_up(line, number)? {
-            self.play_moves(game, &mut again, number)?;
+        match self.set_up(line, number)? {
+            MovesMet::NoMove => Ok(()),
+            MovesMet::OneMove(colour, value) => self.take_turn(game, colour, value, number),
+            MovesMet::MoreMoves => self.play_moves(game, &mut again, number),
         }
-        Ok(())
     }
 
-    /// Sets up what the properties of a node say, and tells whether one of them is a move.
-    fn set_up(&mut self, line: &mut MainLine<'_>, node: usize) -> Result<bool, RecordError>
+    /// Sets up what the properties of a node say, and tells the moves among them.
+    fn set_up<'a>(
+        &mut self,
+        line: &mut MainLine<'a>,
+        node: usize,
+    ) -> Result<MovesMet<'a>, RecordError>
         ensures walked { (properties : List Property) (nodes : List (List Property))
             → IsLeft line.old [] properties nodes → (game : GameValue)
             → Walked result (self.old, game) (flat_map (setup_event node) properties)
             (self.new, game) }
-        ensures still { (properties : List Property) (nodes : List (List Property))
-            → IsLeft line.old [] properties nodes → IfOk result (λ has_move. has_move ≡ false
-            → flat_map (move_event node) properties ≡ []) }
+        ensures moves { (properties : List Property) (nodes : List (List Property))
+            → IsLeft line.old [] properties nodes → IfOk result (λ moves.
+            AreMoves node moves (flat_map (move_event node) properties)) }
         ensures line { (properties : List Property) (nodes : List (List Property))
             → IsLeft line.old [] properties nodes → OnOk result (IsLeft line.new [] [] nodes) }
         ensures onward { length line.new ≤ length line.old }
     {
-        let mut has_move = false;
+        let mut moves = MovesMet::NoMove;
         while let Some(name) = line.next_name() {
-            let kind = kind_of(name);
-            self.pass_setup(kind, line, node)?;
-            has_move |= kind.is_move();
+            self.pass_setup(kind_of(name), line, node, &mut moves)?;
             skip_values(line);
         }
-        Ok(has_move)
+        Ok(moves)
     }
 
-    /// Sets up what the values of a property of this kind say.
-    fn pass_setup(
+    /// Sets up what the values of a property of this kind say. A move is only met.
+    fn pass_setup<'a>(
         &mut self,
         kind: Kind,
-        line: &mut MainLine<'_>,
+        line: &mut MainLine<'a>,
         node: usize,
+        moves: &mut MovesMet<'a>,
     ) -> Result<(), RecordError>
         ensures walked { (p : Property) (later : List Property) (nodes : List (List Property))
             → kind ≡ kind_by p → IsLeft line.old p.values later nodes → (game : GameValue)
             → Walked result (self.old, game) (setup_event node p) (self.new, game) }
+        ensures moves { (p : Property) (later : List Property) (nodes : List (List Property))
+            → kind ≡ kind_by p → IsLeft line.old p.values later nodes → (before : List Event)
+            → AreMoves node moves.old before
+            → AreMoves node moves.new (before ++ move_event node p) }
         ensures line { (later : List Property) (nodes : List (List Property))
             → IsAmongValues line.old later nodes → IsAmongValues line.new later nodes }
         ensures onward { length line.new ≤ length line.old }
@@ -83,7 +92,11 @@ impl Walk {
         match kind {
             Kind::Stones(colour) => self.set_stones(colour, line, node),
             Kind::Turn => self.set_turn(first_value(line), node),
-            Kind::Move(_) | Kind::Other => Ok(()),
+            Kind::Move(colour) => {
+                moves.meet(colour, first_value(line));
+                Ok(())
+            }
+            Kind::Other => Ok(()),
         }
     }
 

@@ -1,7 +1,7 @@
 -- How far the walk along a main line is. It serves the contracts of private functions alone.
 use Rattle.go_sgf.specs.MainLine.{IsLeft}
 use Rattle.go_sgf.specs.Record.{Property, Trees}
-use Rattle.std.specs.Prelude.{◌≡◌, ◌≢◌, codes, ◌-◌, ◌++◌, ℕ, ℤ, Bool, true, false, if◌then◌else◌, List, [], Option, Some, None, Result, Err, MatchResult}
+use Rattle.std.specs.Prelude.{◌≡◌, ◌≢◌, codes, ◌-◌, ◌++◌, ◌∷◌, ℕ, ℤ, Bool, true, false, if◌then◌else◌, List, [], Option, Some, None, Result, Err, MatchResult}
 use Rattle.std.specs.Borrow.{Bor}
 use Rattle.go_board.specs.declared.colour.Colour.{Colour}
 use Rattle.go_board.specs.Colours.{Colouring}
@@ -12,9 +12,11 @@ use Rattle.go_record.specs.declared.root.Found.{Found}
 use Rattle.go_record.specs.declared.root.RootValues.{RootValues}
 use Rattle.go_record.specs.declared.state.Left.{Left}
 use Rattle.go_record.specs.declared.state.Left.TheVariants.{All, Moves, Nothing}
+use Rattle.go_record.specs.declared.moves.MovesMet.{MovesMet}
+use Rattle.go_record.specs.declared.moves.MovesMet.TheVariants.{NoMove, OneMove, MoreMoves}
 use Rattle.go_record.specs.declared.state.Walk.{Walk}
 use Rattle.go_record.specs.Games.{is_go_value, komi_in, lines_in, value_at_root, value_named}
-use Rattle.go_record.specs.MainLine.{Event, before_move}
+use Rattle.go_record.specs.MainLine.{Event, before_move, move_met}
 use Rattle.go_record.specs.Walks.{Outcome, Plays, SetsUp}
 
 -- what is still looked at
@@ -94,3 +96,9 @@ pub record AreFoundOf (found : Found) (left : List Property) (c : Trees) : Type 
   pub size : value_from (codes "SZ") found.size left ≡ value_at_root (codes "SZ") c
   pub komi : value_from (codes "KM") found.komi left ≡ value_at_root (codes "KM") c
   pub result_said : value_from (codes "RE") found.result left ≡ value_at_root (codes "RE") c
+
+-- the moves that were met are these; where there are more than one, nothing is said of them
+abbrev pub AreMoves : ℕ → MovesMet → List Event → Type 0
+AreMoves node NoMove events = events ≡ []
+AreMoves node (OneMove colour value) events = events ≡ move_met node colour value.now ∷ []
+AreMoves node MoreMoves events = Unit {0}

@@ -1,19 +1,18 @@
 use Rattle.std.proofs.Common.{◌++◌, [], List, ◌∙◌, refl, ap, sym, subst, arith, length}
-use Rattle.std.proofs.lemmas.Bool.{or_parts}
 use Rattle.std.proofs.lemmas.List.{append-nil}
 use Rattle.std.proofs.lemmas.Result.{err_from_is_err_and}
 use Rattle.std.specs.List.{flat_map}
 use Rattle.std.specs.Prelude.{Err}
 use Rattle.go_sgf.specs.Record.{Property}
 use Rattle.go_record.specs.MainLine.{Event, move_event, setup_event}
-use Rattle.go_record.specs.inner.Progress.{Passes, Stops}
+use Rattle.go_record.specs.inner.Progress.{AreMoves, Passes, Stops}
 use Rattle.go_record.proofs.Walking.{one_on, passes_nothing, passes_passes, passes_stops, stops_longer, walked_stops}
 use Rattle.go_record.proofs.state.Walk.set_up.Goals as goal
 
 pub loop-name-init : goal.loop-name-init
 loop-name-init c = record {
   onward = omega arith;
-  passed = λ properties nodes l. (properties, l, [], refl, λ game. passes_nothing (c.args.self.now, game), λ still. refl);
+  passed = λ properties nodes l. (properties, l, [], refl, λ game. passes_nothing (c.args.self.now, game), [], refl, refl);
 }
 
 pub returns-in_err-pass_setup-clause-walked : goal.returns-in_err-pass_setup-clause-walked
@@ -23,7 +22,7 @@ returns-in_err-pass_setup-clause-walked c = λ properties nodes l game.
     let f = setup_event c.args.node in
     let i = c.loop-name.invariant.passed properties nodes l in
     let next = c.in-Some.ensures.next i.0 nodes i.1 in
-    let kind_is = c.kind_of-kind.ensures next.0 next.3 in
+    let kind_is = c.kind_of.ensures next.0 next.3 in
     walked_stops c.from_residual.result e (c.args.self.now, game) (c.pass_setup.new.self, game) _ (p.1 ∙ ap Err p.2)
     (subst (λ (es : List Event). Stops (c.args.self.now, game) es e)
     (one_on f i.2 i.0 next.0 next.1 next.2 ∙ i.3)
@@ -36,16 +35,15 @@ loop-name-preserved c = record {
       let f = setup_event c.args.node in
       let i = c.loop-name.invariant.passed properties nodes l in
       let next = c.in-Some.ensures.next i.0 nodes i.1 in
-      let kind_is = c.kind_of-kind.ensures next.0 next.3 in (
+      let kind_is = c.kind_of.ensures next.0 next.3 in (
         next.1,
         c.skip_values.ensures.line next.1 nodes (c.pass_setup.ensures.line next.1 nodes (next.0.values, next.4)),
         i.2 ++ f next.0,
         one_on f i.2 i.0 next.0 next.1 next.2 ∙ i.3,
         λ game. passes_passes (i.4 game) (c.in_ok-pass_setup.ensures.walked next.0 next.1 nodes kind_is next.4 game),
-        λ still.
-            let both = or_parts c.loop-name.has_move c.is_move-has_move.result still in
-            i.5 both.0 ∙ ap (flat_map (move_event c.args.node)) next.2
-            ∙ ap (λ es. es ++ flat_map (move_event c.args.node) next.1) (c.is_move-has_move.ensures both.1 c.args.node next.0 kind_is),
+        i.5 ++ move_event c.args.node next.0,
+        one_on (move_event c.args.node) i.5 i.0 next.0 next.1 next.2 ∙ i.6,
+        c.pass_setup.ensures.moves next.0 next.1 nodes kind_is next.4 i.5 i.7,
       );
 }
 
@@ -59,10 +57,12 @@ returns-clause-walked c = λ properties nodes l game.
     subst (λ (es : List Event). Passes (c.args.self.now, game) es (c.loop-name.self, game))
     (sym (append-nil i.2) ∙ ap (λ (ps : List Property). i.2 ++ flat_map (setup_event c.args.node) ps) (sym end.0) ∙ i.3) (i.4 game)
 
-pub returns-clause-still : goal.returns-clause-still
-returns-clause-still c = λ properties nodes l still.
+pub returns-clause-moves : goal.returns-clause-moves
+returns-clause-moves c = λ properties nodes l.
     let i = c.loop-name.invariant.passed properties nodes l in
-    i.5 still ∙ ap (flat_map (move_event c.args.node)) (c.in_default.ensures.next i.0 nodes i.1).0
+    let end = c.in_default.ensures.next i.0 nodes i.1 in
+    subst (AreMoves c.args.node c.loop-name.moves)
+    (sym (append-nil i.5) ∙ ap (λ (ps : List Property). i.5 ++ flat_map (move_event c.args.node) ps) (sym end.0) ∙ i.6) i.7
 
 pub returns-clause-line : goal.returns-clause-line
 returns-clause-line c = λ properties nodes l.

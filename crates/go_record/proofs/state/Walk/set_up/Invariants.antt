@@ -1,10 +1,10 @@
-use Rattle.std.proofs.Common.{◌≡◌, ◌≤◌, ◌++◌, [], List, false, length}
+use Rattle.std.proofs.Common.{◌≡◌, ◌≤◌, ◌++◌, [], List, length}
 use Rattle.std.specs.List.{flat_map}
 use Rattle.go_game.specs.Standings.{GameValue}
 use Rattle.go_sgf.specs.MainLine.{IsLeft}
 use Rattle.go_sgf.specs.Record.{Property}
 use Rattle.go_record.specs.MainLine.{Event, move_event, setup_event}
-use Rattle.go_record.specs.inner.Progress.{Passes}
+use Rattle.go_record.specs.inner.Progress.{AreMoves, Passes}
 use Rattle.go_record.proofs.state.Walk.set_up.Given as goal
 
 abbrev pub invariant-loop-name : goal.invariant-loop-name
@@ -14,7 +14,7 @@ invariant-loop-name l = record {
       (left : List Property) × IsLeft l.line [] left nodes
       × (done : List Event) × (done ++ flat_map (setup_event l.node) left ≡ flat_map (setup_event l.node) properties)
       × ((game : GameValue) → Passes (l.fn.self, game) done (l.self, game))
-      × (l.has_move ≡ false → flat_map (move_event l.node) properties ≡ flat_map (move_event l.node) left);
+      × (met : List Event) × (met ++ flat_map (move_event l.node) left ≡ flat_map (move_event l.node) properties) × AreMoves l.node l.moves met;
 }
 
 abbrev pub decreases-loop-name : goal.decreases-loop-name
