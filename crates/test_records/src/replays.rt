@@ -150,6 +150,33 @@ const STANDINGS: &[Standing] = &[
         0,
         &[(b"z1", Some(Colour::Black))],
     ),
+    // Nodes of several moves. What sets up comes before them, wherever it stands in the node.
+    (
+        b"(;SZ[9];B[aa]W[bb]AB[cc];B[dd])",
+        None,
+        9,
+        3,
+        &[
+            (b"a9", Some(Colour::Black)),
+            (b"b8", Some(Colour::White)),
+            (b"c7", Some(Colour::Black)),
+            (b"d6", Some(Colour::Black)),
+        ],
+    ),
+    (
+        b"(;SZ[9];B[aa]W[bb]AB[cc];B[dd])",
+        Some(2),
+        9,
+        1,
+        &[(b"b8", None), (b"c7", Some(Colour::Black))],
+    ),
+    (
+        b"(;SZ[9]B[aa]W[bb]B[cc]PL[W])",
+        Some(3),
+        9,
+        2,
+        &[(b"b8", Some(Colour::White)), (b"c7", None)],
+    ),
 ];
 
 /// Whether a game stands so.
