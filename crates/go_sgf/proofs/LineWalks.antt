@@ -8,7 +8,7 @@ use Rattle.go_sgf.specs.MainLine.{IsLeft, NextNode, main_line}
 use Rattle.go_sgf.specs.Record.{Property, Trees, none, tree, AreTrees, IsProperty, IsValue, is_letter_byte}
 use Rattle.go_sgf.specs.Spelling.{Part, closing, value_part, property_parts, node_parts, parts, without_space, is_first, tree_in, Spells, SpellsParts}
 use Rattle.go_sgf.specs.inner.Reads.{HasNoEnd, is_letter_first}
-use Rattle.go_sgf.proofs.Parts.{after_space-same, bracket_no_letter, name_letter}
+use Rattle.go_sgf.proofs.Parts.{SpellsParts-same, after_space-again, after_space-same, bracket_no_letter, name_letter}
 use Rattle.go_sgf.proofs.Tidied.{trimmed_first}
 use Rattle.go_sgf.proofs.Unambiguous.{letter_no_bracket, letters_same, value_same}
 
@@ -38,6 +38,21 @@ begins_no_value : (ps : List Property) (own : List (List Property)) (children : 
 begins_no_value [] own children later b rest i s = (begins_other own children later b rest s).bracket
 begins_no_value (p ∷ ps) own children later b rest i s = rw s.1 (letter_no_bracket (p.name ++ s.0) (name_letter p.name s.0 i.0.named))
 
+-- white space before what is left is no matter
+behind_space : (b : List ℕ) (vs : List (List ℕ)) (ps : List Property) (ns : List (List Property)) → IsLeft b vs ps ns → IsLeft (without_space b) vs ps ns
+behind_space b vs ps ns l = record {
+  own = l.own;
+  children = l.children;
+  later = l.later;
+  rest = l.rest;
+  inside = l.inside;
+  named = l.named;
+  fit = l.fit;
+  trees = l.trees;
+  spelling = SpellsParts-same (map value_part vs ++ property_rest ps l.own l.children l.later) b (without_space b) l.rest (sym (after_space-again b)) l.spelling;
+  line = l.line;
+}
+
 -- ---- values
 
 no_value : (vs : List (List ℕ)) (qs : List Part) (b rest : List ℕ) → SpellsParts b (map value_part vs ++ qs) rest → is_first 91 (without_space b) ≡ false → vs ≡ []
@@ -46,10 +61,10 @@ no_value (v ∷ vs) qs b rest s e = absurd (true≢false (sym (ap (is_first 91) 
 
 -- no value is left
 pub value_none : (b : List ℕ) (vs : List (List ℕ)) (ps : List Property) (ns : List (List Property)) → IsLeft b vs ps ns → is_first 91 (without_space b) ≡ false →
-    (vs ≡ []) × IsLeft b [] ps ns
+    (vs ≡ []) × IsLeft (without_space b) [] ps ns
 value_none b vs ps ns l e =
     let none_is = no_value vs (property_rest ps l.own l.children l.later) b l.rest l.spelling e in
-    (none_is, subst (λ (ws : List (List ℕ)). IsLeft b ws ps ns) none_is l)
+    (none_is, subst (λ (ws : List (List ℕ)). IsLeft (without_space b) ws ps ns) none_is (behind_space b vs ps ns l))
 
 no_endless : (vs : List (List ℕ)) (ps : List Property) (own : List (List Property)) (children : Trees) (later : List Part) (b rest inside : List ℕ) →
     AllByRecursion IsValue vs → AllByRecursion IsProperty ps → SpellsParts b (map value_part vs ++ property_rest ps own children later) rest →
@@ -113,10 +128,10 @@ no_name (p ∷ ps) qs b rest i s e =
 
 -- no property is left
 pub name_none : (b : List ℕ) (ps : List Property) (ns : List (List Property)) → IsLeft b [] ps ns → is_letter_first (without_space b) ≡ false →
-    (ps ≡ []) × IsLeft b [] [] ns
+    (ps ≡ []) × IsLeft (without_space b) [] [] ns
 name_none b ps ns l e =
     let none_is = no_name ps (node_rest l.own l.children l.later) b l.rest l.named l.spelling e in
-    (none_is, subst (λ (qs : List Property). IsLeft b [] qs ns) none_is l)
+    (none_is, subst (λ (qs : List Property). IsLeft (without_space b) [] qs ns) none_is (behind_space b [] ps ns l))
 
 no_letter : (vs : List (List ℕ)) (qs : List Part) (b r : List ℕ) → vs ≢ [] → SpellsParts b (map value_part vs ++ qs) r → is_letter_first b ≡ false
 no_letter [] qs b r some s = absurd (some refl)

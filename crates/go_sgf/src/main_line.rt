@@ -1,9 +1,9 @@
-ghost use Rattle.std.specs.Prelude.{◌≡◌, ◌<◌, ℕ, List, [], IfNone, IfSome, IsFalse, IsTrue, length, true};
+ghost use Rattle.std.specs.Prelude.{◌≡◌, ◌<◌, ◌≤◌, ℕ, List, [], IfNone, IfSome, IsFalse, IsTrue, length, true};
 ghost use Rattle.go_sgf.specs.MainLine.{IsLeft, NextName, NextNode, NextValue, main_line};
 ghost use Rattle.go_sgf.specs.Record.{Property, Trees};
-ghost use Rattle.go_sgf.specs.Spelling.{Spells};
+ghost use Rattle.go_sgf.specs.Spelling.{Spells, without_space};
 
-use crate::scan::{after_space, begins_letter, from_tree, name_at, strip, to_bracket};
+use crate::scan::{after_space, begins_letter, from_tree, name_at, strip};
 use crate::values::value;
 use std::marker::Model;
 
@@ -59,15 +59,18 @@ impl<'a> MainLine<'a> {
     }
 
     /// The name of the node's next property, as it is written, from behind the last value of the
-    /// one before. None where the node has no more of them.
+    /// one before. None where the node has no more of them, and then the white space before what
+    /// comes next is passed.
     pub fn next_name(&mut self) -> Option<&'a [u8]>
         ensures next { (properties : List Property) (nodes : List (List Property))
             → IsLeft self.old [] properties nodes → NextName result properties nodes self.new }
         ensures shorter { IfSome result (λ _. length self.new < length self.old) }
-        ensures same { IfNone result (self.new ≡ self.old) }
+        ensures none { IfNone result (self.new ≡ without_space self.old) }
+        ensures onward { length self.new ≤ length self.old }
     {
         let here = after_space(self.rest);
         if !begins_letter(here) {
+            self.rest = here;
             return None;
         }
         let (name, behind, _) = name_at(here);
@@ -75,15 +78,19 @@ impl<'a> MainLine<'a> {
         Some(name)
     }
 
-    /// The property's next value, without its brackets. None where it has no more of them.
+    /// The property's next value, without its brackets. None where it has no more of them, and then
+    /// the white space before what comes next is passed.
     pub fn next_value(&mut self) -> Option<&'a [u8]>
         ensures next { (values : List (List ℕ)) (properties : List Property)
             (nodes : List (List Property)) → IsLeft self.old values properties nodes
             → NextValue result values properties nodes self.new }
         ensures shorter { IfSome result (λ _. length self.new < length self.old) }
-        ensures same { IfNone result (self.new ≡ self.old) }
+        ensures none { IfNone result (self.new ≡ without_space self.old) }
+        ensures onward { length self.new ≤ length self.old }
     {
-        let inside = strip(to_bracket(self.rest), b'[')?;
+        let front = after_space(self.rest);
+        self.rest = front;
+        let inside = strip(front, b'[')?;
         let (value, behind) = value(inside)?;
         self.rest = behind;
         Some(value)

@@ -14,9 +14,7 @@ use crate::keep::{Keep, Lists, Nothing};
 use crate::limits::{MAX_DEPTH, MAX_RECORD};
 use crate::nodes::{self, Node, Sequence};
 use crate::record::{Collection, Tree};
-use crate::scan::{
-    after_space, begins_letter, begins_with, from_tree, name_at, strip, strip_tree, to_bracket,
-};
+use crate::scan::{after_space, begins_letter, begins_with, from_tree, name_at, strip, strip_tree};
 use crate::values::value;
 use std::alloc::{AllocError, Allocator};
 
@@ -55,7 +53,7 @@ fn values<'a, K: Keep>(
         (outcome MAX_DEPTH named d bytes.now) (λ rest. outcome MAX_DEPTH in_node d rest.now) }
     ensures memory { IsErrOf result Fault.Memory → K.keeps }
 {
-    let mut rest = to_bracket(bytes);
+    let mut rest = after_space(bytes);
     if !begins_with(rest, b'[') {
         return Err(unexpected(rest));
     }

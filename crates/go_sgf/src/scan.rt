@@ -63,9 +63,21 @@ pub(crate) fn behind_left_out(bytes: &[u8]) -> &[u8]
     rest
 }
 
-/// The bytes behind the white space at the front.
+/// The bytes behind the white space at the front, of which there is mostly none.
+#[inline]
 #[tactic(auto, using(crate::proofs::Scanning::space_steps))]
 pub(crate) fn after_space(bytes: &[u8]) -> &[u8]
+    ensures { result.now ≡ without_space bytes.now }
+{
+    match bytes.split_first() {
+        Some((first, more)) if is_white(*first) => behind_space(more),
+        _ => bytes,
+    }
+}
+
+/// The same, where white space may go on.
+#[tactic(auto, using(crate::proofs::Scanning::space_steps))]
+fn behind_space(bytes: &[u8]) -> &[u8]
     ensures { result.now ≡ without_space bytes.now }
 {
     let mut rest = bytes;
@@ -76,18 +88,6 @@ pub(crate) fn after_space(bytes: &[u8]) -> &[u8]
         rest = more;
     }
     rest
-}
-
-/// The bytes behind the white space at the front, of which there is mostly none before a `[`.
-#[inline]
-pub(crate) fn to_bracket(bytes: &[u8]) -> &[u8]
-    ensures { result.now ≡ without_space bytes.now }
-{
-    if begins_with(bytes, b'[') {
-        bytes
-    } else {
-        after_space(bytes)
-    }
 }
 
 /// Whether the first byte is this one.

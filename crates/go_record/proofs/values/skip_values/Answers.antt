@@ -1,4 +1,4 @@
-use Rattle.std.proofs.Common.{ap, arith, length}
+use Rattle.std.proofs.Common.{arith}
 use Rattle.go_record.proofs.values.skip_values.Goals as goal
 
 pub loop-preserved : goal.loop-preserved
@@ -16,4 +16,4 @@ returns-clause-line c = λ later nodes at.
     (c.in_default.ensures.next i.0 later nodes i.1).1
 
 pub returns-clause-onward : goal.returns-clause-onward
-returns-clause-onward c = omega (arith, c.loop.invariant.onward, ap length c.in_default.ensures.same)
+returns-clause-onward c = omega (arith, c.loop.invariant.onward, c.in_default.ensures.onward)

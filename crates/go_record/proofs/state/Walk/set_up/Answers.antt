@@ -1,4 +1,4 @@
-use Rattle.std.proofs.Common.{◌++◌, [], List, ◌∙◌, refl, ap, sym, subst, arith, length}
+use Rattle.std.proofs.Common.{◌++◌, [], List, ◌∙◌, refl, ap, sym, subst, arith}
 use Rattle.std.proofs.lemmas.List.{append-nil}
 use Rattle.std.proofs.lemmas.Result.{err_from_is_err_and}
 use Rattle.std.specs.List.{flat_map}
@@ -70,4 +70,4 @@ returns-clause-line c = λ properties nodes l.
     (c.in_default.ensures.next i.0 nodes i.1).1
 
 pub returns-clause-onward : goal.returns-clause-onward
-returns-clause-onward c = omega (arith, c.loop-name.invariant.onward, ap length c.in_default.ensures.same)
+returns-clause-onward c = omega (arith, c.loop-name.invariant.onward, c.in_default.ensures.onward)
