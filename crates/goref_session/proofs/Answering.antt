@@ -1,17 +1,19 @@
 -- A line that was answered, from what was decided and what was written.
-use Rattle.std.proofs.Common.{◌≡◌, inl, inr, ℕ, true, false, List, Option, Ok, Err, refl, sym}
-use Rattle.go_board.specs.Device.{then_bytes, TakesFront}
+use Rattle.std.proofs.Common.{◌≡◌, inl, inr, ℕ, true, false, List, Option, Ok, refl, sym, subst}
+use Rattle.std.specs.Prelude.{Result}
 use Rattle.go_board.specs.lemmas.Writing.{then_bytes-nil}
 use Rattle.go_board.specs.declared.device.WriteFault.{WriteFault}
 use Rattle.goref_session.specs.declared.flow.Flow.{Flow}
 use Rattle.goref_session.specs.declared.flow.Flow.TheVariants.{More}
 use Rattle.go_game.specs.Standings.{Standing}
 use Rattle.goref_lines.specs.Kept.{Kept}
-use Rattle.goref_lines.specs.Words.{has_bytes}
+use Rattle.goref_lines.specs.Requests.{asked_by, id_before_space}
+use Rattle.goref_lines.specs.Words.{has_bytes, words}
 use Rattle.goref_session.specs.Contents.{Content}
 use Rattle.goref_session.specs.Decisions.{Decided}
-use Rattle.goref_session.specs.Replies.{silent, spoken, line_id, Reply, DecidesLine, is_end, decision_text}
-use Rattle.goref_session.specs.Answered.{Answered, flow_of}
+use Rattle.goref_session.specs.Replies.{silent, spoken, line_id, Reply, DecidesLine}
+use Rattle.goref_session.specs.Answered.{Answered}
+use Rattle.goref_session.specs.inner.Told.{IsTold}
 
 -- a line without words
 pub answered_silent : (s : Standing) (k : Kept) (content : Content) (taken : Option (List ℕ)) → has_bytes k.text ≡ false → Answered s s k content (Ok More) taken taken
@@ -25,24 +27,20 @@ answered_silent s k content taken none = record {
 pub reply_of : (s : Standing) (k : Kept) (content : Content) (d : Decided) → has_bytes k.text ≡ true → DecidesLine s k content d → Reply s k content (spoken (line_id k) d)
 reply_of s k content d some decides = inr (some, (d, decides, refl))
 
--- a line with words, its answer written whole
-pub answered_whole : (s : Standing) (k : Kept) (content : Content) (d : Decided) (flow : Flow) {taken taken' : Option (List ℕ)} → has_bytes k.text ≡ true → DecidesLine s k content d →
-    flow ≡ flow_of (is_end d.decision) → taken' ≡ then_bytes taken (decision_text (line_id k) d.decision d.standing) →
-    Answered s d.standing k content (Ok flow) taken taken'
-answered_whole s k content d flow some decides e sent = record {
+-- a line with words, on which something was decided and told with this id
+pub answered_told : (s : Standing) (k : Kept) (content : Content) (d : Decided) (id : Option ℕ) (result : Result Flow WriteFault) (taken taken' : Option (List ℕ)) →
+    has_bytes k.text ≡ true → DecidesLine s k content d → id ≡ line_id k → IsTold result id d taken taken' → Answered s d.standing k content result taken taken'
+answered_told s k content d id result taken taken' some decides e told = record {
   reply = spoken (line_id k) d;
   is_reply = reply_of s k content d some decides;
   stands = refl;
-  sent = (e, sent);
+  sent = subst (λ (i : Option ℕ). IsTold result i d taken taken') e told;
 }
 
--- a line with words, of whose answer a front was written
-pub answered_front : (s : Standing) (k : Kept) (content : Content) (d : Decided) (fault : WriteFault) {taken taken' : Option (List ℕ)} → has_bytes k.text ≡ true → DecidesLine s k content d →
-    TakesFront taken taken' (decision_text (line_id k) d.decision d.standing) →
-    Answered s d.standing k content (Err fault) taken taken'
-answered_front s k content d fault some decides front = record {
-  reply = spoken (line_id k) d;
-  is_reply = reply_of s k content d some decides;
-  stands = refl;
-  sent = front;
-}
+-- the id of a line that is too long
+pub long_id : (k : Kept) → k.is_long ≡ true → id_before_space k.text ≡ line_id k
+long_id k e = rw e refl
+
+-- the id of one that isn't
+pub whole_id : (k : Kept) → k.is_long ≡ false → (asked_by (words k.text)).id ≡ line_id k
+whole_id k e = rw e refl

@@ -1,9 +1,10 @@
 ghost use Rattle.std.specs.Prelude.{◌≡◌, cond, false};
 ghost use Rattle.go_board.specs.Device.{failures_after};
 ghost use Rattle.go_game.specs.Standings.{Standing};
-ghost use Rattle.goref_session.specs.Replies.{DecidesLine, is_end, line_id};
+ghost use Rattle.goref_session.specs.Replies.{is_end};
 ghost use Rattle.goref_session.specs.Contents.{content_of};
 ghost use Rattle.goref_session.specs.Answered.{Answered, flow_of};
+ghost use Rattle.goref_session.specs.inner.Told.{IsTold};
 ghost use Rattle.goref_session.specs.Starts.{begun};
 ghost use Rattle.goref_session.specs.Table.{Decides};
 ghost use Rattle.goref_lines.specs.Words.{has_bytes};
@@ -80,26 +81,32 @@ impl<A: Allocator + Copy> Session<A> {
         if !line.has_words() {
             return Ok(Flow::More);
         }
-        let (id, decision) = self.decide_line(line, fetched);
-        match write_answer(self.game(), id, &decision, writer) {
-            Ok(()) => Ok(flow_after(&decision)),
-            Err(WriteFault) => Err(WriteFault),
-        }
-    }
-
-    /// Decides on a line with words, and tells the line's id, also of one that is too long.
-    fn decide_line(&mut self, line: &Line, fetched: Fetched<A>) -> (Option<u32>, Decision)
-        ensures id { result.0 ≡ line_id line.now }
-        ensures decision { DecidesLine self.old line.now (content_of fetched)
-            (record { decision = result.1; standing = self.new }) }
-    {
         let text = line.text();
         if line.is_long() {
-            return (id_of_cut(text), Decision::Refused(Refusal::LineTooLong));
+            let refused = Decision::Refused(Refusal::LineTooLong);
+            return self.tell(id_of_cut(text), &refused, writer);
         }
         let request = Request::of(text);
         let decision = self.decide(&request, &fetched);
-        (request.id(), decision)
+        self.tell(request.id(), &decision, writer)
+    }
+
+    /// Tells what was decided on a line with this id, and whether the session goes on.
+    fn tell<W: Sink>(
+        &self,
+        id: Option<u32>,
+        decision: &Decision,
+        writer: &mut W,
+    ) -> Result<Flow, WriteFault>
+        ensures told { IsTold result id
+            (record { decision = decision.now; standing = self.now })
+            (W.taken writer.old) (W.taken writer.new) }
+        ensures failures { W.failures writer.new ≡ failures_after result (W.failures writer.old) }
+    {
+        match write_answer(self.game(), id, decision, writer) {
+            Ok(()) => Ok(flow_after(decision)),
+            Err(WriteFault) => Err(WriteFault),
+        }
     }
 
     /// Decides on the command that is asked for.

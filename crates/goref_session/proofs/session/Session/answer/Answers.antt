@@ -1,23 +1,32 @@
-use Rattle.std.proofs.Common.{◌∙◌, sym}
+use Rattle.std.proofs.Common.{◌≡◌, ◌∙◌, inl, inr, refl, sym, ap, subst, ℕ, List}
+use Rattle.goref_lines.specs.Requests.{Asked, asked_by, id_before_space}
+use Rattle.goref_lines.specs.Words.{words}
+use Rattle.goref_session.specs.Table.{Decides}
 use Rattle.goref_session.specs.Contents.{content_of}
-use Rattle.goref_session.specs.Decisions.{Decided}
-use Rattle.goref_session.proofs.Answering.{answered_silent, answered_whole, answered_front}
+use Rattle.goref_session.specs.Decisions.{Decided, keeps}
+use Rattle.goref_session.specs.declared.decision.Decision.TheVariants.{Refused}
+use Rattle.goref_session.specs.declared.decision.Refusal.TheVariants.{LineTooLong}
+use Rattle.goref_session.proofs.Answering.{answered_silent, answered_told, long_id, whole_id}
 use Rattle.goref_session.proofs.session.Session.answer.Goals as goal
 
 pub returns-then-not-has_words-clause-answered : goal.returns-then-not-has_words-clause-answered
 returns-then-not-has_words-clause-answered g c =
     answered_silent c.args.self.now c.args.line.now (content_of c.args.fetched) _ (sym c.has_words.ensures ∙ c.if-not-has_words.true)
 
-pub returns-in-Ok-clause-answered : goal.returns-in-Ok-clause-answered
-returns-in-Ok-clause-answered g c =
-    let d : Decided = record { decision = c.decide_line-id.result.1; standing = c.decide_line-id.new.self } in
-    answered_whole c.args.self.now c.args.line.now (content_of c.args.fetched) d c.flow_after.result
+pub returns-then-is_long-clause-answered : goal.returns-then-is_long-clause-answered
+returns-then-is_long-clause-answered g c =
+    let long = sym c.is_long.ensures ∙ c.if-is_long.true in
+    answered_told c.args.self.now c.args.line.now (content_of c.args.fetched) (keeps c.args.self.now (Refused LineTooLong)) c.id_of_cut.result c.tell.result _ _
     (sym c.has_words.ensures ∙ c.if-not-has_words.false)
-    c.decide_line-id.ensures.decision c.flow_after.ensures (rw (c.decide_line-id.ensures.id, c.game.ensures) at c.in-Ok.ensures.sent)
+    (inl (long, refl)) (c.id_of_cut.ensures ∙ ap id_before_space c.text-text.ensures.value ∙ long_id c.args.line.now long) c.tell.ensures.told
 
-pub returns-in-Err-clause-answered : goal.returns-in-Err-clause-answered
-returns-in-Err-clause-answered g c =
-    let d : Decided = record { decision = c.decide_line-id.result.1; standing = c.decide_line-id.new.self } in
-    answered_front c.args.self.now c.args.line.now (content_of c.args.fetched) d _
+pub returns-clause-answered : goal.returns-clause-answered
+returns-clause-answered g c =
+    let whole = sym c.is_long.ensures ∙ c.if-is_long.false in
+    let d : Decided = record { decision = c.decide-decision.result; standing = c.decide-decision.new.self } in
+    let asked : c.of-request.result ≡ asked_by (words c.args.line.now.text) =
+    c.of-request.ensures ∙ ap (λ (text : List ℕ). asked_by (words text)) c.text-text.ensures.value in
+    answered_told c.args.self.now c.args.line.now (content_of c.args.fetched) d c.id.result c.tell-2.result _ _
     (sym c.has_words.ensures ∙ c.if-not-has_words.false)
-    c.decide_line-id.ensures.decision (rw (c.decide_line-id.ensures.id, c.game.ensures) at c.in-Err.ensures.sent)
+    (inr (whole, subst (λ (r : Asked). Decides c.args.self.now r (content_of c.args.fetched) d) asked c.decide-decision.ensures))
+    (c.id.ensures ∙ ap (λ (r : Asked). r.id) asked ∙ whole_id c.args.line.now whole) c.tell-2.ensures.told

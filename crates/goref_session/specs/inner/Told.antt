@@ -1,0 +1,14 @@
+-- What a decision leaves on a device. It serves the contracts of private functions alone.
+use Rattle.std.specs.Prelude.{◌≡◌, ℕ, List, Option, Result, MatchResult}
+use Rattle.go_board.specs.Device.{then_bytes, TakesFront}
+use Rattle.go_board.specs.declared.device.WriteFault.{WriteFault}
+use Rattle.goref_session.specs.declared.flow.Flow.{Flow}
+use Rattle.goref_session.specs.Answered.{flow_of}
+use Rattle.goref_session.specs.Decisions.{Decided}
+use Rattle.goref_session.specs.Replies.{decision_text, is_end}
+
+-- the answer with this id by a decision was written whole, or a front of it where that failed
+abbrev pub IsTold : Result Flow WriteFault → Option ℕ → Decided → Option (List ℕ) → Option (List ℕ) → Type 0
+IsTold result id d taken taken' =
+    MatchResult result (λ flow. (flow ≡ flow_of (is_end d.decision)) × (taken' ≡ then_bytes taken (decision_text id d.decision d.standing)))
+    (λ _. TakesFront taken taken' (decision_text id d.decision d.standing))
