@@ -17,6 +17,10 @@ const LINES: &[(&[u8], &[u8])] = &[
         b"a (b) ( ; AddBlack [aa]\n[bb]\t C[(;)\\]\\\\] ( ; W [] ) ) rest",
         b";AddBlack[aa][bb]C[(;)\\]\\\\];W[]",
     ),
+    (
+        b"(;\r\n\tB \x0b[aa]\x0c [bb]  ;\n;  \nW[cc]\n\n(\r\n; C [d]\n ) \n(;E[f])\n)\n",
+        b";B[aa][bb];;W[cc];C[d]",
+    ),
 ];
 
 /// More than the steps of any of these walks.
