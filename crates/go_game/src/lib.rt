@@ -21,8 +21,8 @@
 //!
 //! A game is seen as its standing (`specs/Standings`): the start, komi, rule and moves, of which
 //! all else is a function. What is promised is in the clauses of `game.rt`, `start.rt`, `play.rt`
-//! and `choice.rt`, by the words of `Standings`, `Legal`, `Playing`, `Prisoners`, `Scores` and
-//! `Choices`. `Laws` has what holds of all games, that any moves and as many undos give the same
+//! and `choice.rt`, by the words of `Standings`, `Legal`, `Prisoners`, `Scores`, `Choices` and
+//! `Counts`. `Laws` has what holds of all games, that any moves and as many undos give the same
 //! game among it. What `specs/inner/` defines serves private functions alone.
 #![tactic(auto)]
 
