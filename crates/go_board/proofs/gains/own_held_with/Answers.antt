@@ -1,4 +1,4 @@
-use Rattle.std.proofs.Common.{◌+◌, ◌*◌, Some, slice_set}
+use Rattle.std.proofs.Common.{rules, ◌+◌, ◌*◌, Some, slice_set}
 use Rattle.go_board.proofs.HeldSets.{own_kept}
 use Rattle.go_board.proofs.gains.own_held_with.Goals as goal
 
@@ -8,3 +8,6 @@ returns-then-has_place-clause-held c g colour whole empty held own theirs =
 
 pub returns-clause-held : goal.returns-clause-held
 returns-clause-held c g colour whole empty held own theirs = c.held.ensures (slice_set g (c.args.row * c.args.lines + c.args.col) (Some colour)) colour own theirs
+
+pub returns-clause-same : goal.returns-clause-same
+returns-clause-same c = search rules

@@ -1,4 +1,4 @@
-use Rattle.std.proofs.Common.{arith, ◌≡◌, ◌+◌, ◌*◌, ◌/◌, ◌∙◌, refl, ap, subst, ℕ, List, count_by}
+use Rattle.std.proofs.Common.{rules, arith, ◌≡◌, ◌+◌, ◌*◌, ◌/◌, ◌∙◌, refl, ap, subst, ℕ, List, count_by}
 use Rattle.std.proofs.lemmas.Nat.Bits.{bit_at_ones}
 use Rattle.std.specs.List.{range_with_len}
 use Rattle.go_board.specs.PointSets.{has_point}
@@ -30,3 +30,6 @@ returns c test same =
     let counted = subst (λ (k : ℕ). c.loop-word.count + last.result ≡ count_by (is_counted words k) (range_with_len 0 (64 * (full + 1)))) all both in
     words_counted n (full + 1) words (c.loop-word.count + last.result) test (omega (arith, all, here)) counted
     (λ q low. ap (λ (ws : List ℕ). has_point ws q) c.self.view_is ∙ same q low)
+
+pub count_in-requires-clause-outside : goal.count_in-requires-clause-outside
+count_in-requires-clause-outside c = search rules

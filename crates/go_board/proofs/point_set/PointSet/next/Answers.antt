@@ -1,3 +1,4 @@
+use Rattle.std.proofs.Common.{rules}
 use Rattle.std.specs.Int.{bit_at, trailing_zeros}
 use Rattle.std.specs.Prelude.{◌↔◌, ◌∷◌, []}
 use Rattle.std.proofs.Common.{arith, ◌≡◌, ◌+◌, ◌*◌, ◌<◌, ◌≤◌, ◌∙◌, ℕ, List, ap, sym, subst, w64}
@@ -43,3 +44,6 @@ returns-clause-none c =
     ∙ none-left n words c.from-first.result
     (λ q low high. c.loop-word.invariant q low (omega (arith, high, c.words_of-word-end.ensures.value, c.loop-word-test.false))) in
     subst (λ (ws : List ℕ). points_from n ws c.args.first ≡ []) c.self.view_is none
+
+pub loop-word-init : goal.loop-word-init
+loop-word-init c = search rules

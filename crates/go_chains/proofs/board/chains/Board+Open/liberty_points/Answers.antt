@@ -1,0 +1,5 @@
+use Rattle.std.proofs.Common.{rules}
+use Rattle.go_chains.proofs.board.chains.Board+Open.liberty_points.Goals as goal
+
+pub returns : goal.returns
+returns c = search rules
