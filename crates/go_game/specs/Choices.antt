@@ -1,6 +1,5 @@
 -- The plain choice: a maximum over all legal plays.
 use Rattle.std.specs.Prelude.{◌≡◌, ◌<◌, ◌⊎◌, ◌-ℤ◌, ◌<ℤ◌, ◌≤ℤ◌, ◌&&◌, ◌||◌, ℕ, ℤ, pos, int_lt, Bool, not, nat_lt, List, [], ◌∷◌, None, filter, if◌then◌else◌, length}
-use Rattle.go_board.specs.Grids.{GridValue}
 use Rattle.std.specs.List.{list_any}
 use Rattle.go_board.specs.declared.colour.Colour.{Colour}
 use Rattle.go_board.specs.declared.vertex.Vertex.{Vertex}
@@ -35,10 +34,6 @@ lead_after s c p = lead_on s.lines (moved s.lines (board_of s) c p) c
 -- the liberties of the chain of the stone on p, none if no stone is there
 abbrev pub liberties_on : ℕ → Colouring → ℕ → ℕ
 liberties_on n g p = if has_colour g p None then 0 else length (liberties n g p)
-
--- the same, of a point of a grid
-abbrev pub liberties_at : GridValue → Point → ℕ
-liberties_at g p = liberties_on g.lines g.colours (number_of g.lines p)
 
 -- those of the placed stone after a play
 abbrev pub liberties_after : Standing → Colour → ℕ → ℕ

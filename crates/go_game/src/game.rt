@@ -71,7 +71,7 @@ impl<A: Allocator + Copy> Game<A> {
     ghost use Rattle.go_chains.specs.Sound.{IsKept};
     ghost use Rattle.go_chains.specs.Boards.{colouring_of};
     ghost use Rattle.go_game.specs.declared.superko.Superko.{Superko};
-    ghost use Rattle.go_game.specs.Choices.{liberties_at};
+    ghost use Rattle.go_game.specs.inner.Trials.{liberties_at};
     ghost use Rattle.go_game.specs.Prisoners.{prisoners_of};
     ghost use Rattle.go_board.specs.Komi.{IsKomi};
     ghost use Rattle.go_game.specs.Standings.{IsSound, board_of, empty_start, present, is_vacant_standing, mover_of, seen_by};

@@ -11,7 +11,8 @@ use Rattle.clap.specs.Takes.{takes}
 use Rattle.clap.proofs.WalkLemmas.{both}
 use Rattle.clap.proofs.OnLiterals.{clap_on_literals}
 use Rattle.go_board.specs.declared.size.TheConstants.{MAX_LINES}
-use Rattle.goref_cli.specs.CommandLine.{IsPlainMatch, IsPlainUse, IsSize, program}
+use Rattle.goref_cli.specs.CommandLine.{IsPlainUse, IsSize, program}
+use Rattle.goref_cli.specs.inner.Matches.{IsPlainMatch}
 
 -- the matches name `gtp` and the size n
 abbrev states : ℕ → Option (Text × List Row) → Bool

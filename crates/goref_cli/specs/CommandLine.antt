@@ -68,12 +68,6 @@ IsPlainUse (name ∷ rest) = (rest ≡ codes "gtp" ∷ [])
     ⊎ (rest ≡ codes "tidy" ∷ [])
     ⊎ ((n : ℕ) × IsSize n × (rest ≡ codes "gtp" ∷ codes "--size" ∷ decimal n ∷ []))
 
--- a subcommand and its matches that name a task
-abbrev pub IsPlainMatch : Text × List Row → Type 0
-IsPlainMatch p = (p.0 ≡ codes "judge")
-    ⊎ (p.0 ≡ codes "tidy")
-    ⊎ ((p.0 ≡ codes "gtp") × ((n : ℕ) × IsSize n × (one_of (codes "size") p.1 ≡ Some (decimal n))))
-
 -- the texts behind the words
 abbrev pub texts_of : List (Bor Text) → List Text
 texts_of = map (λ word. word.now)

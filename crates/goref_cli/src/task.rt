@@ -7,7 +7,8 @@ ghost use Rattle.clap.specs.Values.{kind_of};
 ghost use Rattle.clap.specs.Walk.{Row, Text, one_of, rows_of, rule_of};
 ghost use Rattle.clap.specs.declared.builder.command.Command.TheViews.{out-Command};
 ghost use Rattle.clap.specs.declared.error.kind.ErrorKind.{ErrorKind};
-ghost use Rattle.goref_cli.specs.CommandLine.{Asks, HasSize, IsPlainMatch, IsPlainUse, IsSize};
+ghost use Rattle.goref_cli.specs.CommandLine.{Asks, HasSize, IsPlainUse, IsSize};
+ghost use Rattle.goref_cli.specs.inner.Matches.{IsPlainMatch};
 ghost use Rattle.goref_cli.specs.CommandLine.{Means, gtp_command, judge_command, program, size_option};
 ghost use Rattle.goref_cli.specs.CommandLine.{texts_of, tidy_command};
 

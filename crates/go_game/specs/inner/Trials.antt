@@ -4,6 +4,7 @@ use Rattle.go_board.specs.declared.colour.Colour.{Colour}
 use Rattle.go_board.specs.declared.point.Point.{Point}
 use Rattle.go_board.specs.declared.vertex.Vertex.TheVariants.{At}
 use Rattle.go_board.specs.Colours.{Colouring, other}
+use Rattle.go_board.specs.Grids.{GridValue}
 use Rattle.go_board.specs.Points.{number_of, point_at}
 use Rattle.go_board.specs.Reaching.{area}
 use Rattle.go_board.specs.Rows.{AreHeld, AreStones}
@@ -13,9 +14,13 @@ use Rattle.go_game.specs.declared.choice.Judged.{Judged}
 use Rattle.go_game.specs.declared.choice.Judged.TheVariants.{Illegal, Played, Quiet}
 use Rattle.go_game.specs.declared.choice.Trial.{Trial}
 use Rattle.go_game.specs.declared.holdings.Holdings.{Holdings}
-use Rattle.go_game.specs.Choices.{is_better, lead_after, liberties_after, may_play, outranks}
+use Rattle.go_game.specs.Choices.{is_better, lead_after, liberties_after, liberties_on, may_play, outranks}
 use Rattle.go_game.specs.Legal.{MayTake, is_legal}
 use Rattle.go_game.specs.Standings.{GameValue, Standing, after_vertex, board_of, with_move}
+
+-- the liberties of the chain of the stone on a point, none if no stone is there
+abbrev pub liberties_at : GridValue → Point → ℕ
+liberties_at g p = liberties_on g.lines g.colours (number_of g.lines p)
 
 -- the trial of the play on p
 abbrev pub trial_at : Standing → Colour → ℕ → Trial

@@ -1,0 +1,3 @@
+-- Words of private functions' contracts. No public contract cites them: a reader who wants to know what is promised can
+-- leave them out.
+pub mod Matches
