@@ -4,7 +4,7 @@ use Rattle.go_board.specs.Laws.{PacksTellApart}
 use Rattle.go_board.specs.lemmas.Squares.{square-le}
 use Rattle.go_game.specs.declared.superko.Superko.TheVariants.{Positional}
 use Rattle.std.specs.Prelude.{pos, replicate}
-use Rattle.std.proofs.Common.{arith, rules, ◌≡◌, ◌≢◌, ◌<◌, ◌≤◌, ◌*◌, ◌∙◌, ◌&&◌, true, false, not, inl, inr, ℕ, ℤ, IsTrue, List, [], ◌∷◌, Option, Some, None, length, map, refl, sym, ap, subst}
+use Rattle.std.proofs.Common.{arith, rules, ◌≡◌, ◌≢◌, ◌<◌, ◌≤◌, ◌*◌, ◌∙◌, ◌&&◌, true, false, not, inl, inr, ℕ, IsTrue, List, [], ◌∷◌, Option, Some, None, length, map, refl, sym, ap, subst}
 use Rattle.std.proofs.lemmas.Bool.{cases_Bool, false≢true}
 use Rattle.std.proofs.lemmas.List.{get_or-replicate, length-replicate}
 use Rattle.go_board.specs.declared.colour.Colour.{Colour}
@@ -19,7 +19,7 @@ use Rattle.go_chains.specs.Boards.{BoardValue, colouring_of, grid_of}
 use Rattle.go_game.specs.declared.step.Step.{Step}
 use Rattle.go_board.specs.Living.{AreAlive}
 use Rattle.go_board.specs.declared.vertex.Move.{Move}
-use Rattle.go_game.specs.inner.Held.{IsHeld, IsKeeping, made_of}
+use Rattle.go_game.specs.inner.Held.{IsHeld, IsKeeping, Start, made_of, start_of}
 use Rattle.go_history.specs.declared.key.Key.{Key}
 use Rattle.go_history.specs.Histories.{HistoryValue, IsBegun}
 use Rattle.go_game.specs.inner.Histories.{IsKeyOf, StandsFor}
@@ -45,9 +45,9 @@ alive_reaches n g k alive stone = elim (cases_Bool (reaches n g k None)) [
     held (Some Black) e = refl
     held (Some White) e = refl
 
-pub held_begun : (rule : Superko) (start : GridValue) (komi : ℤ) (first : Colour) → (0 < start.lines) × (start.lines ≤ MAX_LINES) → length start.colours ≡ start.lines * start.lines → IsKomi komi → AreAlive start.lines start.colours
-    → IsHeld rule start komi first [] 0 0
-held_begun rule start komi first size whole komi_is alive = record {
+pub held_begun : (start : Start) → (0 < start.lines) × (start.lines ≤ MAX_LINES) → length start.colours ≡ start.lines * start.lines → IsKomi start.komi → AreAlive start.lines start.colours
+    → IsHeld start [] 0 0
+held_begun start size whole komi_is alive = record {
   played = tt;
   sound = record {
     size = size;
@@ -60,10 +60,10 @@ held_begun rule start komi first size whole komi_is alive = record {
   white_taken = refl;
 }
 
-pub keeping_begun : PacksTellApart → (rule : Superko) (start : GridValue) (komi : ℤ) (first : Colour) (b : BoardValue) (log : List (List Change)) (history : HistoryValue) (p : Key)
-    → IsHeld rule start komi first [] 0 0 → b.lines ≡ start.lines → grid_of b ≡ start.colours → IsKept b.lines b.cells → log ≡ [] → IsBegun history p → IsKeyOf p (seen_by rule (start.colours, first))
-    → IsKeeping rule start komi first [] b log history 0 0
-keeping_begun law rule start komi first b log history p held lines colours kept empty begun packs = record {
+pub keeping_begun : PacksTellApart → {start : Start} (b : BoardValue) (log : List (List Change)) (history : HistoryValue) (p : Key)
+    → IsHeld start [] 0 0 → b.lines ≡ start.lines → grid_of b ≡ start.colours → IsKept b.lines b.cells → log ≡ [] → IsBegun history p → IsKeyOf p (seen_by start.rule (start.colours, start.first))
+    → IsKeeping start [] b log history 0 0
+keeping_begun law {start = start} b log history p held lines colours kept empty begun packs = record {
   held = held;
   tracked = record {
     lines = lines;
@@ -72,28 +72,30 @@ keeping_begun law rule start komi first b log history p held lines colours kept 
     begun = ap (λ (n : ℕ). colouring_of n b.cells) (sym lines) ∙ colours;
     went = (empty, refl);
   };
-  told = history_begun law (start.lines * start.lines) (square-le start.lines held.sound.size.1) history p (seen_by rule (start.colours, first)) begun packs held.sound.whole;
+  told = history_begun law (start.lines * start.lines) (square-le start.lines held.sound.size.1) history p (seen_by start.rule (start.colours, start.first)) begun packs held.sound.whole;
 }
 
 pub komi_none : IsKomi (pos 0)
 komi_none = search rules
 
 -- the same on an empty board
-pub keeping_empty : PacksTellApart → (n : ℕ) → (0 < n) × (n ≤ MAX_LINES) → (rule : Superko) (start : GridValue) (komi : ℤ) (first : Colour) (steps : List Step) (b : BoardValue) (log : List (List Change)) (history : HistoryValue) (p : Key)
-    → start.lines ≡ n → start.colours ≡ replicate (n * n) None → IsKomi komi → b.lines ≡ n → grid_of b ≡ replicate (n * n) None → IsKept b.lines b.cells → log ≡ [] → steps ≡ [] → IsBegun history p → IsKeyOf p (seen_by rule (start.colours, first))
-    → IsKeeping rule start komi first steps b log history 0 0
-keeping_empty law n size rule start komi first steps b log history p lines colours komi_is b_lines b_colours kept empty none begun packs =
+pub keeping_empty : PacksTellApart → (n : ℕ) → (0 < n) × (n ≤ MAX_LINES) → {start : Start} {steps : List Step} {b : BoardValue} {log : List (List Change)} {history : HistoryValue} (p : Key)
+    → start.lines ≡ n → start.colours ≡ replicate (n * n) None → IsKomi start.komi → b.lines ≡ n
+    → grid_of b ≡ replicate (n * n) None → IsKept b.lines b.cells → log ≡ [] → steps ≡ [] → IsBegun history p
+    → IsKeyOf p (seen_by start.rule (start.colours, start.first))
+    → IsKeeping start steps b log history 0 0
+keeping_empty law n size {start = start} {b = b} {log = log} {history = history} p lines colours komi_is b_lines b_colours kept empty none begun packs =
     let here : start.colours ≡ replicate (start.lines * start.lines) None = colours ∙ ap (λ m. let g : Colouring = replicate (m * m) None in g) (sym lines) in
-    let held = held_begun rule start komi first (subst (λ (m : ℕ). (0 < m) × (m ≤ MAX_LINES)) (sym lines) size)
+    let held = held_begun start (subst (λ (m : ℕ). (0 < m) × (m ≤ MAX_LINES)) (sym lines) size)
     (ap length here ∙ length-replicate {A = Option Colour} (start.lines * start.lines) None) komi_is (none_alive start.lines start.colours here) in
-    subst (λ (xs : List Step). IsKeeping rule start komi first xs b log history 0 0) (sym none)
-    (keeping_begun law rule start komi first b log history p held (b_lines ∙ sym lines) (b_colours ∙ sym colours) kept empty begun packs)
+    subst (λ (xs : List Step). IsKeeping start xs b log history 0 0) (sym none)
+    (keeping_begun law b log history p held (b_lines ∙ sym lines) (b_colours ∙ sym colours) kept empty begun packs)
 
 -- another rule, while no move stands
-pub keeping_by : PacksTellApart → (rule other_rule : Superko) (start : GridValue) (komi : ℤ) (first : Colour) (steps : List Step) (b : BoardValue) (log : List (List Change)) (history history' : HistoryValue) (p : Key) (black white : ℕ)
-    → IsKeeping rule start komi first steps b log history black white → map made_of steps ≡ [] → IsBegun history' p → IsKeyOf p (seen_by other_rule (start.colours, first))
-    → IsKeeping other_rule start komi first steps b log history' black white
-keeping_by law rule other_rule start komi first steps b log history history' p black white k none begun packs = record {
+pub keeping_by : PacksTellApart → (rule : Superko) {start : Start} {steps : List Step} {b : BoardValue} {log : List (List Change)} {history history' : HistoryValue} (p : Key) {black white : ℕ}
+    → IsKeeping start steps b log history black white → map made_of steps ≡ [] → IsBegun history' p → IsKeyOf p (seen_by rule (start.colours, start.first))
+    → IsKeeping (record start { rule = rule }) steps b log history' black white
+keeping_by law rule {start = start} {history' = history'} p k none begun packs = record {
   held = record {
     played = k.held.played;
     sound = record {
@@ -107,20 +109,21 @@ keeping_by law rule other_rule start komi first steps b log history history' p b
     white_taken = k.held.white_taken;
   };
   tracked = k.tracked;
-  told = subst (λ (moves : List Move). StandsFor (start.lines * start.lines) history' (stood other_rule start.lines start.colours first moves)) (sym none)
-      (history_begun law (start.lines * start.lines) (square-le start.lines k.held.sound.size.1) history' p (seen_by other_rule (start.colours, first)) begun packs k.held.sound.whole);
+  told = subst (λ (moves : List Move). StandsFor (start.lines * start.lines) history' (stood rule start.lines start.colours start.first moves)) (sym none)
+      (history_begun law (start.lines * start.lines) (square-le start.lines k.held.sound.size.1) history' p (seen_by rule (start.colours, start.first)) begun packs k.held.sound.whole);
 }
 
 -- another start, while no move stands
-pub keeping_anew : PacksTellApart → (rule : Superko) (old : GridValue) (komi : ℤ) (mover : Colour) (steps : List Step) (was : BoardValue) (log : List (List Change)) (known : HistoryValue) (black white : ℕ)
-    → IsKeeping rule old komi mover steps was log known black white → map made_of steps ≡ []
-    → (start : GridValue) (first : Colour) (b : BoardValue) (history : HistoryValue) (p : Key)
-    → (0 < start.lines) × (start.lines ≤ MAX_LINES) → length start.colours ≡ start.lines * start.lines → AreAlive start.lines start.colours
-    → b.lines ≡ start.lines → grid_of b ≡ start.colours → IsKept b.lines b.cells → IsBegun history p → IsKeyOf p (seen_by Positional (start.colours, first))
-    → IsKeeping Positional start (pos 0) first steps b log history black white
-keeping_anew law rule old komi mover [] was log known black white k none start first b history p size whole alive lines colours kept begun packs =
-    let held = held_begun Positional start (pos 0) first size whole komi_none alive in
-    let at_none = keeping_begun law Positional start (pos 0) first b log history p held lines colours kept k.tracked.went.0 begun packs in
-    subst (λ (w : ℕ). IsKeeping Positional start (pos 0) first [] b log history black w) (sym k.held.white_taken)
-    (subst (λ (x : ℕ). IsKeeping Positional start (pos 0) first [] b log history x 0) (sym k.held.black_taken) at_none)
-keeping_anew law rule old komi mover (s ∷ steps) was log known black white k none start first b history p size whole alive lines colours kept begun packs = absurd (cc)
+pub keeping_anew : PacksTellApart → {old : Start} {steps : List Step} {was : BoardValue} {log : List (List Change)} {known : HistoryValue} {black white : ℕ}
+    → IsKeeping old steps was log known black white → map made_of steps ≡ []
+    → (grid : GridValue) (first : Colour) (b : BoardValue) (history : HistoryValue) (p : Key)
+    → (0 < grid.lines) × (grid.lines ≤ MAX_LINES) → length grid.colours ≡ grid.lines * grid.lines → AreAlive grid.lines grid.colours
+    → b.lines ≡ grid.lines → grid_of b ≡ grid.colours → IsKept b.lines b.cells → IsBegun history p → IsKeyOf p (seen_by Positional (grid.colours, first))
+    → IsKeeping (start_of Positional grid (pos 0) first) steps b log history black white
+keeping_anew law {steps = []} {log = log} {black = black} k none grid first b history p size whole alive lines colours kept begun packs =
+    let start = start_of Positional grid (pos 0) first in
+    let held = held_begun start size whole komi_none alive in
+    let at_none = keeping_begun law b log history p held lines colours kept k.tracked.went.0 begun packs in
+    subst (λ (w : ℕ). IsKeeping start [] b log history black w) (sym k.held.white_taken)
+    (subst (λ (x : ℕ). IsKeeping start [] b log history x 0) (sym k.held.black_taken) at_none)
+keeping_anew law {steps = s ∷ steps} k none grid first b history p size whole alive lines colours kept begun packs = absurd (cc)

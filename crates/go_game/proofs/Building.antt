@@ -74,7 +74,8 @@ moved_part law n f g c p whole alive part =
     ∙ clears_none n h c size (part_lives law n h g alive part c)
 
 -- one stone more of the grid
-pub front_stone : (n : ℕ) (g now : Colouring) (i : ℕ) (c : Colour) → i < n * n → length g ≡ n * n → colour_at g i ≡ Some c → IsFront n g i now → IsFront n g (i + 1) (slice_set now i (Some c)) × IsPart (slice_set now i (Some c)) g
+pub front_stone : (n : ℕ) (g now : Colouring) (i : ℕ) (c : Colour) → i < n * n → length g ≡ n * n
+    → colour_at g i ≡ Some c → IsFront n g i now → IsFront n g (i + 1) (slice_set now i (Some c)) × IsPart (slice_set now i (Some c)) g
 front_stone n g now i c low whole is front = (next, part)
   where
     size : length (slice_set now i (Some c)) ≡ n * n

@@ -65,7 +65,8 @@ some_any test a (suc m) q low high e = elim (cases_lt a q) [
   | inr here ↦ ap (λ b. b || list_any test (range_with_len (a + 1) m)) (ap test (let same : a ≡ q = omega arith in same) ∙ e)
 ]
 
-first_there : (n : ℕ) (test : ℕ → Bool) (a m p : ℕ) → a ≤ p → p < a + m → test p ≡ true → ((q : ℕ) → a ≤ q → q < p → test q ≡ false) → first_or_pass n (filter test (range_with_len a m)) ≡ At (point_at n p)
+first_there : (n : ℕ) (test : ℕ → Bool) (a m p : ℕ) → a ≤ p → p < a + m → test p ≡ true
+    → ((q : ℕ) → a ≤ q → q < p → test q ≡ false) → first_or_pass n (filter test (range_with_len a m)) ≡ At (point_at n p)
 first_there n test a zero p low high here before = absurd (omega arith)
 first_there n test a (suc m) p low high here before = elim (cases_lt a p) [
   | inl later ↦
@@ -164,7 +165,8 @@ module _ (s : Standing) (c : Colour) (best : Option Trial) (t : Trial) (present 
       not_more : (q : ℕ) → is_better s c q best_of.0 ≡ false → raises_margin s c q ≡ false
       not_more q worse = elim (cases_Bool (raises_margin s c q)) [
         | inl more ↦
-            absurd (true≢false (sym (outranks-greater (lead_of s c) (lead_after s c q) (liberties_after s c q) (lead_after s c best_of.0) (liberties_after s c best_of.0) more (raises_is ∙ less)) ∙ worse))
+            absurd (true≢false (sym (outranks-greater (lead_of s c) (lead_after s c q) (liberties_after s c q)
+            (lead_after s c best_of.0) (liberties_after s c best_of.0) more (raises_is ∙ less)) ∙ worse))
         | inr none ↦ none
       ]
 

@@ -75,7 +75,8 @@ most_put law n g now i c low whole alive is front =
     let moves : moved n now c i ≡ placed = moved_part law n now g c i front.whole alive (front_stone n g now i c low whole is front).1 in
     let none : stones_captured n now c i ≡ 0 = ap (λ (k : Colouring). vanished n placed k (other c)) moves ∙ vanished-self n placed (other c) in
     let all : ℕ = stones_in (record { lines = n; colours = g }) in
-    let stone : most_to_put (record { lines = n; colours = g }) i ≡ 128 + 8 * all = ap (λ (b : Bool). let most : ℕ = if b then 0 else 128 + 8 * all in most) (ap (λ v. is_same v None) is ∙ some_none c) in
+    let stone : most_to_put (record { lines = n; colours = g }) i ≡ 128 + 8 * all =
+    ap (λ (b : Bool). let most : ℕ = if b then 0 else 128 + 8 * all in most) (ap (λ v. is_same v None) is ∙ some_none c) in
     omega (arith, none, beside_few n now g (front_part n g now i low front) c i, stone)
 
 -- a trace that grew by these changes

@@ -95,7 +95,9 @@ pub off_board_fails : (s : Standing) (c : Colour) (v : Vertex) → IsOffBoard s 
 off_board_fails s c Pass h = absurd h
 off_board_fails s c (At p) h = off_at (on_or_off p.col p.row s.lines)
   where
-    off_at : ((p.col < s.lines) × (p.row < s.lines) × ((nat_lt p.col s.lines && nat_lt p.row s.lines) ≡ true)) ⊎ (((p.col < s.lines) × (p.row < s.lines) → ⊥) × ((nat_lt p.col s.lines && nat_lt p.row s.lines) ≡ false)) → is_legal s c (At p) ≡ false
+    off_at : ((p.col < s.lines) × (p.row < s.lines) × ((nat_lt p.col s.lines && nat_lt p.row s.lines) ≡ true)) ⊎
+        (((p.col < s.lines) × (p.row < s.lines) → ⊥) × ((nat_lt p.col s.lines && nat_lt p.row s.lines) ≡ false))
+        → is_legal s c (At p) ≡ false
     off_at (inl on) = absurd (h (on.0, on.1))
     off_at (inr off) = closed s c (At p) (ap (λ b. b && has_colour (board_of s) (number_of s.lines p) None) off.1)
 
@@ -107,7 +109,9 @@ occupied_fails s c (At p) h = held_at (none_or_some (colour_at (board_of s) (num
     and_false true = refl
     and_false false = refl
 
-    held_at : (colour_at (board_of s) (number_of s.lines p) ≡ None) ⊎ ((colour_at (board_of s) (number_of s.lines p) ≢ None) × (has_colour (board_of s) (number_of s.lines p) None ≡ false)) → is_legal s c (At p) ≡ false
+    held_at : (colour_at (board_of s) (number_of s.lines p) ≡ None) ⊎
+        ((colour_at (board_of s) (number_of s.lines p) ≢ None) × (has_colour (board_of s) (number_of s.lines p)
+        None ≡ false)) → is_legal s c (At p) ≡ false
     held_at (inl empty) = absurd (h.1 empty)
     held_at (inr held) = closed s c (At p) (ap (λ b. (nat_lt p.col s.lines && nat_lt p.row s.lines) && b) held.1 ∙ and_false (nat_lt p.col s.lines && nat_lt p.row s.lines))
 

@@ -1,5 +1,5 @@
 -- Steps one after the other: what one more adds, and what the last took away leaves.
-use Rattle.std.proofs.Common.{arith, ◌≡◌, ◌<◌, ◌≤◌, ◌+◌, ◌-◌, ◌*◌, ◌^◌, ◌∙◌, ℕ, ℤ, List, [], ◌∷◌, ◌++◌, Some, length, map, take, refl, sym, ap, subst}
+use Rattle.std.proofs.Common.{arith, ◌≡◌, ◌<◌, ◌≤◌, ◌+◌, ◌-◌, ◌*◌, ◌^◌, ◌∙◌, ℕ, List, [], ◌∷◌, ◌++◌, Some, length, map, take, refl, sym, ap, subst}
 use Rattle.go_board.specs.Laws.{TakenAndLeft}
 use Rattle.go_board.specs.lemmas.Squares.{square-le}
 use Rattle.std.specs.List.{slice_get}
@@ -10,7 +10,6 @@ use Rattle.go_board.specs.declared.colour.Colour.TheVariants.{Black, White}
 use Rattle.go_board.specs.declared.vertex.Move.{Move}
 use Rattle.go_board.specs.Colours.{Colouring, other}
 use Rattle.go_game.specs.declared.step.Step.{Step}
-use Rattle.go_game.specs.declared.superko.Superko.{Superko}
 use Rattle.go_game.specs.Standings.{IsLegal, IsSound, after_move, after_vertex, board, mover_after}
 use Rattle.go_game.specs.Prisoners.{prisoners_from, taken_by, share_of}
 use Rattle.go_board.specs.declared.size.TheConstants.{MAX_LINES}
@@ -21,8 +20,7 @@ use Rattle.go_board.specs.Reaching.{after_clearing, cleared, has_colour, moved, 
 use Rattle.std.proofs.lemmas.List.Sums.{count_by-le-length}
 use Rattle.std.specs.Prelude.{slice_set}
 use Rattle.std.proofs.lemmas.List.FromFn.{length-map-range_with_len, length-range_with_len}
-use Rattle.go_board.specs.Grids.{GridValue}
-use Rattle.go_game.specs.inner.Held.{ArePlayed, IsHeld, IsPlayed, made_of, standing_of}
+use Rattle.go_game.specs.inner.Held.{ArePlayed, IsHeld, IsPlayed, Start, made_of, standing_of}
 use Rattle.go_game.specs.lemmas.Sound.{sound_front, sound_more}
 
 -- the last move is the newest
@@ -67,11 +65,11 @@ mover_last first steps s last =
     sym (mover_push first (map made_of split.0) (made_of s)) ∙ ap (mover_after first) (sym (made_push split.0 s)) ∙ ap (λ (xs : List Step). mover_after first (map made_of xs)) (sym split.1)
 
 -- taking the last step off leaves what was held before it, and what it took is among the prisoners
-pub held_front : (rule : Superko) (start : GridValue) (komi : ℤ) (first : Colour) (steps front : List Step) (s : Step) (black white black' white' : ℕ)
-    → steps ≡ front ++ s ∷ [] → IsHeld rule start komi first steps black white
+pub held_front : {start : Start} {steps : List Step} (front : List Step) (s : Step) {black white : ℕ} (black' white' : ℕ)
+    → steps ≡ front ++ s ∷ [] → IsHeld start steps black white
     → black ≡ black' + share_of s.made.colour s.taken Black → white ≡ white' + share_of s.made.colour s.taken White
-    → IsHeld rule start komi first front black' white'
-held_front rule start komi first steps front s black white black' white' is held less_black less_white =
+    → IsHeld start front black' white'
+held_front {start = start} {steps = steps} front s black' white' is held less_black less_white =
     let moves = map made_of front in
     let all : map made_of steps ≡ moves ++ made_of s ∷ [] = ap (λ (xs : List Step). map made_of xs) is ∙ made_push front s in
     let parts = played_front start.lines start.colours front s (subst (ArePlayed start.lines start.colours) is held.played) in
@@ -79,15 +77,15 @@ held_front rule start komi first steps front s black white black' white' is held
     let w = held.white_taken ∙ ap (λ (ms : List Move). prisoners_from start.lines start.colours ms White) all ∙ prisoners_push start.lines start.colours moves (made_of s) White in
     record {
       played = parts.0;
-      sound = sound_front (standing_of rule start komi first front) moves (made_of s) (subst (λ (ms : List Move). IsSound (record (standing_of rule start komi first front) { moves = ms })) all held.sound);
+      sound = sound_front (standing_of start front) moves (made_of s) (subst (λ (ms : List Move). IsSound (record (standing_of start front) { moves = ms })) all held.sound);
       black_taken = omega (arith, b, parts.1.taken Black, less_black);
       white_taken = omega (arith, w, parts.1.taken White, less_white);
     }
 
-pub share_held : (rule : Superko) (start : GridValue) (komi : ℤ) (first : Colour) (steps front : List Step) (s : Step) (black white : ℕ)
-    → steps ≡ front ++ s ∷ [] → IsHeld rule start komi first steps black white
+pub share_held : {start : Start} {steps : List Step} (front : List Step) (s : Step) {black white : ℕ}
+    → steps ≡ front ++ s ∷ [] → IsHeld start steps black white
     → (share_of s.made.colour s.taken Black ≤ black) × (share_of s.made.colour s.taken White ≤ white)
-share_held rule start komi first steps front s black white is held =
+share_held {start = start} {steps = steps} front s is held =
     let moves = map made_of front in
     let all : map made_of steps ≡ moves ++ made_of s ∷ [] = ap (λ (xs : List Step). map made_of xs) is ∙ made_push front s in
     let parts = played_front start.lines start.colours front s (subst (ArePlayed start.lines start.colours) is held.played) in
@@ -116,10 +114,10 @@ prisoners_le law n g (m ∷ moves) of =
     omega (arith, rest, first)
 
 -- the counters have room for what one more step takes
-pub room_held : TakenAndLeft → (rule : Superko) (start : GridValue) (komi : ℤ) (first : Colour) (steps : List Step) (s : Step) (black white : ℕ)
-    → IsHeld rule start komi first steps black white → length (map made_of steps) < 2 ^ 63 → IsPlayed start.lines (board start.lines start.colours (map made_of steps)) s
+pub room_held : TakenAndLeft → {start : Start} {steps : List Step} (s : Step) {black white : ℕ}
+    → IsHeld start steps black white → length (map made_of steps) < 2 ^ 63 → IsPlayed start.lines (board start.lines start.colours (map made_of steps)) s
     → (black + share_of s.made.colour s.taken Black < 2 ^ 64) × (white + share_of s.made.colour s.taken White < 2 ^ 64)
-room_held law rule start komi first steps s black white held few played =
+room_held law {start = start} {steps = steps} s held few played =
     let small : start.lines ≤ MAX_LINES = held.sound.size.1 in
     let n = start.lines in
     let square = square-le n small in
@@ -135,19 +133,19 @@ room_held law rule start komi first steps s black white held few played =
     (omega (arith, held.black_taken, b, gb, nb, played.taken Black, tb, few, square), omega (arith, held.white_taken, w, gw, nw, played.taken White, tw, few, square))
 
 -- what is held with one more step
-pub held_push : (rule : Superko) (start : GridValue) (komi : ℤ) (first : Colour) (steps more : List Step) (s : Step) (black white black' white' : ℕ)
-    → more ≡ steps ++ s ∷ [] → IsHeld rule start komi first steps black white
-    → IsPlayed start.lines (board start.lines start.colours (map made_of steps)) s → IsLegal (standing_of rule start komi first steps) s.made.colour s.made.vertex
+pub held_push : {start : Start} {steps more : List Step} (s : Step) {black white black' white' : ℕ}
+    → more ≡ steps ++ s ∷ [] → IsHeld start steps black white
+    → IsPlayed start.lines (board start.lines start.colours (map made_of steps)) s → IsLegal (standing_of start steps) s.made.colour s.made.vertex
     → black' ≡ black + share_of s.made.colour s.taken Black → white' ≡ white + share_of s.made.colour s.taken White
-    → IsHeld rule start komi first more black' white'
-held_push rule start komi first steps more s black white black' white' is held played legal more_black more_white =
+    → IsHeld start more black' white'
+held_push {start = start} {steps = steps} {more = more} s is held played legal more_black more_white =
     let moves = map made_of steps in
     let all : map made_of more ≡ moves ++ made_of s ∷ [] = ap (λ (xs : List Step). map made_of xs) is ∙ made_push steps s in
     let b = ap (λ (ms : List Move). prisoners_from start.lines start.colours ms Black) all ∙ prisoners_push start.lines start.colours moves (made_of s) Black in
     let w = ap (λ (ms : List Move). prisoners_from start.lines start.colours ms White) all ∙ prisoners_push start.lines start.colours moves (made_of s) White in
     record {
       played = subst (ArePlayed start.lines start.colours) (sym is) (played_push start.lines start.colours steps s held.played played);
-      sound = subst (λ (ms : List Move). IsSound (record (standing_of rule start komi first steps) { moves = ms })) (sym all) (sound_more (standing_of rule start komi first steps) (made_of s) held.sound legal);
+      sound = subst (λ (ms : List Move). IsSound (record (standing_of start steps) { moves = ms })) (sym all) (sound_more (standing_of start steps) (made_of s) held.sound legal);
       black_taken = omega (arith, b, held.black_taken, played.taken Black, more_black);
       white_taken = omega (arith, w, held.white_taken, played.taken White, more_white);
     }

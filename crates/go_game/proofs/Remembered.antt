@@ -28,7 +28,8 @@ pub first_stays : (k : ℕ) (gs more : List Seen) (g : Seen) (j : ℕ) → first
 first_stays k [] more g j e = cc
 first_stays k (h ∷ gs) more g j e = stays (first_stays (k + 1) gs more g j) (same_seen h g) e
   where
-    stays : (first_at (k + 1) gs g ≡ Some j → first_at (k + 1) (gs ++ more) g ≡ Some j) → (b : Bool) → (if b then Some k else first_at (k + 1) gs g) ≡ Some j → (if b then Some k else first_at (k + 1) (gs ++ more) g) ≡ Some j
+    stays : (first_at (k + 1) gs g ≡ Some j → first_at (k + 1) (gs ++ more) g ≡ Some j) → (b : Bool)
+        → (if b then Some k else first_at (k + 1) gs g) ≡ Some j → (if b then Some k else first_at (k + 1) (gs ++ more) g) ≡ Some j
     stays rest true e = e
     stays rest false e = rest e
 
@@ -36,7 +37,10 @@ pub first_last : (k : ℕ) (gs : List Seen) (x g : Seen) → first_at k gs g ≡
 first_last k [] x g e = ap (λ j. if same_seen x g then Some j else None) (let z : k ≡ k + 0 = omega arith in z)
 first_last k (h ∷ gs) x g e = last (first_last (k + 1) gs x g) (same_seen h g) e
   where
-    last : (first_at (k + 1) gs g ≡ None → first_at (k + 1) (gs ++ x ∷ []) g ≡ (if same_seen x g then Some (k + 1 + length gs) else None)) → (b : Bool) → (if b then Some k else first_at (k + 1) gs g) ≡ None → (if b then Some k else first_at (k + 1) (gs ++ x ∷ []) g) ≡ (if same_seen x g then Some (k + length (h ∷ gs)) else None)
+    last : (first_at (k + 1) gs g ≡ None → first_at (k + 1) (gs ++ x ∷ [])
+        g ≡ (if same_seen x g then Some (k + 1 + length gs) else None)) → (b : Bool)
+        → (if b then Some k else first_at (k + 1) gs g) ≡ None
+        → (if b then Some k else first_at (k + 1) (gs ++ x ∷ []) g) ≡ (if same_seen x g then Some (k + length (h ∷ gs)) else None)
     last rest true e = cc
     last rest false e = rest e ∙ ap (λ j. if same_seen x g then Some j else None) (let z : k + 1 + length gs ≡ k + suc (length gs) = omega arith in z)
 
@@ -59,7 +63,8 @@ pub first_found : (k : ℕ) (gs : List Seen) (g : Seen) (j : ℕ) → first_at k
 first_found k [] g j e = cc
 first_found k (h ∷ gs) g j e = found (first_found (k + 1) gs g j) (same_seen h g) refl e
   where
-    found : (first_at (k + 1) gs g ≡ Some j → (i : ℕ) × (j ≡ k + 1 + i) × IsFirstAt gs g i) → (b : Bool) → same_seen h g ≡ b → (if b then Some k else first_at (k + 1) gs g) ≡ Some j → (i : ℕ) × (j ≡ k + i) × IsFirstAt (h ∷ gs) g i
+    found : (first_at (k + 1) gs g ≡ Some j → (i : ℕ) × (j ≡ k + 1 + i) × IsFirstAt gs g i) → (b : Bool)
+        → same_seen h g ≡ b → (if b then Some k else first_at (k + 1) gs g) ≡ Some j → (i : ℕ) × (j ≡ k + i) × IsFirstAt (h ∷ gs) g i
     found later true same e = (0, number_here k j e, (omega arith, seen_same h g same, λ i low. absurd (omega (arith, low))))
     found later false other e =
         let rest = later e in
@@ -77,7 +82,9 @@ pub first_none : (k : ℕ) (gs : List Seen) (g : Seen) → first_at k gs g ≡ N
 first_none k [] g e i low is = absurd (omega (arith, low))
 first_none k (h ∷ gs) g e i low is = none (first_none (k + 1) gs g) (same_seen h g) refl e i low is
   where
-    none : (first_at (k + 1) gs g ≡ None → (i : ℕ) → i < length gs → slice_index_or gs i ([], None) ≢ g) → (b : Bool) → same_seen h g ≡ b → (if b then Some k else first_at (k + 1) gs g) ≡ None → (i : ℕ) → i < length (h ∷ gs) → slice_index_or (h ∷ gs) i ([], None) ≢ g
+    none : (first_at (k + 1) gs g ≡ None → (i : ℕ) → i < length gs → slice_index_or gs i ([], None) ≢ g) → (b : Bool)
+        → same_seen h g ≡ b → (if b then Some k else first_at (k + 1) gs g) ≡ None → (i : ℕ) → i < length (h ∷ gs)
+        → slice_index_or (h ∷ gs) i ([], None) ≢ g
     none rest true same e i low is = cc
     none rest false other e zero low is = true≢false (sym (same_seen_self g) ∙ ap (λ (x : Seen). same_seen x g) (sym is) ∙ other)
     none rest false other e (suc n) low is = rest e n (omega (arith, low)) is
@@ -106,7 +113,8 @@ first_stood gs x g stood = at (first_at 0 gs g) refl (same_seen x g) refl
 -- ---- packs tell colourings apart, by the law of boards
 
 -- the test of packs and the test of colourings agree
-packs_agree : PacksTellApart → (n : ℕ) → n ≤ MAX_POINTS → (p q : Packed) (g h : Colouring) → bytes_of p ≡ packed_of g → bytes_of q ≡ packed_of h → length g ≡ n → length h ≡ n → packed_eq p q ≡ same_colours g h
+packs_agree : PacksTellApart → (n : ℕ) → n ≤ MAX_POINTS → (p q : Packed) (g h : Colouring) → bytes_of p ≡ packed_of g
+    → bytes_of q ≡ packed_of h → length g ≡ n → length h ≡ n → packed_eq p q ≡ same_colours g h
 packs_agree law n few p q g h p_packs q_packs g_whole h_whole =
     one_answer {P = g ≡ h} (packed_eq p q) (same_colours g h) (
       λ e. (law g h (g_whole ∙ sym h_whole) (omega (arith, g_whole, few))).0 (sym p_packs ∙ bytes.0 e ∙ q_packs),
@@ -207,7 +215,9 @@ pub history_only : PacksTellApart → (n : ℕ) → n ≤ MAX_POINTS → (old ne
 history_only law n few old new gs p g k stands changed count some packs whole novel = (changed.0, λ q. changed.1 q ∙ only q (key_eq p q) refl)
   where
     last : first_at 0 (gs ++ g ∷ []) g ≡ Some k
-    last = first_last 0 gs g g (first_absent gs g novel) ∙ ap (λ b. if b then Some (0 + length gs) else None) (same_seen_self g) ∙ ap (λ (j : ℕ). Some j) (let z : 0 + length gs ≡ k = omega (arith, count) in z)
+    last = first_last 0 gs g g (first_absent gs g novel)
+        ∙ ap (λ b. if b then Some (0 + length gs) else None) (same_seen_self g)
+        ∙ ap (λ (j : ℕ). Some j) (let z : 0 + length gs ≡ k = omega (arith, count) in z)
 
     later : (start : Bool) (o : Option ℕ) → cond start (Some 0) o ≡ Some k → o ≡ Some k
     later true o e = absurd (omega (arith, some, ap (λ (x : Option ℕ). unwrap_or x 0) e))

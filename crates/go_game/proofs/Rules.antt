@@ -39,8 +39,11 @@ by_positions n g c (m ∷ moves) = ap (λ (xs : List Seen). alone g ∷ xs) (by_
 pub positional_rule : (s : Standing) (c : Colour) (p : Point) → s.rule ≡ Positional
     → Contains (stood_of s) (seen_after s c (number_of s.lines p)) ↔ Contains (positions_of s) (moved s.lines (board_of s) c (number_of s.lines p))
 positional_rule s c p is =
-    subst (λ (rule : Superko). Contains (stood rule s.lines s.start s.first s.moves) (seen_by rule (moved s.lines (board_of s) c (number_of s.lines p), other c)) ↔ Contains (positions_of s) (moved s.lines (board_of s) c (number_of s.lines p))) (sym is)
-    (subst (λ (xs : List Seen). Contains xs (alone (moved s.lines (board_of s) c (number_of s.lines p))) ↔ Contains (positions_of s) (moved s.lines (board_of s) c (number_of s.lines p))) (sym (by_positions s.lines s.start s.first s.moves))
+    subst (λ (rule : Superko). Contains (stood rule s.lines s.start s.first s.moves)
+    (seen_by rule (moved s.lines (board_of s) c (number_of s.lines p), other c)) ↔ Contains (positions_of s)
+    (moved s.lines (board_of s) c (number_of s.lines p))) (sym is)
+    (subst (λ (xs : List Seen). Contains xs (alone (moved s.lines (board_of s) c (number_of s.lines p))) ↔ Contains
+    (positions_of s) (moved s.lines (board_of s) c (number_of s.lines p))) (sym (by_positions s.lines s.start s.first s.moves))
     (among alone (λ g h e. ap (λ (x : Seen). x.0) e) (positions_of s) (moved s.lines (board_of s) c (number_of s.lines p))))
 
 abbrev mover_in : Colour → Seen → Colour
@@ -53,5 +56,7 @@ same_situation x y e = ap (λ (z : Seen). let w : Situation = (z.0, mover_in x.1
 pub situational_rule : (s : Standing) (c : Colour) (p : Point) → s.rule ≡ Situational
     → Contains (stood_of s) (seen_after s c (number_of s.lines p)) ↔ Contains (situations_of s) (moved s.lines (board_of s) c (number_of s.lines p), other c)
 situational_rule s c p is =
-    subst (λ (rule : Superko). Contains (stood rule s.lines s.start s.first s.moves) (seen_by rule (moved s.lines (board_of s) c (number_of s.lines p), other c)) ↔ Contains (situations_of s) (moved s.lines (board_of s) c (number_of s.lines p), other c)) (sym is)
+    subst (λ (rule : Superko). Contains (stood rule s.lines s.start s.first s.moves)
+    (seen_by rule (moved s.lines (board_of s) c (number_of s.lines p), other c)) ↔ Contains (situations_of s)
+    (moved s.lines (board_of s) c (number_of s.lines p), other c)) (sym is)
     (among (seen_by Situational) same_situation (situations_of s) (moved s.lines (board_of s) c (number_of s.lines p), other c))

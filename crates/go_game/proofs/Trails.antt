@@ -57,7 +57,8 @@ turn_apart n cells c Pass plays next rest front tail turn split = (front, sym tu
 turn_apart n cells c (At p) plays next rest front tail turn split =
     (turn.0 ∷ front, turn.1 ∙ ap (λ (l : List (List Change)). turn.0 ∷ l) split, (turn.0, refl, turn.2, turn.3, turn.4, turn.5))
 
-pub last_turn : (n : ℕ) (first : List ℕ) (moves : List Move) (m : Move) (plays : List (List Change)) (last : List ℕ) → WentThrough n first (moves ++ m ∷ []) plays last → LastTurn n first moves m plays last
+pub last_turn : (n : ℕ) (first : List ℕ) (moves : List Move) (m : Move) (plays : List (List Change)) (last : List ℕ)
+    → WentThrough n first (moves ++ m ∷ []) plays last → LastTurn n first moves m plays last
 last_turn n first [] m plays last went =
     let T : List (List Change) → List ℕ → Type 0 = λ l cells. IsTurn n first m.colour m.vertex plays cells l in
     record {

@@ -1,5 +1,5 @@
 -- What a game keeps after its last move is taken back.
-use Rattle.std.proofs.Common.{arith, ◌≡◌, ◌<◌, ◌+◌, ◌*◌, ◌∙◌, ℕ, ℤ, List, [], ◌∷◌, ◌++◌, length, length-append, map, sym, ap, subst}
+use Rattle.std.proofs.Common.{arith, ◌≡◌, ◌<◌, ◌+◌, ◌*◌, ◌∙◌, ℕ, List, [], ◌∷◌, ◌++◌, length, length-append, map, sym, ap, subst}
 use Rattle.go_board.specs.Laws.{PacksTellApart}
 use Rattle.std.specs.Prelude.{Contains, None}
 use Rattle.std.proofs.lemmas.List.{append-nil, same_from_push}
@@ -13,7 +13,6 @@ use Rattle.go_board.specs.declared.vertex.Vertex.TheVariants.{Pass, At}
 use Rattle.go_board.specs.Colours.{Colouring, other}
 use Rattle.go_board.specs.PackBytes.{bytes_of}
 use Rattle.go_board.specs.Packs.{packed_of}
-use Rattle.go_board.specs.Grids.{GridValue}
 use Rattle.go_chains.specs.declared.cells.TheConstants.{COUNT}
 use Rattle.go_chains.specs.declared.change.Change.{Change}
 use Rattle.go_chains.specs.Rewound.{IsRewound, NamesCells, rewound}
@@ -22,8 +21,7 @@ use Rattle.go_chains.specs.Boards.{BoardValue, grid_of}
 use Rattle.go_history.specs.declared.key.Key.{Key}
 use Rattle.go_history.specs.Histories.{HistoryValue, IsChangedAt, IsForgotten}
 use Rattle.go_game.specs.declared.step.Step.{Step}
-use Rattle.go_game.specs.declared.superko.Superko.{Superko}
-use Rattle.go_game.specs.inner.Held.{ArePlayed, IsHeld, IsKeeping, IsPlayed, made_of, standing_of}
+use Rattle.go_game.specs.inner.Held.{ArePlayed, IsHeld, IsKeeping, IsPlayed, Start, made_of, standing_of}
 use Rattle.go_game.specs.inner.Histories.{StandsFor}
 use Rattle.go_game.specs.Prisoners.{taken_by, share_of}
 use Rattle.go_game.specs.Standings.{IsLegal, IsSound, Standing, after_move, after_vertex, board, board_of, mover_by, seen_by, stood_of}
@@ -44,8 +42,8 @@ last_novel : (s : Standing) (c : Colour) (v : Vertex) (p : Point) → v ≡ At p
 last_novel s c v p at legal =
     subst (λ (w : Vertex). IsLegal s c w → Contains (stood_of s) (seen_by s.rule (after_vertex s.lines (board_of s) c w, other c)) → ⊥) (sym at) (λ there. there.2) legal
 
-module _ (rule : Superko) (start : GridValue) (komi : ℤ) (first : Colour) (steps front : List Step) (s : Step) (b : BoardValue) (log : List (List Change)) (history : HistoryValue) (black white : ℕ)
-    (k : IsKeeping rule start komi first steps b log history black white) (is : steps ≡ front ++ s ∷ []) where
+module _ {start : Start} {steps : List Step} (front : List Step) (s : Step) {b : BoardValue} {log : List (List Change)} {history : HistoryValue} {black white : ℕ}
+    (k : IsKeeping start steps b log history black white) (is : steps ≡ front ++ s ∷ []) where
   abbrev n : ℕ
   n = start.lines
 
@@ -87,7 +85,8 @@ module _ (rule : Superko) (start : GridValue) (komi : ℤ) (first : Colour) (ste
   pub some_play : (p : Point) → s.made.vertex ≡ At p → 0 < length log
   some_play p at = let play = last_play p at in let e = ap length play.split in let l = length-append last.front (play.changes ∷ []) in omega (arith, e, l)
 
-  pub back_play : (p : Point) → s.made.vertex ≡ At p → (earlier : List (List Change)) (changes : List Change) → log ≡ earlier ++ changes ∷ [] → NamesCells COUNT changes × IsKept b.lines (rewound b.cells changes)
+  pub back_play : (p : Point) → s.made.vertex ≡ At p → (earlier : List (List Change)) (changes : List Change)
+      → log ≡ earlier ++ changes ∷ [] → NamesCells COUNT changes × IsKept b.lines (rewound b.cells changes)
   back_play p at earlier changes split =
       let play = last_play p at in
       let same = same_from_push _ _ _ _ (sym play.split ∙ split) in
@@ -95,28 +94,32 @@ module _ (rule : Superko) (start : GridValue) (komi : ℤ) (first : Colour) (ste
       subst R same.1 (play.names, subst (λ (m : ℕ). IsKept m (rewound b.cells play.changes)) (sym k.tracked.lines) (subst (IsKept n) (sym play.back) play.kept))
 
   grid : grid_of b ≡ after_move n before (made_of s)
-  grid = grid_is start (map made_of steps) b log k.tracked ∙ ap (λ (ms : List Move). board n start.colours ms) all ∙ board_push n start.colours moves (made_of s)
+  grid = grid_is k.tracked ∙ ap (λ (ms : List Move). board n start.colours ms) all ∙ board_push n start.colours moves (made_of s)
 
   -- a play's key taken out is its number taken out
-  pub forgotten_put : PacksTellApart → (history' : HistoryValue) (key : Key) → bytes_of key.pack ≡ packed_of (grid_of b) → key.mover ≡ mover_by rule (other s.made.colour) → (p : Point) → s.made.vertex ≡ At p
-      → (black' white' : ℕ) → IsHeld rule start komi first front black' white' → IsChangedAt history history' key None → IsForgotten history history' key (length front + 1)
+  pub forgotten_put : PacksTellApart → (history' : HistoryValue) (key : Key) → bytes_of key.pack ≡ packed_of (grid_of b)
+      → key.mover ≡ mover_by start.rule (other s.made.colour) → (p : Point) → s.made.vertex ≡ At p
+      → (black' white' : ℕ) → IsHeld start front black' white' → IsChangedAt history history' key None → IsForgotten history history' key (length front + 1)
   forgotten_put law history' key packs mover p at black' white' held changed =
-      let S : Standing = standing_of rule start komi first front in
+      let S : Standing = standing_of start front in
       let legal = last_legal S moves (made_of s) (subst (λ (ms : List Move). IsSound (record S { moves = ms })) all k.held.sound) in
-      told_only law rule start komi first front steps s black' white' held is history history' key (packs ∙ ap packed_of grid) mover k.told (last_novel S s.made.colour s.made.vertex p at legal) changed
+      told_only law s held is history history' key (packs ∙ ap packed_of grid) mover k.told (last_novel S s.made.colour s.made.vertex p at legal) changed
 
   -- what the last move left was taken out of the history
-  module _ (law : PacksTellApart) (history' : HistoryValue) (key : Key) (packs : bytes_of key.pack ≡ packed_of (grid_of b)) (mover : key.mover ≡ mover_by rule (other s.made.colour)) (forgotten : IsForgotten history history' key (length front + 1)) where
-    told_front : (black' white' : ℕ) → IsHeld rule start komi first front black' white' → StandsFor (n * n) history' (stood_of (standing_of rule start komi first front))
-    told_front black' white' held = told_less law rule start komi first front steps s black' white' held is history history' key (packs ∙ ap packed_of grid) mover k.told forgotten
+  module _ (law : PacksTellApart) (history' : HistoryValue) (key : Key)
+      (packs : bytes_of key.pack ≡ packed_of (grid_of b))
+      (mover : key.mover ≡ mover_by start.rule (other s.made.colour))
+      (forgotten : IsForgotten history history' key (length front + 1)) where
+    told_front : (black' white' : ℕ) → IsHeld start front black' white' → StandsFor (n * n) history' (stood_of (standing_of start front))
+    told_front black' white' held = told_less law s held is history history' key (packs ∙ ap packed_of grid) mover k.told forgotten
 
-    pub keep_less_pass : s.made.vertex ≡ Pass → IsKeeping rule start komi first front b log history' black white
+    pub keep_less_pass : s.made.vertex ≡ Pass → IsKeeping start front b log history' black white
     keep_less_pass pass =
         let T : Vertex → Type 0 = λ v. IsTurn n last.before s.made.colour v last.tail b.cells [] in
         let turn : T Pass = subst T pass last.turn in
         let none : (of : Colour) → share_of s.made.colour s.taken of ≡ 0 = λ of. own.taken of ∙ ap (λ (v : Vertex). taken_by n before s.made.colour v of) pass in
         let log_is : last.front ≡ log = sym (last.split ∙ ap (λ (l : List (List Change)). last.front ++ l) (sym turn.1) ∙ append-nil last.front) in
-        let held = held_front rule start komi first steps front s black white black white is k.held (let z = none Black in omega (arith, z)) (let z = none White in omega (arith, z)) in
+        let held = held_front front s black white is k.held (let z = none Black in omega (arith, z)) (let z = none White in omega (arith, z)) in
         record {
           held = held;
           tracked = record {
@@ -124,7 +127,8 @@ module _ (rule : Superko) (start : GridValue) (komi : ℤ) (first : Colour) (ste
             first = k.tracked.first;
             kept = k.tracked.kept;
             begun = k.tracked.begun;
-            went = subst (λ (l : List (List Change)). WentThrough n k.tracked.first moves l b.cells) log_is (subst (λ (cells : List ℕ). WentThrough n k.tracked.first moves last.front cells) (sym turn.0) last.went);
+            went = subst (λ (l : List (List Change)). WentThrough n k.tracked.first moves l b.cells) log_is
+                (subst (λ (cells : List ℕ). WentThrough n k.tracked.first moves last.front cells) (sym turn.0) last.went);
           };
           told = told_front black white held;
         }
@@ -132,11 +136,11 @@ module _ (rule : Superko) (start : GridValue) (komi : ℤ) (first : Colour) (ste
     pub keep_less_put : (p : Point) → s.made.vertex ≡ At p → (b' : BoardValue) (log' : List (List Change)) (black' white' ticks ticks' : ℕ)
         → ((earlier : List (List Change)) (changes : List Change) → log ≡ earlier ++ changes ∷ [] → IsRewound b b' log' earlier changes ticks ticks')
         → black ≡ black' + share_of s.made.colour s.taken Black → white ≡ white' + share_of s.made.colour s.taken White
-        → IsKeeping rule start komi first front b' log' history' black' white'
+        → IsKeeping start front b' log' history' black' white'
     keep_less_put p at b' log' black' white' ticks ticks' rewinds less_black less_white =
         let play = last_play p at in
         let put = rewinds last.front play.changes play.split in
-        let held = held_front rule start komi first steps front s black white black' white' is k.held less_black less_white in
+        let held = held_front front s black' white' is k.held less_black less_white in
         record {
           held = held;
           tracked = record {

@@ -42,22 +42,22 @@ pub struct Game<A: Allocator + Copy> {
 impl<A: Allocator + Copy> Model for Game<A> {
     ghost use Rattle.std.specs.Prelude.{map};
     ghost use Rattle.go_game.specs.Changes.{changes_of};
-    ghost use Rattle.go_game.specs.inner.Held.{IsKeeping, made_of, standing_of};
+    ghost use Rattle.go_game.specs.inner.Held.{IsKeeping, made_of, standing_of, start_of};
     ghost use Rattle.go_game.specs.inner.Placed.{AreOfPlaced};
     ghost use Rattle.go_game.specs.Standings.{GameValue, stood};
 
     ghost Value = { GameValue };
 
     ghost view = { λ a. record {
-      standing = standing_of a.superko a.start a.komi a.first a.steps.items;
+      standing = standing_of (start_of a.superko a.start a.komi a.first) a.steps.items;
       cells = a.board.cells;
       changes = changes_of (map made_of a.steps.items) a.log;
       trace = a.board.trace;
       count = a.meter;
     } };
 
-    ghost invariant = { λ a. IsKeeping a.superko a.start a.komi a.first a.steps.items a.board
-        a.log a.history a.prisoners.black a.prisoners.white
+    ghost invariant = { λ a. IsKeeping (start_of a.superko a.start a.komi a.first) a.steps.items
+        a.board a.log a.history a.prisoners.black a.prisoners.white
         × AreOfPlaced a.start.lines a.start.colours a.placed
         (stood a.superko a.start.lines a.start.colours a.first (map made_of a.steps.items)) };
 }

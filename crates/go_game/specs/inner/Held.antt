@@ -38,27 +38,38 @@ abbrev pub ArePlayed : ℕ → Colouring → List Step → Type 0
 ArePlayed n g [] = Unit {0}
 ArePlayed n g (s ∷ steps) = IsPlayed n g s × ArePlayed n (after_move n g s.made) steps
 
+-- what stands before the first move: the size, the stones, the komi in hundredths, the superko rule, and who moves first
+pub record Start : Type 0 where
+  pub lines : ℕ
+  pub colours : Colouring
+  pub komi : ℤ
+  pub rule : Superko
+  pub first : Colour
+
+abbrev pub start_of : Superko → GridValue → ℤ → Colour → Start
+start_of rule grid komi first = record { lines = grid.lines; colours = grid.colours; komi = komi; rule = rule; first = first }
+
 -- the standing of a start and the steps
-abbrev pub standing_of : Superko → GridValue → ℤ → Colour → List Step → Standing
-standing_of rule start komi first steps = record { lines = start.lines; komi = komi; rule = rule; start = start.colours; first = first; moves = map made_of steps }
+abbrev pub standing_of : Start → List Step → Standing
+standing_of s steps = record { lines = s.lines; komi = s.komi; rule = s.rule; start = s.colours; first = s.first; moves = map made_of steps }
 
 -- the board went through the moves from cells that say the start
-pub record IsTracked (start : GridValue) (moves : List Move) (board : BoardValue) (log : List (List Change)) : Type 0 where
-  pub lines : board.lines ≡ start.lines
+pub record IsTracked (n : ℕ) (start : Colouring) (moves : List Move) (board : BoardValue) (log : List (List Change)) : Type 0 where
+  pub lines : board.lines ≡ n
   pub first : List ℕ
-  pub kept : IsKept start.lines first
-  pub begun : colouring_of start.lines first ≡ start.colours
-  pub went : WentThrough start.lines first moves log board.cells
+  pub kept : IsKept n first
+  pub begun : colouring_of n first ≡ start
+  pub went : WentThrough n first moves log board.cells
 
 -- the steps are those of a sound standing, and the counts are its prisoners
-pub record IsHeld (rule : Superko) (start : GridValue) (komi : ℤ) (first : Colour) (steps : List Step) (black white : ℕ) : Type 0 where
+pub record IsHeld (start : Start) (steps : List Step) (black white : ℕ) : Type 0 where
   pub played : ArePlayed start.lines start.colours steps
-  pub sound : IsSound (standing_of rule start komi first steps)
-  pub black_taken : black ≡ prisoners_of (standing_of rule start komi first steps) Black
-  pub white_taken : white ≡ prisoners_of (standing_of rule start komi first steps) White
+  pub sound : IsSound (standing_of start steps)
+  pub black_taken : black ≡ prisoners_of (standing_of start steps) Black
+  pub white_taken : white ≡ prisoners_of (standing_of start steps) White
 
 -- all that a game keeps
-pub record IsKeeping (rule : Superko) (start : GridValue) (komi : ℤ) (first : Colour) (steps : List Step) (board : BoardValue) (log : List (List Change)) (history : HistoryValue) (black white : ℕ) : Type 0 where
-  pub held : IsHeld rule start komi first steps black white
-  pub tracked : IsTracked start (map made_of steps) board log
-  pub told : StandsFor (start.lines * start.lines) history (stood_of (standing_of rule start komi first steps))
+pub record IsKeeping (start : Start) (steps : List Step) (board : BoardValue) (log : List (List Change)) (history : HistoryValue) (black white : ℕ) : Type 0 where
+  pub held : IsHeld start steps black white
+  pub tracked : IsTracked start.lines start.colours (map made_of steps) board log
+  pub told : StandsFor (start.lines * start.lines) history (stood_of (standing_of start steps))

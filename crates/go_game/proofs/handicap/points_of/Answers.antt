@@ -15,4 +15,24 @@ pub returns : goal.returns
 unfolding handicap_points
 returns c =
     let four = take_four (corners c.args.lines) c.args.number refl in
-    simp (c.push_where-4.ensures.items, c.push_where-3.ensures.items, c.push_where-2.ensures.items, c.push_where.ensures.items, c.new-points.ensures, c.split_at.ensures.front, c.first_of.ensures, c.takes_centre.ensures, c.at.ensures, c.at-2.ensures, c.at-3.ensures, c.at-4.ensures, c.at-5.ensures, c.at-6.ensures, c.at-7.ensures, c.at-8.ensures, c.at-9.ensures, c.near_line-near.ensures.line, four)
+    simp (
+      c.push_where-4.ensures.items,
+      c.push_where-3.ensures.items,
+      c.push_where-2.ensures.items,
+      c.push_where.ensures.items,
+      c.new-points.ensures,
+      c.split_at.ensures.front,
+      c.first_of.ensures,
+      c.takes_centre.ensures,
+      c.at.ensures,
+      c.at-2.ensures,
+      c.at-3.ensures,
+      c.at-4.ensures,
+      c.at-5.ensures,
+      c.at-6.ensures,
+      c.at-7.ensures,
+      c.at-8.ensures,
+      c.at-9.ensures,
+      c.near_line-near.ensures.line,
+      four,
+    )

@@ -31,7 +31,8 @@ loop-number-preserved g c =
       lines = c.put_stone.ensures.lines;
       kept = c.put_stone.ensures.kept;
       front = c.in_ok-put_stone.ensures.front;
-      writes = next_below (most_to_put c.args.grid.now) c.loop-number.number (n * n) (length c.loop-number.board.trace) (length c.put_stone.new.board.trace) (length c.args.board.now.trace + most_to_fill c.args.grid.now)
+      writes = next_below (most_to_put c.args.grid.now) c.loop-number.number (n * n) (length c.loop-number.board.trace)
+          (length c.put_stone.new.board.trace) (length c.args.board.now.trace + most_to_fill c.args.grid.now)
           low c.loop-number.invariant.writes c.put_stone.ensures.writes;
     }
 
@@ -42,6 +43,7 @@ returns-in_err-put_stone-clause-writes g c =
     let low : c.loop-number.number < n * n = omega (arith, c.loop-number-test.true, c.points-number-end.ensures.value, square) in
     omega (
       arith,
-      next_below (most_to_put c.args.grid.now) c.loop-number.number (n * n) (length c.loop-number.board.trace) (length c.put_stone.new.board.trace) (length c.args.board.now.trace + most_to_fill c.args.grid.now)
+      next_below (most_to_put c.args.grid.now) c.loop-number.number (n * n) (length c.loop-number.board.trace)
+          (length c.put_stone.new.board.trace) (length c.args.board.now.trace + most_to_fill c.args.grid.now)
           low c.loop-number.invariant.writes c.put_stone.ensures.writes,
     )

@@ -17,7 +17,7 @@ invariant_of-self-2 g c =
     let start = c.copy-self-inside.result in
     let same = c.copy-self-inside.ensures in
     let none = ap (λ (v : GameValue). v.standing.moves) c.self.view_is ∙ ap (λ (s : Standing). s.moves) c.resize.ensures.start in (
-      keeping_anew c.packs_tell_colourings_apart.ensures i.superko i.start i.komi i.first i.steps.items i.board i.log i.history i.prisoners.black i.prisoners.white c.self.invariant.0 none
+      keeping_anew c.packs_tell_colourings_apart.ensures c.self.invariant.0 none
           start c.args.first c.fill.new.board c.restart.new.self c.key-key.result
           (subst (λ (v : GridValue). (0 < v.lines) × (v.lines ≤ MAX_LINES)) (sym same) c.fill.ensures.size)
           (subst (λ (v : GridValue). length v.colours ≡ v.lines * v.lines) (sym same) c.fill.ensures.whole)

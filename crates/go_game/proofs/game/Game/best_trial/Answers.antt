@@ -22,7 +22,8 @@ loop-number-preserved g c =
       same = again_as_before c.args.self.now c.loop-number.self c.try_at.new.self c.loop-number.invariant.same c.in_ok-trial.ensures.same;
       best = best_more s c.loop-number.self.standing c.args.colour i c.loop-number.best c.in_ok-trial.trial c.better_of-best.result c.loop-number.invariant.same.standing c.loop-number.invariant.best
           (c.in_ok-trial.ensures.ok ∙ there) c.better_of-best.ensures;
-      count = next_fourfold (most_on s c.args.colour) i (s.lines * s.lines) c.loop-number.self.count c.try_at.new.self.count (c.args.self.now.count + 4 * most_on_all s c.args.colour) low c.loop-number.invariant.count tried;
+      count = next_fourfold (most_on s c.args.colour) i (s.lines * s.lines) c.loop-number.self.count
+          c.try_at.new.self.count (c.args.self.now.count + 4 * most_on_all s c.args.colour) low c.loop-number.invariant.count tried;
     }
 
 pub returns-in_err-trial-clause-count : goal.returns-in_err-trial-clause-count
@@ -35,4 +36,8 @@ returns-in_err-trial-clause-count g c =
     let number : number_of c.loop-number.self.standing.lines c.numbered.result ≡ i = ap (λ m. number_of m c.numbered.result) (sym size) ∙ c.numbered.ensures.back in
     let tried = subst (λ (t : Standing). let few : Type 0 = c.try_at.new.self.count ≤ c.loop-number.self.count + 4 * most_on t c.args.colour i in few) c.loop-number.invariant.same.standing
     (subst (λ (k : ℕ). let few : Type 0 = c.try_at.new.self.count ≤ c.loop-number.self.count + 4 * most_on c.loop-number.self.standing c.args.colour k in few) number c.try_at.ensures.count) in
-    omega (arith, next_fourfold (most_on s c.args.colour) i (s.lines * s.lines) c.loop-number.self.count c.try_at.new.self.count (c.args.self.now.count + 4 * most_on_all s c.args.colour) low c.loop-number.invariant.count tried)
+    omega (
+      arith,
+      next_fourfold (most_on s c.args.colour) i (s.lines * s.lines) c.loop-number.self.count
+          c.try_at.new.self.count (c.args.self.now.count + 4 * most_on_all s c.args.colour) low c.loop-number.invariant.count tried,
+    )

@@ -19,7 +19,9 @@ returns-in-Some-clause-ok g c =
     let fits : SFits w32 c.in-Some.best.lead = search rules in
     let present_fits : SFits w32 c.lead-present.result = search rules in
     let lead = kept c.in-Some.best.lead fits in
-    let present = kept_is c.lead-present.result (lead_of c.args.self.now.standing c.args.colour) present_fits (c.lead-present.ensures c.args.self.now.standing.lines (board_of c.args.self.now.standing) c.args.colour c.holdings-holdings.ensures) in
+    let present = kept_is c.lead-present.result (lead_of c.args.self.now.standing c.args.colour) present_fits
+    (c.lead-present.ensures c.args.self.now.standing.lines (board_of c.args.self.now.standing) c.args.colour
+    c.holdings-holdings.ensures) in
     chosen_play c.args.self.now.standing c.args.colour c.in_ok-best.field-0 c.in-Some.best (to_z w32 (of_z w32 c.lead-present.result)) (to_z w32 (of_z w32 c.in-Some.best.lead))
     c.in-Some.is c.in_ok-best.ensures.ok present lead c.if-best-present.true
 
@@ -28,7 +30,9 @@ returns-in_default-clause-ok g c =
     let fits : SFits w32 c.in-Some.best.lead = search rules in
     let present_fits : SFits w32 c.lead-present.result = search rules in
     let lead = kept c.in-Some.best.lead fits in
-    let present = kept_is c.lead-present.result (lead_of c.args.self.now.standing c.args.colour) present_fits (c.lead-present.ensures c.args.self.now.standing.lines (board_of c.args.self.now.standing) c.args.colour c.holdings-holdings.ensures) in
+    let present = kept_is c.lead-present.result (lead_of c.args.self.now.standing c.args.colour) present_fits
+    (c.lead-present.ensures c.args.self.now.standing.lines (board_of c.args.self.now.standing) c.args.colour
+    c.holdings-holdings.ensures) in
     chosen_pass c.args.self.now.standing c.args.colour c.in_ok-best.field-0 c.in-Some.best (to_z w32 (of_z w32 c.lead-present.result)) (to_z w32 (of_z w32 c.in-Some.best.lead))
     c.in-Some.is c.in_ok-best.ensures.ok present lead c.if-best-present.false
 

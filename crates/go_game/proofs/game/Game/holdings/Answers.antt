@@ -8,6 +8,6 @@ use Rattle.go_game.proofs.game.Game.holdings.Goals as goal
 pub returns : goal.returns
 returns g c =
     let f : ℕ → Colouring → ℕ × Colouring = λ n k. (n, k) in
-    let seen = seen_as f c.self.inside.superko c.self.inside.start c.self.inside.komi c.self.inside.first c.self.inside.steps.items c.self.inside.board c.self.inside.log c.self.inside.history c.self.inside.prisoners.black c.self.inside.prisoners.white c.self.invariant.0
+    let seen = seen_as f c.self.invariant.0
     ∙ ap (λ (v : GameValue). f v.standing.lines (board_of v.standing)) c.self.view_is in
     subst (λ (p : ℕ × Colouring). AreHoldings p.0 p.1 c.args.colour c.new.result) seen c.new.ensures

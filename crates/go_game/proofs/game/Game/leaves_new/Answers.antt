@@ -30,7 +30,7 @@ pub returns : goal.returns
 returns g c =
     let playable = subst (λ (v : GameValue). IsPlayable v.standing.lines (board_of v.standing) (At c.args.p)) (sym c.self.view_is) (c.requires.on, c.requires.vacant) in
     let quiet = subst (λ (v : GameValue). IsStill v c.args.colour c.args.p) (sym c.self.view_is) c.requires.quiet in
-    let known = new_on c.self.inside.superko c.self.inside.start c.self.inside.komi c.self.inside.first c.self.inside.steps.items c.self.inside.board c.self.inside.log c.self.inside.history c.self.inside.prisoners.black c.self.inside.prisoners.white c.self.invariant.0 c.args.colour c.args.p
+    let known = new_on c.self.invariant.0 c.args.colour c.args.p
     c.key-key.result (ap bytes_of c.key-key.ensures.pack ∙ c.pack_with-pack.ensures) (c.key-key.ensures.mover ∙ ap (mover_by c.self.inside.superko) c.other.ensures)
     quiet playable c.look_up.result c.look_up.ensures in
     none_is c.look_up.result c.is_none.result c.is_none.ensures ∙ known ∙ ap (λ (v : GameValue). is_legal v.standing c.args.colour (At c.args.p)) c.self.view_is

@@ -18,7 +18,7 @@ pub returns-clause-colours : goal.returns-clause-colours
 returns-clause-colours g c =
     let t = c.self.invariant.0.tracked in
     subst (λ (v : GameValue). colouring_of v.standing.lines v.cells ≡ board_of v.standing) c.self.view_is
-    (ap (λ n. colouring_of n c.self.inside.board.cells) (sym t.lines) ∙ grid_is c.self.inside.start (map made_of c.self.inside.steps.items) c.self.inside.board c.self.inside.log t)
+    (ap (λ n. colouring_of n c.self.inside.board.cells) (sym t.lines) ∙ grid_is t)
 
 pub returns-clause-changes : goal.returns-clause-changes
 returns-clause-changes g c =

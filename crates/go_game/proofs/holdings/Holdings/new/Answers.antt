@@ -15,8 +15,26 @@ returns-in-Black c =
     let stones = c.stones-stones.ensures in
     let black = subst (λ (k : ℕ). AreStones k g Black c.stones-stones.result.black) (sym lines) stones.black in
     let white = subst (λ (k : ℕ). AreStones k g White c.stones-stones.result.white) (sym lines) stones.white in
-    subst (λ (d : Colour). AreHoldings n g d (let h : Holdings = record { own = c.stones-stones.result.black; theirs = c.stones-stones.result.white; own_held = c.held-black_held.result; theirs_held = c.held-white_held.result; own_area = c.count_alone-black_area.result; theirs_area = c.count_alone-white_area.result } in h)) (sym c.in-Black.is)
-    (subst (λ (k : ℕ). AreHoldings k g Black (let h : Holdings = record { own = c.stones-stones.result.black; theirs = c.stones-stones.result.white; own_held = c.held-black_held.result; theirs_held = c.held-white_held.result; own_area = c.count_alone-black_area.result; theirs_area = c.count_alone-white_area.result } in h)) lines
+    subst (λ (d : Colour). AreHoldings n g d (let h : Holdings =
+    record {
+      own = c.stones-stones.result.black;
+      theirs = c.stones-stones.result.white;
+      own_held =
+          c.held-black_held.result;
+      theirs_held = c.held-white_held.result;
+      own_area = c.count_alone-black_area.result;
+      theirs_area = c.count_alone-white_area.result;
+    } in h)) (sym c.in-Black.is)
+    (subst (λ (k : ℕ). AreHoldings k g Black (let h : Holdings =
+    record {
+      own = c.stones-stones.result.black;
+      theirs = c.stones-stones.result.white;
+      own_held =
+          c.held-black_held.result;
+      theirs_held = c.held-white_held.result;
+      own_area = c.count_alone-black_area.result;
+      theirs_area = c.count_alone-white_area.result;
+    } in h)) lines
     (record {
       whole = subst (λ (k : ℕ). length g ≡ k * k) (sym (c.from-lines.ensures ∙ c.lines.ensures.value)) c.size.ensures.whole;
       own = black;
@@ -35,8 +53,26 @@ returns-in-White c =
     let stones = c.stones-stones.ensures in
     let black = subst (λ (k : ℕ). AreStones k g Black c.stones-stones.result.black) (sym lines) stones.black in
     let white = subst (λ (k : ℕ). AreStones k g White c.stones-stones.result.white) (sym lines) stones.white in
-    subst (λ (d : Colour). AreHoldings n g d (let h : Holdings = record { own = c.stones-stones.result.white; theirs = c.stones-stones.result.black; own_held = c.held-white_held.result; theirs_held = c.held-black_held.result; own_area = c.count_alone-white_area.result; theirs_area = c.count_alone-black_area.result } in h)) (sym c.in-White.is)
-    (subst (λ (k : ℕ). AreHoldings k g White (let h : Holdings = record { own = c.stones-stones.result.white; theirs = c.stones-stones.result.black; own_held = c.held-white_held.result; theirs_held = c.held-black_held.result; own_area = c.count_alone-white_area.result; theirs_area = c.count_alone-black_area.result } in h)) lines
+    subst (λ (d : Colour). AreHoldings n g d (let h : Holdings =
+    record {
+      own = c.stones-stones.result.white;
+      theirs = c.stones-stones.result.black;
+      own_held =
+          c.held-white_held.result;
+      theirs_held = c.held-black_held.result;
+      own_area = c.count_alone-white_area.result;
+      theirs_area = c.count_alone-black_area.result;
+    } in h)) (sym c.in-White.is)
+    (subst (λ (k : ℕ). AreHoldings k g White (let h : Holdings =
+    record {
+      own = c.stones-stones.result.white;
+      theirs = c.stones-stones.result.black;
+      own_held =
+          c.held-white_held.result;
+      theirs_held = c.held-black_held.result;
+      own_area = c.count_alone-white_area.result;
+      theirs_area = c.count_alone-black_area.result;
+    } in h)) lines
     (record {
       whole = subst (λ (k : ℕ). length g ≡ k * k) (sym (c.from-lines.ensures ∙ c.lines.ensures.value)) c.size.ensures.whole;
       own = white;
