@@ -1,4 +1,4 @@
-use Rattle.std.proofs.Common.{arith, ◌≡◌, ◌+◌, ◌∙◌, suc, inl, inr, ap, sym}
+use Rattle.std.proofs.Common.{arith, rules, ◌≡◌, ◌+◌, ◌∙◌, suc, inl, inr, ap, sym}
 use Rattle.std.proofs.lemmas.Bool.{cases_lt}
 use Rattle.go_chains.specs.Cells.{next_of}
 use Rattle.go_chains.specs.inner.Rings.{steps}
@@ -25,3 +25,6 @@ loop-preserved c =
         ],
       );
     }
+
+pub loop-init : goal.loop-init
+loop-init c = search rules

@@ -8,3 +8,6 @@ has_other-lives-requires-clause-label g c =
 
 pub returns-in-true-true-clause-count : goal.returns-in-true-true-clause-count
 returns-in-true-true-clause-count g c = search rules
+
+pub returns-in-true-true-clause-outlook : goal.returns-in-true-true-clause-outlook
+returns-in-true-true-clause-outlook g c = search rules

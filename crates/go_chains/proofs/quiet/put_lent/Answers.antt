@@ -1,5 +1,8 @@
 use Rattle.std.proofs.Common.{arith, ◌≡◌, inl, inr, sym, subst, ℕ, List, slice_index}
 use Rattle.std.proofs.lemmas.Bool.{cases_eq}
+use Rattle.go_board.specs.Paths.{IsAdjacent}
+use Rattle.go_board.specs.PointSets.{HasPoint}
+use Rattle.go_board.specs.lemmas.Squares.{square-le}
 use Rattle.go_chains.specs.Cells.{code_at, label_of, lib_of}
 use Rattle.go_chains.proofs.quiet.put_lent.Goals as goal
 
@@ -53,3 +56,27 @@ returns-clause-lent g c q low =
         ]),
       ),
     )
+
+pub loop-near-init : goal.loop-near-init
+loop-near-init g c =
+    let cells = c.args.cells.now.numbers in
+    let n = c.args.size in
+    let beside = c.requires.beside in
+    let marks = c.put_empty.ensures.marks in
+    let count = c.put_empty.ensures.count in
+    let few = beside.few in
+    record {
+      lent = λ q low. (
+        λ set. (let only = marks.only q (omega (arith, low, square-le n (omega arith))) set in
+            inl (subst (IsAdjacent n c.args.point) only.0.2 (beside.are only.0.0 only.0.1), only.1)),
+        λ either. elim either [
+          | inl empty ↦
+              let at = beside.all q empty.0 in
+              let free = subst (λ (p : ℕ). code_at cells p ≡ 0) (sym at.2) empty.1 in
+              subst (HasPoint c.put_empty.new.set) at.2 (marks.are at.0 at.1 free)
+          | inr lends ↦ absurd (omega (arith, lends.1))
+        ],
+      );
+      count = omega (arith, count, few);
+      onward = omega (arith, count);
+    }

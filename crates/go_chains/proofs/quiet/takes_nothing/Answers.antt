@@ -1,4 +1,4 @@
-use Rattle.std.proofs.Common.{arith, true≢false, ◌∙◌, inl, inr, sym, subst, ℕ, List, slice_index}
+use Rattle.std.proofs.Common.{arith, rules, true≢false, ◌∙◌, inl, inr, sym, subst, ℕ, List, slice_index}
 use Rattle.std.proofs.lemmas.Bool.{cases_eq}
 use Rattle.go_chains.specs.inner.Quiet.{BreathesAt, StaysAt}
 use Rattle.go_chains.proofs.quiet.takes_nothing.Goals as goal
@@ -41,3 +41,6 @@ loop-near-preserved g c =
         onward = omega (arith, kept.onward, c.outlook_on.ensures.onward);
       }
     ]
+
+pub loop-near-init : goal.loop-near-init
+loop-near-init g c = search rules
