@@ -1,4 +1,4 @@
-use Rattle.std.proofs.Common.{arith, ◌≡◌, ◌∙◌, ℕ, ap, refl}
+use Rattle.std.proofs.Common.{arith, ◌≡◌, ◌∙◌, ℕ, ap, refl, rules}
 use Rattle.std.specs.Fmt.{digits}
 use Rattle.std.specs.Prelude.{ℤ, pos, negsuc, ◌≤ℤ◌}
 use Rattle.std.proofs.lemmas.Int.{ints}
@@ -18,3 +18,6 @@ returns c =
     let low : pos 0 ≤ℤ c.args.margin = omega (arith, ints, c.if-margin-lt0.false) in
     let high : c.args.margin ≤ℤ pos 0 = omega (arith, ints, c.if-margin-gt0.false) in
     c.sized-2.ensures ∙ even c.args.margin low high
+
+pub returns-then-margin-lt0 : goal.returns-then-margin-lt0
+returns-then-margin-lt0 c = search rules

@@ -9,3 +9,6 @@ returns-in_default-clause-size g c = search rules
 
 pub returns-then-is_ok-clause-done : goal.returns-then-is_ok-clause-done
 returns-then-is_ok-clause-done g c = search rules
+
+pub returns-in_default-clause-no_text : goal.returns-in_default-clause-no_text
+returns-in_default-clause-no_text g c = search rules

@@ -6,3 +6,6 @@ returns-in-Err-Read-clause-fault g c = search rules
 
 pub returns-in-Ok-clause-done : goal.returns-in-Ok-clause-done
 returns-in-Ok-clause-done g c = search rules
+
+pub returns : goal.returns
+returns g c = search rules

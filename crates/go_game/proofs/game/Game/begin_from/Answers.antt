@@ -34,3 +34,6 @@ invariant_of-self g c = search rules
 
 pub returns-in_default-fill-clause-memory : goal.returns-in_default-fill-clause-memory
 returns-in_default-fill-clause-memory g c = search rules
+
+pub returns-in_default-fill-clause-writes : goal.returns-in_default-fill-clause-writes
+returns-in_default-fill-clause-writes g c = search rules

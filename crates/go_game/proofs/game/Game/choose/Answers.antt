@@ -38,3 +38,6 @@ returns-in_default-clause-ok g c =
 
 pub returns-in_default-2-clause-ok : goal.returns-in_default-2-clause-ok
 returns-in_default-2-clause-ok g c = chosen_none c.args.self.now.standing c.args.colour c.in_ok-best.field-0 c.in_default.is c.in_ok-best.ensures.ok
+
+pub returns-in_default-clause-count : goal.returns-in_default-clause-count
+returns-in_default-clause-count g c = search rules

@@ -97,3 +97,6 @@ returns-in-Err-clause-memory g c = (
 
 pub returns-in-Err-clause-err : goal.returns-in-Err-clause-err
 returns-in-Err-clause-err g c = search rules
+
+pub returns-else-new-clause-judged : goal.returns-else-new-clause-judged
+returns-else-new-clause-judged g c = search rules

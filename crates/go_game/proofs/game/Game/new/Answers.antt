@@ -1,4 +1,4 @@
-use Rattle.std.proofs.Common.{arith, ◌∙◌, ap, map}
+use Rattle.std.proofs.Common.{arith, ◌∙◌, ap, map, rules}
 use Rattle.go_board.specs.PackBytes.{bytes_of}
 use Rattle.go_game.specs.declared.superko.Superko.TheVariants.{Positional}
 use Rattle.go_board.specs.declared.colour.Colour.TheVariants.{Black}
@@ -14,3 +14,6 @@ invariant_of-result g c = (
       c.new.ensures.lines c.new.ensures.colours c.new.ensures.kept c.new-2.ensures c.new-4.ensures.items c.new-history.ensures (ap bytes_of c.key.ensures.pack ∙ c.pack.ensures, c.key.ensures.mover),
   placed_start Positional c.new-start.result.lines c.new-start.result.colours Black c.none.result (map made_of c.new-4.result.items) (ap (map made_of) c.new-4.ensures.items),
 )
+
+pub returns-clause-count : goal.returns-clause-count
+returns-clause-count g c = search rules

@@ -12,3 +12,6 @@ returns-in-Pass-clause-costs g c = search rules
 
 pub returns-in-Pass-clause-played : goal.returns-in-Pass-clause-played
 returns-in-Pass-clause-played g c = search rules
+
+pub returns-clause-repeats : goal.returns-clause-repeats
+returns-clause-repeats g c = search rules

@@ -1,4 +1,4 @@
-use Rattle.std.proofs.Common.{arith, ◌≡◌, subst, to_z, of_z, w32}
+use Rattle.std.proofs.Common.{arith, ◌≡◌, subst, to_z, of_z, w32, rules}
 use Rattle.std.proofs.lemmas.Int.{ints}
 use Rattle.go_board.specs.declared.vertex.Move.{Move}
 use Rattle.go_board.specs.declared.vertex.Vertex.TheVariants.{At}
@@ -33,3 +33,6 @@ returns-in-Played-clause-count g c =
     let back : IsTakenBack c.judge.new.self c.undo.new.self = taken_some _ s c.judge.new.self.standing made c.undo.result played.2 c.undo.ensures.none c.undo.ensures.back in
     let less = back_count c.args.self.now c.judge.new.self c.undo.new.self made (most_for s c.args.colour (At c.args.point)) played.2 played.3 c.undo.ensures.after back in
     omega (arith, less, played.4)
+
+pub returns-in-Quiet-clause-same : goal.returns-in-Quiet-clause-same
+returns-in-Quiet-clause-same g c = search rules

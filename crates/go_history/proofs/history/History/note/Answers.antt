@@ -1,5 +1,5 @@
 use Rattle.std.specs.Map.{lookup}
-use Rattle.std.proofs.Common.{◌≡◌, ◌∙◌, ◌++◌, ℕ, Option, Some, ap, cond, sym}
+use Rattle.std.proofs.Common.{◌≡◌, ◌∙◌, ◌++◌, ℕ, Option, Some, ap, cond, sym, rules}
 use Rattle.go_history.specs.Keys.{key_eq}
 use Rattle.go_history.specs.Histories.{HistoryValue, later_at, number_at}
 use Rattle.go_history.proofs.Noting.{alike, if_ok, in_first, in_further, noted_further, past_start}
@@ -27,3 +27,6 @@ returns-clause-noted g c is = (
       (sym (alike c.self.inside.first.entries c.args.key.now) ∙ sym c.get.ensures.value ∙ sym c.copied.ensures ∙ c.in_default.is) (c.note.ensures.noted is) q
       ∙ ap (λ (v : HistoryValue). cond (key_eq c.args.key.now q) (Some c.args.number) (later_at v q)) c.self.view_is,
 )
+
+pub returns-then-eq-clause-known : goal.returns-then-eq-clause-known
+returns-then-eq-clause-known g c = search rules
