@@ -125,18 +125,27 @@ fn judge_to(alloc: Global, text: &[u8], digest: &mut Digest) -> Result<(), ToolE
 
 /// Tidies collections of records that are drawn once.
 fn tidy_all(alloc: Global, times: u32, random: &mut Random, digest: &mut Digest) -> Option<()> {
+    let drawn = drawn_records(alloc, random).ok()?;
+    for _ in 0..times {
+        let text = collection(alloc, &drawn, random).ok()?;
+        tidy(alloc, text.as_slice(), digest)?;
+    }
+    Some(())
+}
+
+fn tidy(alloc: Global, text: &[u8], digest: &mut Digest) -> Option<()> {
+    tidy_run(alloc, &mut Input::new(text), &mut Output::new(digest)).ok()
+}
+
+/// The records of which collections are made.
+fn drawn_records(alloc: Global, random: &mut Random) -> Result<Vec<Vec<u8>>, AllocError> {
     let mut drawn = Vec::new(alloc);
     for _ in 0..DRAWN {
         let mut text = Vec::new(alloc);
-        put_record(&mut text, random).ok()?;
-        drawn.push(text).ok()?;
+        put_record(&mut text, random)?;
+        drawn.push(text)?;
     }
-    for _ in 0..times {
-        let text = collection(alloc, &drawn, random).ok()?;
-        let mut output = Output::new(&mut *digest);
-        tidy_run(alloc, &mut Input::new(text.as_slice()), &mut output).ok()?;
-    }
-    Some(())
+    Ok(drawn)
 }
 
 /// Records one behind the other.

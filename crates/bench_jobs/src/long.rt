@@ -62,16 +62,20 @@ pub fn play_long(
         refused: 0,
         alloc,
     };
-    for number in 0..moves {
-        play.put_any(number, random)?;
-    }
-    play.say(b"showboard")?;
-    let left = play.session.game().move_count();
-    play.take_back(left)?;
-    play.say(b"showboard")
+    play.there_and_back(moves, random)
 }
 
 impl Play<'_> {
+    fn there_and_back(&mut self, moves: u32, random: &mut Random) -> Result<(), LongError> {
+        for number in 0..moves {
+            self.put_any(number, random)?;
+        }
+        self.say(b"showboard")?;
+        let left = self.session.game().move_count();
+        self.take_back(left)?;
+        self.say(b"showboard")
+    }
+
     fn say(&mut self, line: &[u8]) -> Result<(), LongError> {
         self.line.clear();
         self.line.extend(line);
