@@ -3,7 +3,7 @@
 use crate::loads::{Gift, OneFile, answers_over};
 use crate::rows::KO_AFTER_PASSES;
 use crate::scripts::ends;
-use crate::sessions::told;
+use crate::sessions::{begun, told};
 use go_board::{MAX_LINES, Point, Size, Vertex, vertex_text};
 use goref::{Session, run};
 use std::alloc::{AllocError, Global};
@@ -14,11 +14,6 @@ use test_devices::{Reader, Writer};
 /// Whether a session accepts a line.
 fn accepts(rt: &impl Abort, alloc: Global, session: &mut Session<Global>, line: &[u8]) -> bool {
     told(rt, alloc, session, line).is_ok()
-}
-
-/// A session on a board of so many lines.
-fn begun(rt: &impl Abort, alloc: Global, lines: u8) -> Session<Global> {
-    Session::new(alloc, Size::new(lines).expect(rt, "a size"))
 }
 
 /// Lines that are accepted on a board of any size. On a single point all moves are passes.
@@ -85,16 +80,16 @@ fn takes_stones(
     Ok(())
 }
 
+/// Asserts the same of each handicap on a board of so many lines.
+fn takes_handicaps(rt: &impl Abort, alloc: Global, lines: u8) -> Result<(), Fail> {
+    let mut session = begun(rt, alloc, lines);
+    takes_stones(rt, alloc, &mut session, most_stones(lines))
+}
+
 #[test]
 fn each_handicap(rt: HostRuntime) -> Result<(), Fail> {
-    let alloc = rt.alloc();
     for lines in 1..=MAX_LINES {
-        takes_stones(
-            &rt,
-            alloc,
-            &mut begun(&rt, alloc, lines),
-            most_stones(lines),
-        )?;
+        takes_handicaps(&rt, rt.alloc(), lines)?;
     }
     Ok(())
 }
@@ -136,12 +131,17 @@ fn takes_lists(
     Ok(())
 }
 
+/// Asserts the same on a board of so many lines.
+fn takes_lists_on(rt: &impl Abort, alloc: Global, lines: u8) -> Result<(), AllocError> {
+    let size = Size::new(lines).expect(rt, "a size");
+    let mut session = Session::new(alloc, size);
+    takes_lists(rt, alloc, &mut session, size)
+}
+
 #[test]
 fn lists_of_handicap_stones(rt: HostRuntime) -> Result<(), Fail> {
-    let alloc = rt.alloc();
     for lines in 2..=MAX_LINES {
-        let size = Size::new(lines).expect(&rt, "a size");
-        takes_lists(&rt, alloc, &mut begun(&rt, alloc, lines), size)?;
+        takes_lists_on(&rt, rt.alloc(), lines)?;
     }
     Ok(())
 }
@@ -161,24 +161,29 @@ fn fill_with_white(
     Ok(())
 }
 
-/// What chains a session has after a play of Black.
+/// What chains there are once White has all points but the first, and Black plays there.
 fn chains_after(
     rt: &impl Abort,
     alloc: Global,
     session: &mut Session<Global>,
+    size: Size,
 ) -> Result<Vec<u8>, AllocError> {
+    fill_with_white(rt, alloc, session, size)?;
     assert!(rt; accepts(rt, alloc, session, b"play b a1"));
     told(rt, alloc, session, b"goref-chains")
+}
+
+/// The same on a new board of so many lines.
+fn chains_after_capture(rt: &impl Abort, alloc: Global, lines: u8) -> Result<Vec<u8>, AllocError> {
+    let size = Size::new(lines).expect(rt, "a size");
+    let mut session = Session::new(alloc, size);
+    chains_after(rt, alloc, &mut session, size)
 }
 
 /// White has 48 of 49 points, and Black takes them all.
 #[test]
 fn a_large_capture(rt: HostRuntime) -> Result<(), Fail> {
-    let alloc = rt.alloc();
-    let mut session = begun(&rt, alloc, 7);
-    let size = Size::new(7).expect(&rt, "a size");
-    fill_with_white(&rt, alloc, &mut session, size)?;
-    let chains = chains_after(&rt, alloc, &mut session)?;
+    let chains = chains_after_capture(&rt, rt.alloc(), 7)?;
     assert!(rt; chains.as_slice() == b" B A1 : B1 A2".as_slice());
     Ok(())
 }

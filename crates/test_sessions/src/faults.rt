@@ -2,8 +2,7 @@
 //! front of its answers. And what a session answers after a fault.
 use crate::rows::CAPTURE;
 use crate::scripts::ends;
-use crate::sessions::{Answered, answers, fails_at};
-use go_board::Size;
+use crate::sessions::{Answered, answers, begun, fails_at};
 use goref::{RunError, Session};
 use std::alloc::Global;
 use std::process::Abort;
@@ -185,8 +184,10 @@ fn breaks(alloc: Global, session: &mut Session<Global>, row: &Broken, put: u64) 
 /// Asserts what is answered before and behind an answer that fails at each write in turn.
 fn each_breaks(rt: &impl Abort, alloc: Global, row: &Broken) {
     for put in 1..=row.failing.1.len() as u64 {
-        let mut session = Session::new(alloc, Size::new(2).expect(rt, "a size"));
-        assert!(rt; breaks(alloc, &mut session, row, put), "write {put}");
+        assert!(rt;
+            breaks(alloc, &mut begun(rt, alloc, 2), row, put),
+            "write {put}"
+        );
     }
 }
 

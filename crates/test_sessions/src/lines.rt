@@ -1,6 +1,5 @@
-use crate::sessions::answers_line;
-use go_board::Size;
-use goref::{Line, Session};
+use crate::sessions::{answers_line, begun};
+use goref::Line;
 use std::alloc::Global;
 use std::process::Abort;
 
@@ -82,9 +81,7 @@ fn a_line_is_used_again(rt: HostRuntime) {
 
 /// Whether a line is answered so over an empty board.
 fn answers(rt: &impl Abort, alloc: Global, line: &Line, text: &[u8]) -> bool {
-    let size = Size::new(19).expect(rt, "a size");
-    let mut session = Session::new(alloc, size);
-    answers_line(alloc, &mut session, line, text)
+    answers_line(alloc, &mut begun(rt, alloc, 19), line, text)
 }
 
 /// Lines, and what they are answered.

@@ -1,7 +1,7 @@
 use crate::rows::{LOAD, PRINTED, Row};
-use crate::sessions::answers;
+use crate::sessions::{answers, begun};
 use go_board::Size;
-use goref::{Fetched, Session, Shelf, run};
+use goref::{Fetched, Shelf, run};
 use std::alloc::{AllocError, Allocator, Global};
 use std::process::Abort;
 use std::test::Fail;
@@ -361,10 +361,9 @@ fn a_refused_record_keeps_the_rule(rt: HostRuntime) {
 
 #[test]
 fn nothing_fetched(rt: HostRuntime) {
-    let mut session = Session::new(rt.alloc(), Size::new(19).expect(&rt, "a size"));
     let refusal = (
         b"loadsgf f".as_slice(),
         b"? cannot load file\n\n".as_slice(),
     );
-    assert!(rt; answers(rt.alloc(), &mut session, &[refusal]));
+    assert!(rt; answers(rt.alloc(), &mut begun(&rt, rt.alloc(), 19), &[refusal]));
 }

@@ -1,7 +1,7 @@
 //! Answers to a writer of fixed room, which takes each piece whole or nothing of it: what it holds is
 //! as many of an answer's first pieces as it has room for.
-use crate::sessions::{Answered, answers};
-use go_board::{Failed, Meter, Sink, Size, WriteFault};
+use crate::sessions::{Answered, answers, begun};
+use go_board::{Failed, Meter, Sink, WriteFault};
 use goref::{Fetched, Flow, Line, Session};
 use std::alloc::{AllocError, Global};
 use std::process::Abort;
@@ -124,16 +124,37 @@ fn first_pieces(
     Ok(text)
 }
 
-/// Asserts what a writer of this room holds of a row's answer.
-fn holds_pieces(rt: &impl Abort, alloc: Global, row: &Row, room: usize) -> Result<(), AllocError> {
-    let mut session = Session::new(alloc, Size::new(row.lines).expect(rt, "a size"));
-    assert!(rt; answers(alloc, &mut session, row.before));
+/// Answers a row's last line, once a session was told those before it.
+fn answer_last(
+    rt: &impl Abort,
+    alloc: Global,
+    session: &mut Session<Global>,
+    row: &Row,
+    writer: &mut TightWriter,
+) -> Result<Flow, WriteFault> {
+    assert!(rt; answers(alloc, session, row.before));
+    session.answer(&Line::of(row.asked), Fetched::None, writer)
+}
+
+/// Asserts what a writer of this room holds of a row's answer, of which there are so many bytes.
+fn holds_pieces(
+    rt: &impl Abort,
+    alloc: Global,
+    row: &Row,
+    room: usize,
+    length: usize,
+) -> Result<(), AllocError> {
     let mut writer = TightWriter::with_room(alloc, room);
-    let end = session.answer(&Line::of(row.asked), Fetched::None, &mut writer);
+    let end = answer_last(
+        rt,
+        alloc,
+        &mut begun(rt, alloc, row.lines),
+        row,
+        &mut writer,
+    );
     let held = first_pieces(alloc, row.pieces, room)?;
     assert!(rt; writer.bytes.as_slice() == held.as_slice(), "room {room}");
-    let whole = first_pieces(alloc, row.pieces, usize::MAX)?;
-    let wanted = if held.len() < whole.len() {
+    let wanted = if held.len() < length {
         Err(WriteFault)
     } else {
         Ok(Flow::More)
@@ -144,9 +165,9 @@ fn holds_pieces(rt: &impl Abort, alloc: Global, row: &Row, room: usize) -> Resul
 
 /// Asserts the same of each room up to that of the answer.
 fn holds_in_each_room(rt: &impl Abort, alloc: Global, row: &Row) -> Result<(), AllocError> {
-    let whole = first_pieces(alloc, row.pieces, usize::MAX)?;
-    for room in 0..=whole.len() {
-        holds_pieces(rt, alloc, row, room)?;
+    let length = first_pieces(alloc, row.pieces, usize::MAX)?.len();
+    for room in 0..=length {
+        holds_pieces(rt, alloc, row, room, length)?;
     }
     Ok(())
 }

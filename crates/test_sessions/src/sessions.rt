@@ -1,8 +1,13 @@
-use go_board::WriteFault;
+use go_board::{Size, WriteFault};
 use goref::{Fetched, Flow, Line, Session};
 use std::alloc::{AllocError, Global};
 use std::process::Abort;
 use test_devices::Writer;
+
+/// A session on a board of so many lines.
+pub(crate) fn begun(rt: &impl Abort, alloc: Global, lines: u8) -> Session<Global> {
+    Session::new(alloc, Size::new(lines).expect(rt, "a size"))
+}
 
 /// Answers a line, where no file was fetched for it.
 pub(crate) fn answered(
