@@ -51,18 +51,17 @@ fn notes(rt: &impl Abort, history: &mut History<Global>, notes: &[Note]) -> Resu
     Ok(())
 }
 
-#[test]
-fn what_is_noted_is_found(rt: HostRuntime) -> Result<(), Fail> {
-    let mut history = history_of(&rt, rt.alloc(), 300)?;
-    assert!(rt; history.note(&key_with(&rt, NO_STONE), 1)? == Some(0));
+/// Asserts that the first 300 stones are found, and the others not.
+fn first_are_found(rt: &impl Abort, history: &mut History<Global>) -> Result<(), Fail> {
+    assert!(rt; history.note(&key_with(rt, NO_STONE), 1)? == Some(0));
     // Asked once more, since to ask is to note.
     for number in (0..300u16).chain(0..300u16) {
-        let found = history.note(&key_with(&rt, number), 1)?;
+        let found = history.note(&key_with(rt, number), 1)?;
         assert!(rt; found == Some(usize::from(number) + 1), "stone {number}");
     }
     for number in 300..NO_STONE {
         assert!(rt;
-            history.note(&key_with(&rt, number), 1)?.is_none(),
+            history.note(&key_with(rt, number), 1)?.is_none(),
             "stone {number}"
         );
     }
@@ -70,32 +69,45 @@ fn what_is_noted_is_found(rt: HostRuntime) -> Result<(), Fail> {
 }
 
 #[test]
-fn what_is_taken_back_is_not_found(rt: HostRuntime) -> Result<(), Fail> {
-    let mut history = history_of(&rt, rt.alloc(), 300)?;
+fn what_is_noted_is_found(rt: HostRuntime) -> Result<(), Fail> {
+    first_are_found(&rt, &mut history_of(&rt, rt.alloc(), 300)?)
+}
+
+/// Takes back the second half of 300 stones, and asserts that the first alone is found.
+fn halves(rt: &impl Abort, history: &mut History<Global>) -> Result<(), Fail> {
     for number in 150..300u16 {
-        history.forget(&key_with(&rt, 449 - number));
+        history.forget(&key_with(rt, 449 - number));
     }
-    history.forget(&key_with(&rt, 320));
-    history.forget(&key_with(&rt, NO_STONE));
-    assert!(rt; history.note(&key_with(&rt, NO_STONE), 1)? == Some(0));
+    history.forget(&key_with(rt, 320));
+    history.forget(&key_with(rt, NO_STONE));
+    assert!(rt; history.note(&key_with(rt, NO_STONE), 1)? == Some(0));
     for number in 0..300u16 {
-        let found = history.note(&key_with(&rt, number), 1)?.is_some();
+        let found = history.note(&key_with(rt, number), 1)?.is_some();
         assert!(rt; found == (number < 150), "stone {number}");
     }
     Ok(())
 }
 
 #[test]
-fn begun_anew_the_start_alone_is_found(rt: HostRuntime) -> Result<(), Fail> {
-    let mut history = history_of(&rt, rt.alloc(), 40)?;
-    history.restart(key_with(&rt, 7));
+fn what_is_taken_back_is_not_found(rt: HostRuntime) -> Result<(), Fail> {
+    halves(&rt, &mut history_of(&rt, rt.alloc(), 300)?)
+}
+
+/// Begins anew, and asserts that the start alone is found.
+fn restarts(rt: &impl Abort, history: &mut History<Global>) -> Result<(), Fail> {
+    history.restart(key_with(rt, 7));
     for number in 0..NO_STONE {
-        let found = history.note(&key_with(&rt, number), 1)?.is_some();
+        let found = history.note(&key_with(rt, number), 1)?.is_some();
         assert!(rt; found == (number == 7), "stone {number}");
     }
-    assert!(rt; history.note(&key_with(&rt, NO_STONE), 1)?.is_none());
-    assert!(rt; history.note(&key_with(&rt, NO_STONE), 2)? == Some(1));
+    assert!(rt; history.note(&key_with(rt, NO_STONE), 1)?.is_none());
+    assert!(rt; history.note(&key_with(rt, NO_STONE), 2)? == Some(1));
     Ok(())
+}
+
+#[test]
+fn begun_anew_the_start_alone_is_found(rt: HostRuntime) -> Result<(), Fail> {
+    restarts(&rt, &mut history_of(&rt, rt.alloc(), 40)?)
 }
 
 /// Numbers that other keys have.
@@ -192,18 +204,23 @@ fn forget_thirds(rt: &impl Abort, history: &mut History<Global>) {
     }
 }
 
+/// Notes the many, takes thirds out and begins anew, and asserts what is found each time.
+fn note_and_take_back(rt: &impl Abort, history: &mut History<Global>) -> Result<(), Fail> {
+    // None is found, and then each.
+    note_many(rt, history, [false; 3])?;
+    note_many(rt, history, [true; 3])?;
+    forget_thirds(rt, history);
+    note_many(rt, history, [false, true, true])?;
+    note_many(rt, history, [true; 3])?;
+    history.restart(key_with(rt, NO_STONE));
+    note_many(rt, history, [false; 3])?;
+    Ok(())
+}
+
 #[test]
 fn many_keys_are_found_and_taken_back(rt: HostRuntime) -> Result<(), Fail> {
     let mut history = History::new(rt.alloc(), key_with(&rt, NO_STONE));
-    // None is found, and then each.
-    note_many(&rt, &mut history, [false; 3])?;
-    note_many(&rt, &mut history, [true; 3])?;
-    forget_thirds(&rt, &mut history);
-    note_many(&rt, &mut history, [false, true, true])?;
-    note_many(&rt, &mut history, [true; 3])?;
-    history.restart(key_with(&rt, NO_STONE));
-    note_many(&rt, &mut history, [false; 3])?;
-    Ok(())
+    note_and_take_back(&rt, &mut history)
 }
 
 /// What a history of so many keys may ask for in all.
