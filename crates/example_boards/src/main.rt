@@ -28,7 +28,7 @@ fn show(rt: &HostRuntime, game: &Game<Global>) -> io::Result<()> {
     println!(rt;)
 }
 
-/// Shows the board of a game, and after each move of the whole one.
+/// Shows a game's board, and then after each move of the whole game.
 fn show_moves(rt: &HostRuntime, whole: &Game<Global>, game: &mut Game<Global>) -> io::Result<()> {
     show(rt, game)?;
     for number in 0..whole.move_count() {

@@ -74,7 +74,7 @@ fn what_is_noted_is_found(rt: HostRuntime) -> Result<(), Fail> {
 }
 
 /// Takes back the second half of 300 stones, and asserts that the first alone is found.
-fn halves(rt: &impl Abort, history: &mut History<Global>) -> Result<(), Fail> {
+fn second_half_is_forgotten(rt: &impl Abort, history: &mut History<Global>) -> Result<(), Fail> {
     for number in 150..300u16 {
         history.forget(&key_with(rt, 449 - number));
     }
@@ -90,7 +90,7 @@ fn halves(rt: &impl Abort, history: &mut History<Global>) -> Result<(), Fail> {
 
 #[test]
 fn what_is_taken_back_is_not_found(rt: HostRuntime) -> Result<(), Fail> {
-    halves(&rt, &mut history_of(&rt, rt.alloc(), 300)?)
+    second_half_is_forgotten(&rt, &mut history_of(&rt, rt.alloc(), 300)?)
 }
 
 /// Begins anew, and asserts that the start alone is found.
