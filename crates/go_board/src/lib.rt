@@ -61,7 +61,7 @@ pub use meter::{Meter, Open};
 pub use pack::{PACK_BYTES, Packed, packed_byte};
 pub use pen::{Pen, send};
 pub use point::{Point, neighbours, put_neighbours};
-pub use point_set::PointSet;
+pub use point_set::{PointSet, Points};
 pub use size::{MAX_LINES, MAX_POINTS, Size};
 pub use taken::Taken;
 pub use vertex::{

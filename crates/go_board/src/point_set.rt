@@ -1,6 +1,7 @@
 //! Sets of points by their numbers: a word for each 64, with a bit for each.
 ghost use Rattle.std.specs.Prelude.{◌≡◌, ◌≢◌, ◌<◌, ◌≤◌, ◌+◌, ◌*◌, ◌/◌, ◌%◌, ◌∷◌, ◌⊎◌, ◌↔◌, ℕ, [], Bool, List, IfNone, IfSome, IsTrue, filter, length, replicate, slice_index};
 ghost use Rattle.std.specs.Int.{bit_at};
+ghost use Rattle.std.specs.Iterator.{YieldsFirst, item_count};
 ghost use Rattle.go_board.specs.Points.{point_at};
 ghost use Rattle.go_board.specs.PointSets.{HasPoint, has_point, points_from, words_for};
 ghost use Rattle.go_board.specs.Reaching.{points};
@@ -8,7 +9,7 @@ ghost use Rattle.go_board.specs.inner.PointCounts.{count_in_word};
 ghost use Rattle.go_board.specs.declared.point_set.TheConstants.{WORDS};
 ghost use Rattle.go_board.specs.declared.size.TheConstants.{MAX_POINTS};
 
-use crate::{MAX_POINTS, Size};
+use crate::{MAX_POINTS, Point, Size};
 use std::marker::Model;
 
 /// How many words have a bit for each point of the largest board.
@@ -117,6 +118,52 @@ impl PointSet {
             }
         }
         None
+    }
+
+    /// The points of a board that are in the set, in point order.
+    pub fn points(&self, size: Size) -> Points<'_>
+        ensures { result ≡ points_from size self.now 0 }
+    {
+        Points {
+            set: self,
+            size,
+            first: 0,
+        }
+    }
+}
+
+/// The points of a set on a board, in point order. A contract sees it as the list of those to come.
+#[derive(Drop)]
+pub struct Points<'a> {
+    set: &'a PointSet,
+    size: Size,
+    /// The number from which on they are to come.
+    first: u16,
+}
+
+impl<'a> Model for Points<'a> {
+    ghost use Rattle.std.specs.Prelude.{List};
+    ghost use Rattle.go_board.specs.PointSets.{points_from};
+    ghost use Rattle.go_board.specs.declared.point.Point.{Point};
+
+    ghost Value = { List Point };
+
+    ghost view = { λ p. points_from p.size p.set.now p.first };
+}
+
+impl<'a> Iterator for Points<'a> {
+    type Item = Point;
+
+    ghost next_gives = { YieldsFirst (λ points. points) };
+
+    ghost remaining = { item_count (λ points. points) };
+
+    #[inline]
+    fn next(&mut self) -> Option<Point> {
+        let number = self.set.next(self.size, self.first)?;
+        prove!(number < self.size.points());
+        self.first = number + 1;
+        Some(Point::numbered(self.size, number))
     }
 }
 

@@ -34,18 +34,6 @@ chosen_more test k b e =
     ap (filter test) (numbers_more k) ∙ filter-append test (range_with_len 0 k) (k ∷ [])
     ∙ ap (λ xs. filter test (range_with_len 0 k) ++ xs) (chosen_one test k b e)
 
-texts_chosen : (f : ℕ → List ℕ) (k : ℕ) (b : Bool) → (if b then f k else []) ≡ flat_map f (chosen b k)
-texts_chosen f k true = sym (append-nil (f k))
-texts_chosen f k false = refl
-
--- a text of each number that passes a test
-pub passing_more : (f : ℕ → List ℕ) (test : ℕ → Bool) (k : ℕ) →
-    flat_map f (filter test (range_with_len 0 k)) ++ (if test k then f k else []) ≡ flat_map f (filter test (range_with_len 0 (k + 1)))
-passing_more f test k =
-    ap (λ xs. flat_map f (filter test (range_with_len 0 k)) ++ xs) (texts_chosen f k (test k))
-    ∙ sym (flat_map-append f (filter test (range_with_len 0 k)) (chosen (test k) k))
-    ∙ ap (flat_map f) (sym (chosen_more test k (test k) refl))
-
 -- some bytes
 abbrev pub IsText : List ℕ → Type 0
 IsText text = (first : ℕ) × (rest : List ℕ) × (text ≡ first ∷ rest)

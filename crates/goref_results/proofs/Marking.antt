@@ -1,11 +1,12 @@
 -- How marks over the numbers from 0 grow by the next number.
-use Rattle.std.proofs.Common.{◌≡◌, ◌∙◌, ◌<◌, ◌≤◌, ◌*◌, if◌then◌else◌, ℕ, zero, suc, Bool, false, nat_lt, ◌&&◌, ◌+◌, List, ◌∷◌, refl, sym, ap, ap₂, arith, map, replicate, slice_set}
+use Rattle.std.proofs.Common.{◌≡◌, ◌∙◌, ◌<◌, ◌≤◌, ◌*◌, ℕ, zero, suc, Bool, false, nat_lt, ◌&&◌, ◌+◌, List, ◌∷◌, refl, sym, ap, ap₂, arith, map, replicate, slice_set}
 use Rattle.std.specs.List.{range_with_len}
-use Rattle.std.specs.Prelude.{filter, slice_index_or}
+use Rattle.std.specs.Prelude.{slice_index_or}
 use Rattle.std.proofs.Math.Nat.{mul-le-mul}
 use Rattle.std.proofs.lemmas.Bool.{le-ltb, lt-ltb}
 use Rattle.std.proofs.lemmas.List.FromFn.{get_or-map-range_with_len}
 use Rattle.go_board.specs.declared.size.TheConstants.{MAX_LINES, MAX_POINTS}
+use Rattle.go_board.specs.lemmas.PointSets.{alike}
 use Rattle.go_game.specs.Choices.{may_play}
 use Rattle.goref_results.specs.Plays.{MarksAreLegal, marked_plays, numbers_text}
 
@@ -38,12 +39,6 @@ module _ (test : ℕ → Bool) where
   pub mark_more : (len k : ℕ) (b : Bool) → k < len → b ≡ test k → slice_set (map (passes_below k) (range_with_len 0 len)) k b ≡ map (passes_below (k + 1)) (range_with_len 0 len)
   mark_more len k b h is = mark_from 0 len k k b h (omega arith) is
 
--- numbers that pass two tests, where these agree on them
-filter_same : (f g : ℕ → Bool) (a len : ℕ) → ((p : ℕ) → a ≤ p → p < a + len → f p ≡ g p) → filter f (range_with_len a len) ≡ filter g (range_with_len a len)
-filter_same f g a zero h = refl
-filter_same f g a (suc len) h =
-    ap₂ (λ b xs. if b then a ∷ xs else xs) (h a (omega arith) (omega arith)) (filter_same f g (a + 1) len (λ p low high. h p (omega arith) (omega arith)))
-
 -- a mark says what the test says of the number
 marked_is : (test : ℕ → Bool) (k len p : ℕ) → p < k → p < len → slice_index_or (map (passes_below test k) (range_with_len 0 len)) p false ≡ test p
 marked_is test k len p below here =
@@ -55,5 +50,5 @@ square n small = mul-le-mul small small
 pub marks_are_legal : MarksAreLegal
 marks_are_legal s c small =
     let n = s.lines in
-    ap (numbers_text n) (filter_same (λ p. slice_index_or (marked_plays s c) p false) (may_play s c) 0 (n * n)
+    ap (numbers_text n) (alike (λ p. slice_index_or (marked_plays s c) p false) (may_play s c) 0 (n * n)
     (λ p low high. marked_is (may_play s c) (n * n) MAX_POINTS p (omega arith) (omega (arith, square n small))))

@@ -1,7 +1,9 @@
-ghost use Rattle.std.specs.Prelude.{◌≡◌, ◌<◌, false, replicate, slice_index_or, slice_set};
+ghost use Rattle.std.specs.Prelude.{◌≡◌, ◌<◌, false, filter, map, replicate, slice_index_or, slice_set};
+ghost use Rattle.go_board.specs.Points.{point_at};
+ghost use Rattle.go_board.specs.Reaching.{points};
 ghost use Rattle.go_board.specs.declared.size.TheConstants.{MAX_POINTS};
 
-use go_board::{MAX_POINTS, PointSet};
+use go_board::{MAX_POINTS, PointSet, Points, Size};
 use std::marker::Model;
 
 /// For the number of each point, whether a play there is legal; not where the board has no such
@@ -36,6 +38,14 @@ impl Plays {
         ensures { result ≡ slice_index_or self.now number false }
     {
         self.points.has(usize::from(number))
+    }
+
+    /// The points of a board on which a play is legal, in point order.
+    pub(crate) fn points(&self, size: Size) -> Points<'_>
+        ensures { result ≡ map (point_at size)
+            (filter (λ p. slice_index_or self.now p false) (points size)) }
+    {
+        self.points.points(size)
     }
 
     /// Says whether a play on the point with this number is legal.

@@ -1,7 +1,6 @@
-ghost use Rattle.std.specs.Prelude.{◌≡◌, ◌<◌, ◌*◌, [], IfOk, false, if◌then◌else◌, slice_index_or};
+ghost use Rattle.std.specs.Prelude.{◌≡◌, IfOk};
 ghost use Rattle.go_board.specs.Pens.{Writes};
 ghost use Rattle.go_game.specs.Counts.{IsAsBefore};
-ghost use Rattle.goref_results.specs.ChainLines.{spaced_vertex};
 ghost use Rattle.goref_results.specs.Plays.{marked_plays, plays_text};
 ghost use Rattle.goref_results.specs.Results.{result_text};
 
@@ -33,18 +32,7 @@ pub fn legal_plays<A: Allocator + Copy>(
 pub fn put_plays<W: Sink>(size: Size, plays: &Plays, pen: &mut Pen<'_, W>)
     ensures { Writes W.Sink pen.old pen.new (result_text (plays_text size plays.now)) }
 {
-    for number in 0..size.points() {
-        put_if_play(size, plays, number, pen);
-    }
-}
-
-/// Writes the vertex of a point behind a space, if a play there is legal.
-fn put_if_play<W: Sink>(size: Size, plays: &Plays, number: u16, pen: &mut Pen<'_, W>)
-    requires { number < size * size }
-    ensures { Writes W.Sink pen.old pen.new (if slice_index_or plays.now number false
-        then spaced_vertex size number else []) }
-{
-    if plays.has(number) {
-        put_spaced(Point::numbered(size, number), pen);
+    for point in plays.points(size) {
+        put_spaced(point, pen);
     }
 }

@@ -125,7 +125,7 @@ none-left n words first none = elim (cases_lt first (n * n)) [
 ]
 
 -- tests that agree on the numbers of a range pass the same
-alike : (f g : ℕ → Bool) (k m : ℕ) → ((q : ℕ) → k ≤ q → q < k + m → f q ≡ g q) → filter f (range_with_len k m) ≡ filter g (range_with_len k m)
+pub alike : (f g : ℕ → Bool) (k m : ℕ) → ((q : ℕ) → k ≤ q → q < k + m → f q ≡ g q) → filter f (range_with_len k m) ≡ filter g (range_with_len k m)
 alike f g k zero same = refl
 alike f g k (suc m) same =
     let here : f k ≡ g k = same k (omega arith) (omega arith) in
