@@ -49,7 +49,7 @@ impl ByColour<Rows> {
         requires col { p.col < ROWS }
         ensures { IsTrue result ↔ IsIn (rows_of self.now colour) p.row p.col }
     {
-        let (row, col) = (usize::from(p.row), usize::from(p.col));
+        let (row, col) = row_and_column(p);
         match colour {
             Colour::Black => has_place(&self.black, row, col),
             Colour::White => has_place(&self.white, row, col),
@@ -63,12 +63,20 @@ impl ByColour<Rows> {
         ensures { (c : Colour) (row col : ℕ) → IsIn (rows_of self.new c) row col
             ↔ (((c ≡ colour) × (row ≡ p.row) × (col ≡ p.col)) ⊎ IsIn (rows_of self.old c) row col) }
     {
-        let (row, col) = (usize::from(p.row), usize::from(p.col));
+        let (row, col) = row_and_column(p);
         match colour {
             Colour::Black => put_place(&mut self.black, row, col),
             Colour::White => put_place(&mut self.white, row, col),
         }
     }
+}
+
+/// The row and the column of a point, as a place of a set has them.
+pub fn row_and_column(p: Point) -> (usize, usize)
+    ensures row { result.0 ≡ p.row }
+    ensures col { result.1 ≡ p.col }
+{
+    (usize::from(p.row), usize::from(p.col))
 }
 
 /// Whether a set has a place.

@@ -11,7 +11,7 @@ ghost use Rattle.go_game.specs.inner.Trials.{AreHoldings};
 
 use go_board::gains::{gain_of, own_held_with, theirs_held_with};
 use go_board::laws::points_by_number;
-use go_board::rows::{ROWS, Rows, count_alone, held, put_place};
+use go_board::rows::{ROWS, Rows, count_alone, held, put_place, row_and_column};
 use go_board::{Colour, Point};
 use go_chains::Board;
 
@@ -84,7 +84,7 @@ impl Holdings {
         ensures { result ≡ lead_on board.now.lines (played board.now colour p) colour }
     {
         let lines = usize::from(board.size().lines());
-        let (row, col) = (usize::from(p.row), usize::from(p.col));
+        let (row, col) = row_and_column(p);
         self.lead_where(lines, row, col)
     }
 

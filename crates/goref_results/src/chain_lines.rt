@@ -13,7 +13,7 @@ ghost use Rattle.goref_results.specs.inner.Told.{AreTold, TellsAll, TellsChain};
 
 use crate::point_text::put_spaced;
 use go_board::laws::{joined_by_a_path, points_by_number};
-use go_board::rows::{ROWS, Rows, has_place, put_place};
+use go_board::rows::{ROWS, Rows, has_place, put_place, row_and_column};
 use go_board::{Pen, Point, Sink};
 use go_game::{ChainPoints, Game};
 use std::alloc::Allocator;
@@ -71,7 +71,7 @@ fn is_first<A: Allocator + Copy>(game: &Game<A>, told: &Rows, at: Point) -> bool
 {
     points_by_number();
     prove!(at.on(game.size()));
-    let (row, col) = (usize::from(at.row), usize::from(at.col));
+    let (row, col) = row_and_column(at);
     game.colour_at(at).is_some() && !has_place(told, row, col)
 }
 
@@ -116,7 +116,7 @@ fn put_stones<W: Sink>(stones: ChainPoints<'_>, told: &mut Rows, pen: &mut Pen<'
 {
     for at in stones {
         put_spaced(at, pen);
-        let (row, col) = (usize::from(at.row), usize::from(at.col));
+        let (row, col) = row_and_column(at);
         put_place(told, row, col);
     }
 }

@@ -17,7 +17,7 @@ returns-then-is_some g c =
     let s = c.args.game.now.standing in
     let k = number_of s.lines c.args.at in
     let stone = is_stone (colour_at (board_of s) k) (ap is_some (sym c.colour_at.ensures) ∙ sym c.is_some.ensures ∙ c.if-is_some.true) in
-    let placed = rw (c.from-row.ensures, c.from-col.ensures) at c.has_place.ensures in
+    let placed = rw (c.row_and_column-row.ensures.row, c.row_and_column-row.ensures.col) at c.has_place.ensures in
     let are = c.requires.told c.args.at c.requires.on in
     first_untold s.lines (board_of s) k c.has_place.result (c.points_by_number.ensures.number s.lines c.args.at c.requires.on) stone
     (λ told. are.0 (placed.0 told), λ before. placed.1 (are.1 before))

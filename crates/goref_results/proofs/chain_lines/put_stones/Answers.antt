@@ -14,7 +14,7 @@ loop-at-preserved g c =
       i.0 ++ at ∷ [],
       append_assoc i.0 (at ∷ []) c.next.new.self ∙ ap (λ ps. i.0 ++ ps) (sym c.in-Some.ensures.steps) ∙ i.1,
       writes_then _ i.2 c.put_spaced.ensures (ap (λ t. flat_map spaced_point i.0 ++ t) (sym (append-nil (spaced_point at))) ∙ sym (flat_map-append spaced_point i.0 (at ∷ []))),
-      told_more i.0 at c.from-row.result c.from-col.result c.args.told.now c.loop-at.told c.put_place.new.rows c.from-row.ensures c.from-col.ensures i.3 c.put_place.ensures,
+      told_more i.0 at c.row_and_column-row.result.0 c.row_and_column-row.result.1 c.args.told.now c.loop-at.told c.put_place.new.rows c.row_and_column-row.ensures.row c.row_and_column-row.ensures.col i.3 c.put_place.ensures,
     )
 
 pub loop-at-init : goal.loop-at-init
