@@ -467,9 +467,6 @@ blank_behind_controls (b ∷ front) more h =
     let both = and_parts (is_control_byte b) (list_all is_control_byte front) h in
     blank_behind_controls front more both.1 ∙ sym (ap (λ c. c || list_any is_blank_byte (front ++ more)) (control_no_space b both.0))
 
-space_no_control : (b : ℕ) → is_plain_space (spaced b) ≡ true → is_control_byte b ≡ false
-space_no_control b e = grind (arith, nat_tests, e)
-
 space_no_hash : (b : ℕ) → is_plain_space (spaced b) ≡ true → ¬ (b ≡ 35)
 space_no_hash b e hash = let bad = sym e ∙ ap (λ x. is_plain_space (spaced x)) hash in cc
 
