@@ -16,10 +16,6 @@ module _ (n : ℕ) (g : Colouring) (test : ℕ → Bool) where
   abbrev within : ℕ → ℕ → Bool
   within k p = connects_within k n g p test
 
-  -- one step, as the test computes it
-  step_test : (k p q : ℕ) → Bool
-  step_test k p q = is_adjacent n p q && (has_colour g q (colour_at g p) && within k q)
-
   within_here : (k p : ℕ) → test p ≡ true → within k p ≡ true
   unfolding connects_within
   within_here zero p e = e

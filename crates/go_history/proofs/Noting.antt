@@ -12,9 +12,7 @@ use Rattle.go_board.specs.Reaching.{is_same}
 use Rattle.go_history.specs.declared.key.Key.{Key}
 use Rattle.go_history.specs.Keys.{key_eq}
 use Rattle.go_history.specs.Histories.{HistoryValue, later_at, number_at, without}
-use Rattle.go_history.specs.declared.ranked.Ranked.{Ranked}
 use Rattle.go_history.specs.inner.Trees.{ranked, ranked_eq}
-use Rattle.go_history.specs.contracts.ranked.RankedPartialEq.TheImpl as by_rank
 use Rattle.go_history.specs.contracts.key.KeyPartialEq.TheImpl.{eq-value}
 use Rattle.go_board.specs.PackBytes.{bytes_of, packed_eq}
 
@@ -112,10 +110,6 @@ lookup-append test (e ∷ front) back = here (test e.0) (lookup-append test fron
     here true rest = refl
     here false rest = rest
 
--- the test of ranked keys, and that of keys by it
-pub ranked_is : (a b : Ranked) → by_rank.eq-value.it a b ≡ ranked_eq a b
-ranked_is a b = ap (λ same. nat_eq a.rank b.rank && same) (key_is a.key b.key)
-
 and_false : (b : Bool) → (b && false) ≡ false
 and_false true = refl
 and_false false = refl
@@ -155,10 +149,6 @@ noted_first old new further p n updates q = in_parts new further q ∙ ap (λ o.
     here : (b : Bool) → option_or (cond b (Some n) (lookup (key_eq q) old)) (lookup (key_eq q) further) ≡ cond b (Some n) (option_or (lookup (key_eq q) old) (lookup (key_eq q) further))
     here true = refl
     here false = refl
-
-pub kept_first : (old new further : List (Key × ℕ)) → ((q : Key) → lookup (key_eq q) new ≡ lookup (key_eq q) old)
-    → (q : Key) → lookup (key_eq q) (new ++ further) ≡ lookup (key_eq q) (old ++ further)
-kept_first old new further same q = in_parts new further q ∙ ap (λ o. option_or o (lookup (key_eq q) further)) (same q) ∙ sym (in_parts old further q)
 
 pub noted_further : (first old new : List (Key × ℕ)) (p : Key) (n : ℕ) → lookup (key_eq p) first ≡ None
     → ((q : Key) → lookup (key_eq q) new ≡ cond (key_eq p q) (Some n) (lookup (key_eq q) old))

@@ -1,12 +1,9 @@
 -- A stone that takes nothing leaves all others, and lends its liberties.
 use Rattle.std.specs.Prelude.{Some, None}
-use Rattle.std.specs.Int.{bit_at}
-use Rattle.std.specs.Int.RustNames.{bit_or}
 use Rattle.std.proofs.Common.{arith, ◌≡◌, ◌≢◌, ◌<◌, ◌*◌, ◌∙◌, ◌⊎◌, ◌↔◌, ◌++◌, ◌∷◌, ◌&&◌, [], inl, inr, Bool, true, false, cond, not, IsTrue, ℕ, zero, suc, List, Option, length, refl, sym, ap, subst, slice_set}
-use Rattle.std.proofs.lemmas.Bool.{cases_Bool, cases_eq, cases_lt}
+use Rattle.std.proofs.lemmas.Bool.{cases_Bool, cases_eq}
 use Rattle.std.proofs.lemmas.List.{ext_get_or, get_or-set_other, get_or-set_same}
 use Rattle.std.proofs.lemmas.List.FromFn.{get_or-map-range_with_len, length-map-range_with_len}
-use Rattle.std.proofs.lemmas.Nat.Bits.{bit_at-lt, bit_at_or}
 use Rattle.std.proofs.Math.ListN.{length-set}
 use Rattle.go_board.specs.declared.colour.Colour.{Colour}
 use Rattle.go_board.specs.declared.colour.Colour.TheVariants.{Black, White}
@@ -31,16 +28,6 @@ use Rattle.go_chains.proofs.writes.Neighbours.{apart}
 pub label_low : (n : ℕ) (cells : List ℕ) → IsKept n cells → (q : ℕ) → q < n * n → code_at cells q ≢ 0 → label_of cells q < MAX_POINTS
 label_low n cells kept q low some =
     label-small n cells kept q (of_stone n (colouring_of n cells) cells (colouring-inside n cells) kept.sound.colours kept.sound.coded q (low, omega (arith, some)))
-
--- a bit of two words joined
-pub or_bits : (a b i : ℕ) → (bit_at (bit_or a b) i ≡ 1) ↔ ((bit_at a i ≡ 1) ⊎ (bit_at b i ≡ 1))
-or_bits a b i =
-    let joined = bit_at_or a b i in
-    let low_a = bit_at-lt a i in
-    let low_b = bit_at-lt b i in (
-      λ set. elim (cases_lt (bit_at a i) 1) [ inl none ↦ inr (omega arith) | inr one ↦ inl (omega arith) ],
-      λ either. elim either [ inl left ↦ omega arith | inr right ↦ omega arith ],
-    )
 
 -- paths of any colouring
 leads_end : (k : Colouring) (n x : ℕ) (path : List ℕ) (q : ℕ) → Leads n k x path q → colour_at k q ≡ colour_at k x

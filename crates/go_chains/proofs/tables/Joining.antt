@@ -133,10 +133,6 @@ module _ (n : ℕ) (adj : ℕ → ℕ → Type 0) (flip : (p q : ℕ) → adj p 
           ] in
           subst O (sym (ap t'.size is ∙ j.size_is)) (IsOn-from t'.next whole a p q whole_ring p_on (on_whole q stone_q q_which))
 
-  -- what the new label touches, and what touched it before
-  pub touches_of : (l : ℕ) (q : ℕ) → Touches n adj t' l q → (s : ℕ) × IsStone n t s × (t'.label s ≡ l) × adj s q
-  touches_of l q touch = (touch.0, was touch.0 touch.1, touch.2, touch.3)
-
   pub lib_is' : (p q : ℕ) → IsStone n t p → q < n → t'.lib (t'.label p) q ≡ 1 → (t'.colour q ≡ 0) × Touches n adj t' (t'.label p) q
   lib_is' p q stone q_in one = elim (side_of n t t' a b p j stone) [
     | with_first was_first is ↦ in_whole is

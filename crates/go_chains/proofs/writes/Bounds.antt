@@ -10,9 +10,6 @@ use Rattle.go_chains.specs.inner.Tables.{IsStone, IsTidy, Tables, tables_of}
 use Rattle.go_chains.proofs.tables.Tidy.{size-le}
 
 module _ (n : ℕ) (adj : ℕ → ℕ → Type 0) (t : Tables) (small : n ≤ MAX_LINES) (tidy : IsTidy (n * n) adj t) (p : ℕ) (stone : IsStone (n * n) t p) where
-  pub point_small : p < MAX_POINTS
-  point_small = let h : p < n * n = stone.0 in let s = square-le n small in omega arith
-
   pub label_small : t.label p < MAX_POINTS
   label_small = let h = tidy.head_in p stone in let s = square-le n small in omega arith
 

@@ -43,9 +43,6 @@ module _ (n : ℕ) (adj : ℕ → ℕ → Type 0) (small : n ≤ MAX_POINTS) (c0
   differ : first ≢ second
   differ e = apart (ap (label_of c0) e)
 
-  labels_apart : keep ≢ gone
-  labels_apart e = apart (sym keep_is ∙ e ∙ gone_is)
-
   -- before the labels and past the links but one size, as it stood
   low : (k : ℕ) → k < LINKS → slice_index c5 k ≡ slice_index c1 k
   low k below = merged.below k (omega arith) ∙ sized.others k (omega arith) ∙ link_second.others k (omega arith) ∙ link_first.others k (omega arith)
