@@ -9,7 +9,7 @@ abbrev pub TookSoFar : Bool → Option (List ℕ) → Option (List ℕ) → List
 TookSoFar false start now text = now ≡ then_bytes start text
 TookSoFar true start now text = TakesFront start now text
 
--- a text written from this start on, with at most one failure
+-- from a start on a device was given this text, and it failed at most once since
 pub record Wrote (has_failed : Bool) (start now : Option (List ℕ))
     (failures_at_start failures : ℕ) (text : List ℕ) : Type 0 where
   pub took : TookSoFar has_failed start now text
@@ -25,7 +25,7 @@ pub record Place : Type 0 where
 abbrev pub place : Bool → Option (List ℕ) → ℕ → Place
 place has_failed taken failures = record { has_failed = has_failed; taken = taken; failures = failures }
 
--- between two places the text that is being written grew by this
+-- whatever was written up to the old place, that with this behind it is written up to the new one
 pub record Adds (old new : Place) (more : List ℕ) : Type 0 where
   pub grown : (start : Option (List ℕ)) (failures : ℕ) (text : List ℕ) →
       Wrote old.has_failed start old.taken failures old.failures text →

@@ -7,7 +7,7 @@ ghost use Rattle.go_board.specs.inner.Flood.{Grows, HasRoom, IsJoinedTo, IsMarke
 use crate::{Colour, Grid, MAX_POINTS, Point, put_neighbours};
 use arrayvec::ArrayVec;
 
-/// A set of points, by their numbers in point order.
+/// For each number of a point, whether it is marked.
 pub type Marks = [bool; MAX_POINTS];
 
 /// The marked points whose neighbours weren't looked at yet.

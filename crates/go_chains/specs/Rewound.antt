@@ -19,7 +19,7 @@ undone cells (change ∷ changes) = undone cells changes
 abbrev pub NamesCells : ℕ → List Change → Type 0
 NamesCells count changes = All (λ change. change.place < count) changes
 
--- what holds of the last play of a log, and of the plays before it
+-- where a log has a play, this holds of the plays before the last one and of that one's changes
 abbrev pub ForLast : List (List Change) → (List (List Change) → List Change → Type 0) → Type 0
 ForLast log Holds = (earlier : List (List Change)) (changes : List Change)
     → log ≡ earlier ++ changes ∷ [] → Holds earlier changes
@@ -54,7 +54,8 @@ pub record PlayLogged (old new : BoardValue) (before after : List (List Change))
   pub few : length changes ≤ most
   pub names : NamesCells COUNT changes
 
--- the same of a board, whose lines stay
+-- the last play of a log is put back on a board: its cells stand as before that play, nothing else was written to
+-- them, the log has lost that play alone, and each change was counted
 pub record IsRewound (old new : BoardValue) (log earlier : List (List Change)) (changes : List Change)
     (before after : ℕ) : Type 0 where
   pub lines : new.lines ≡ old.lines

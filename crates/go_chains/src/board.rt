@@ -1,5 +1,5 @@
-//! A board and its colours. What it tells of packs and of chains, and its plays, stand in files beside
-//! this one.
+//! A board and its colours. What it tells of packs and of chains, and its plays, stand in the files of
+//! `board/`.
 ghost use Rattle.std.specs.Prelude.{◌≡◌, ◌<◌, ◌≤◌, ◌+◌, ◌*◌, ℕ, [], None, length, replicate, slice_index};
 ghost use Rattle.go_board.specs.Points.{IsOn};
 ghost use Rattle.go_board.specs.Reaching.{area};

@@ -21,10 +21,10 @@
 //! ```
 //!
 //! What is promised is in the clauses of `board.rt`, the files of `board/` and `log.rt`, and, as a
-//! law of whole logs, in `laws.rt`. Their words are in `specs/`: `Sound` says what the colours of a board are and when
-//! its tables are right, `Playing` what a play takes and how many changes it may make, and
-//! `Rewound` what putting changes back gives. What `specs/inner/` defines serves private functions
-//! alone.
+//! law of whole logs, in `laws.rt`. Their words are in `specs/`: `Boards` says what the colours of a
+//! board are, `Sound` when its tables are right, `Playing` what a play takes and how many changes it
+//! may make, and `Rewound` what putting changes back gives. What `specs/inner/` defines serves
+//! private functions alone.
 #![tactic(auto)]
 
 mod beside;

@@ -138,8 +138,8 @@ fn add_own<K>(
     put_liberties(cells, meter, size, label, set);
 }
 
-/// Puts the points but this one that are empty beside it, or liberties of a chain of the colour with
-/// this code beside it, into a set that has none.
+/// Puts the liberties that a stone on a point gets into a set that has no point yet: the empty points
+/// beside it, and the other liberties of the chains beside it that have its colour, by its code.
 pub(crate) fn put_lent<K>(
     cells: &Cells<K>,
     meter: &mut Meter<K>,
