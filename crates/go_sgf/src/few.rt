@@ -29,12 +29,14 @@ impl<T: Drop, A: Allocator + Copy> Model for Few<T, A> {
 }
 
 impl<T: Drop, A: Allocator + Copy> Few<T, A> {
+    /// A list without elements.
     pub(crate) fn new() -> Few<T, A>
         ensures { result ≡ [] }
     {
         Few { held: Held::None }
     }
 
+    /// The elements, in their order.
     pub(crate) fn as_slice(&self) -> &[T]
         ensures { result.now ≡ self.now }
     {

@@ -139,6 +139,7 @@ impl<'a, A: Allocator + Copy> Model for Sequence<'a, A> {
 }
 
 impl<'a, A: Allocator + Copy> Sequence<'a, A> {
+    /// The nodes of a list that has one at least.
     pub(crate) fn new(nodes: Few<Node<'a, A>, A>) -> Sequence<'a, A>
         requires { nodes ≢ [] }
         ensures { result ≡ nodes.entry }
@@ -146,6 +147,7 @@ impl<'a, A: Allocator + Copy> Sequence<'a, A> {
         Sequence { nodes }
     }
 
+    /// The nodes, in the source's order.
     pub(crate) fn as_slice(&self) -> &[Node<'a, A>]
         ensures nodes { result.now ≡ self.now }
         ensures some { result.now ≢ [] }

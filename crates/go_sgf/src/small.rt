@@ -56,6 +56,7 @@ pub(crate) struct Single<T: Drop> {
 }
 
 impl<T: Drop> Single<T> {
+    /// Keeps an element. One that takes half of all memory or more is refused.
     pub(crate) fn new(item: T) -> Result<Single<T>, AllocError>
         ensures { IfOk result (λ single. single.item ≡ item) }
     {
@@ -66,6 +67,7 @@ impl<T: Drop> Single<T> {
         Ok(Single { item, small })
     }
 
+    /// The element, as a slice of one.
     pub(crate) fn as_slice(&self) -> &[T]
         ensures { result.now ≡ self.now.item ∷ [] }
     {
