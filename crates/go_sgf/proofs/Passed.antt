@@ -208,9 +208,6 @@ pub semicolon_stays : (d c : ℕ) (more : List ℕ) → d ≢ 0 → c ≡ 59 →
 semicolon_stays zero c more some e = absurd (some refl)
 semicolon_stays (suc d) c more some e = rw e (stays None (suc d) (suc d) (59 ∷ more) more (59 ∷ []) refl (given_byte None d 59 more))
 
-pub all_as_is : (d : ℕ) (b : List ℕ) → StaysTo None d b d b
-all_as_is d b = stays None d d b b [] refl (nothing_given None d b)
-
 pub upper_stays : (d c : ℕ) (more : List ℕ) → d ≢ 0 → is_upper_byte c ≡ true → StaysTo None d (c ∷ more) d more
 upper_stays d c more some e =
     let left_out : is_left_out_byte c ≡ false = grind (arith, nat_tests) in
