@@ -175,16 +175,15 @@ stops_at source ts inside f place far begins e placed =
           two_ways (chain ts) c (tree_in source) (40 ∷ inside) s.rest inside f far.fit far.nesting s.fit.trees s.fit.nesting
           far.spelling s.spelling s.ended begins refl e;
       before = chain ts;
-      whole = far.fit;
-      nesting = far.nesting;
       text = 40 ∷ inside;
-      spelling = far.spelling;
-      begins = begins;
-      at = suc i.at;
+      behind = record { whole = far.fit; nesting = far.nesting; spelling = far.spelling; begins = begins };
+      count = suc i.at;
+      reading = record {
+        unfinished = i.unfinished;
+        shallow = shallow_text inside i.at i.shallow;
+        stops = why_in inside f i.at i.stops;
+      };
       placed = let h = i.left in omega arith;
-      unfinished = i.unfinished;
-      shallow = shallow_text inside i.at i.shallow;
-      stops = why_in inside f i.at i.stops;
     }
 
 -- no more bytes are left at a fault than the source has

@@ -8,34 +8,43 @@ use Rattle.go_sgf.specs.declared.error.SgfError.{SgfError}
 use Rattle.go_sgf.specs.declared.error.SgfError.TheVariants.{NoTree, EndInside, Unexpected, TooDeep, Memory, TooLong}
 use Rattle.go_sgf.specs.declared.limits.TheConstants.{MAX_DEPTH, MAX_RECORD}
 
--- The source spells no record. The trees before are whole. Behind them a text begins with a tree's `(` and its `;`.
--- What of it stands before the place stands as no whole tree, and no front of that is nested too deep. Why it stops
--- there says At.
-pub record StopsAt (source : List ℕ) (place : ℕ) (At : List ℕ → ℕ → Type 0) : Type 0 where
-  pub spells_none : (c : Trees) → Spells source c → ⊥
-  pub before : Trees
+-- Behind these trees, whole and no deeper nested than is allowed, the source goes on with this text, which begins
+-- with a tree's `(` and its `;`.
+pub record IsBehind (source : List ℕ) (before : Trees) (text : List ℕ) : Type 0 where
   pub whole : AreTrees before
   pub nesting : depth before ≤ MAX_DEPTH
-  pub text : List ℕ
   pub spelling : SpellsParts (tree_in source) (parts before) text
   pub begins : is_tree_first text ≡ true
-  pub at : ℕ
-  pub placed : place + length text ≡ length source + at
-  pub unfinished : IsUnfinished (stands (take at text))
-  pub shallow : (k : ℕ) → k ≤ at → IsAtDepth (suc MAX_DEPTH) (stands (take k text)) → ⊥
-  pub stops : At text at
+
+-- So many bytes of this text are read, and no more. They stand as no whole tree, and no front of them is nested too
+-- deep. Why no more are read says Reason.
+pub record IsReadUpTo (text : List ℕ) (count : ℕ) (Reason : List ℕ → ℕ → Type 0) : Type 0 where
+  pub unfinished : IsUnfinished (stands (take count text))
+  pub shallow : (k : ℕ) → k ≤ count → IsAtDepth (suc MAX_DEPTH) (stands (take k text)) → ⊥
+  pub stops : Reason text count
+
+-- The source spells no record. Behind whole trees it goes on with a text, and so many bytes of that text are read:
+-- those before the place, which is a byte's number in the source.
+pub record StopsAt (source : List ℕ) (place : ℕ) (Reason : List ℕ → ℕ → Type 0) : Type 0 where
+  pub spells_none : (c : Trees) → Spells source c → ⊥
+  pub before : Trees
+  pub text : List ℕ
+  pub behind : IsBehind source before text
+  pub count : ℕ
+  pub reading : IsReadUpTo text count Reason
+  pub placed : place + length text ≡ length source + count
 
 -- the text has no more bytes
 abbrev pub EndsAt : List ℕ → ℕ → Type 0
-EndsAt text at = at ≡ length text
+EndsAt text count = count ≡ length text
 
 -- no longer front of the text stands, and there is a byte more
 abbrev pub StandsNoLonger : List ℕ → ℕ → Type 0
-StandsNoLonger text at = (at < length text) × ((k : ℕ) → at < k → stands (take k text) ≡ None)
+StandsNoLonger text count = (count < length text) × ((k : ℕ) → count < k → stands (take k text) ≡ None)
 
 -- with the next byte the text stands one deeper than is allowed
 abbrev pub StandsTooDeep : List ℕ → ℕ → Type 0
-StandsTooDeep text at = (at < length text) × IsAtDepth (suc MAX_DEPTH) (stands (take (at + 1) text))
+StandsTooDeep text count = (count < length text) × IsAtDepth (suc MAX_DEPTH) (stands (take (count + 1) text))
 
 -- what each refusal says of the source
 abbrev pub IsRefusal : List ℕ → SgfError → Type 0
