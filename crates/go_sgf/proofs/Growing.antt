@@ -8,7 +8,7 @@ use Rattle.go_sgf.specs.Spelling.{Part, opening, closing, node_parts, parts, wit
 use Rattle.go_sgf.specs.Stands.{StateAt, opened, closed}
 use Rattle.go_sgf.specs.inner.Outcome.{outcome, outcome_after, IsWithin, here}
 use Rattle.go_sgf.specs.inner.Reads.{ReadsNodes, ReadsTree}
-use Rattle.go_sgf.specs.View.{chain, tree_of, tree_step, trees_of}
+use Rattle.go_sgf.specs.View.{chain, nodes_and_children, tree_of, trees_of}
 use Rattle.go_sgf.specs.declared.record.Tree.{Tree}
 use Rattle.go_sgf.specs.declared.record.Tree.TheFolds.{fold-roll-Tree, fold_out-Tree}
 use Rattle.go_sgf.specs.declared.record.Tree.TheOpen.{Tree-F}
@@ -90,11 +90,11 @@ tree_le d b t rest r = rest_le (flat_map node_parts t.0 ++ (parts t.1 ++ (closin
 
 -- what a tree that was made stands for
 pub tree_of-roll : {A : Type 0} (x : Tree-F A (Tree A)) → tree_of (roll-Tree A x) ≡ (x.nodes, trees_of x.children.items)
-tree_of-roll {A} x = fold-roll-Tree A TreeValue tree_step x
+tree_of-roll {A} x = fold-roll-Tree A TreeValue nodes_and_children x
 
 -- what a tree that is looked at stands for
 pub tree_of-out : {A : Type 0} (t : Tree A) → tree_of t ≡ ((out-Tree A t).nodes, trees_of (out-Tree A t).children.items)
-tree_of-out {A} t = fold_out-Tree A TreeValue tree_step t
+tree_of-out {A} t = fold_out-Tree A TreeValue nodes_and_children t
 
 -- ---- a tree read so far
 

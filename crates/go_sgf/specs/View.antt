@@ -10,13 +10,14 @@ abbrev pub chain : List TreeValue → Trees
 chain [] = none
 chain (t ∷ ts) = tree t.0 t.1 (chain ts)
 
--- one tree, with each child already seen as its nodes and children
-abbrev pub tree_step : {A : Type 0} → Tree-F A TreeValue → TreeValue
-tree_step t = (t.nodes, chain t.children.items)
+-- a tree by its nodes and its children, where each child is already given by its own
+abbrev pub nodes_and_children : {A : Type 0} → Tree-F A TreeValue → TreeValue
+nodes_and_children t = (t.nodes, chain t.children.items)
 
--- a tree by its nodes and its children
+-- a tree by its nodes and its children, and each child by its own, all the way down
 abbrev pub tree_of : {A : Type 0} → Tree A → TreeValue
-tree_of {A} = fold-Tree A TreeValue tree_step
+tree_of {A} = fold-Tree A TreeValue nodes_and_children
 
+-- trees given so, one after another
 abbrev pub trees_of : {A : Type 0} → List (Tree A) → Trees
 trees_of ts = chain (map tree_of ts)
