@@ -1,5 +1,5 @@
 -- What is written of a tree's text, byte by byte and part by part, and what follows the tree.
-use Rattle.std.proofs.Common.{◌≡◌, ◌≢◌, ◌==◌, ◌-◌, ◌+◌, not, ℕ, zero, suc, List, [], ◌∷◌, ◌++◌, Bool, true, false, Option, Some, None, refl, sym, ap, subst, ◌∙◌, map, append_assoc, inl, inr, arith}
+use Rattle.std.proofs.Common.{◌≡◌, ◌≢◌, ◌==◌, ◌-◌, ◌+◌, not, ℕ, zero, suc, List, [], ◌∷◌, ◌++◌, Bool, true, false, Some, None, refl, sym, ap, subst, ◌∙◌, map, append_assoc, inl, inr, arith}
 use Rattle.std.proofs.lemmas.Bool.{and_parts, cases_Bool, eq-eqb, true≢false}
 use Rattle.std.proofs.lemmas.Bool.Decides.{nat_tests}
 use Rattle.std.proofs.lemmas.List.{append-nil}
@@ -7,7 +7,7 @@ use Rattle.std.specs.List.{filter, flat_map, list_all, AllByRecursion}
 use Rattle.go_sgf.specs.Record.{Property, Trees, none, tree, AreTrees, IsProperty, IsValue, TreeValue, is_inside, is_letter_byte, is_lower, is_upper_byte, plain, plain_property}
 use Rattle.go_sgf.specs.Spelling.{Part, closing, value_part, text, text_of_parts, property_parts, node_parts, parts, tree_text, without_space, is_space, SpellsParts}
 use Rattle.go_sgf.specs.inner.Reads.{ReadsTree}
-use Rattle.go_sgf.specs.inner.Tidied.{NeverEnds, StaysTo, behind_from, is_left_out_byte, open_after, place_after, tidied_from, written}
+use Rattle.go_sgf.specs.inner.Tidied.{NeverEnds, Spot, StaysTo, behind_from, is_left_out_byte, open_after, spot_after, tidied_from, written}
 use Rattle.go_sgf.proofs.Parts.{SpellsParts-split}
 use Rattle.go_sgf.proofs.Scanning.{after_space_more, after_space_stop}
 use Rattle.go_sgf.proofs.Written.{joined-append, tree_then}
@@ -15,28 +15,28 @@ use Rattle.go_sgf.proofs.Written.{joined-append, tree_then}
 -- ---- what a front of a text gives
 
 -- From a text to a later one: this is written, and what follows the trees stays the same.
-pub record Gives (p : Option Bool) (d : ℕ) (b : List ℕ) (q : Option Bool) (e : ℕ) (rest x : List ℕ) : Type 0 where
+pub record Gives (p : Spot) (d : ℕ) (b : List ℕ) (q : Spot) (e : ℕ) (rest x : List ℕ) : Type 0 where
   pub text : tidied_from p d b ≡ x ++ tidied_from q e rest
   pub behind : behind_from p d b ≡ behind_from q e rest
 
-pub nothing_given : (p : Option Bool) (d : ℕ) (b : List ℕ) → Gives p d b p d b []
+pub nothing_given : (p : Spot) (d : ℕ) (b : List ℕ) → Gives p d b p d b []
 nothing_given p d b = record { text = refl; behind = refl }
 
-pub given_then : {p q r : Option Bool} {d e f : ℕ} {b mid rest : List ℕ} (x y : List ℕ) → Gives p d b q e mid x → Gives q e mid r f rest y → Gives p d b r f rest (x ++ y)
+pub given_then : {p q r : Spot} {d e f : ℕ} {b mid rest : List ℕ} (x y : List ℕ) → Gives p d b q e mid x → Gives q e mid r f rest y → Gives p d b r f rest (x ++ y)
 given_then {r} {f} {rest} x y g h = record {
   text = g.text ∙ ap (λ zs. x ++ zs) h.text ∙ sym (append_assoc x y (tidied_from r f rest));
   behind = g.behind ∙ h.behind;
 }
 
-tidied_byte : (p : Option Bool) (d c : ℕ) (cs : List ℕ) → tidied_from p (suc d) (c ∷ cs) ≡ written p c ++ tidied_from (place_after p c) (open_after p (suc d) c) cs
+tidied_byte : (p : Spot) (d c : ℕ) (cs : List ℕ) → tidied_from p (suc d) (c ∷ cs) ≡ written p c ++ tidied_from (spot_after p c) (open_after p (suc d) c) cs
 unfolding tidied_from
 tidied_byte p d c cs = refl
 
-behind_byte : (p : Option Bool) (d c : ℕ) (cs : List ℕ) → behind_from p (suc d) (c ∷ cs) ≡ behind_from (place_after p c) (open_after p (suc d) c) cs
+behind_byte : (p : Spot) (d c : ℕ) (cs : List ℕ) → behind_from p (suc d) (c ∷ cs) ≡ behind_from (spot_after p c) (open_after p (suc d) c) cs
 unfolding behind_from
 behind_byte p d c cs = refl
 
-given_byte : (p : Option Bool) (d c : ℕ) (cs : List ℕ) → Gives p (suc d) (c ∷ cs) (place_after p c) (open_after p (suc d) c) cs (written p c)
+given_byte : (p : Spot) (d c : ℕ) (cs : List ℕ) → Gives p (suc d) (c ∷ cs) (spot_after p c) (open_after p (suc d) c) cs (written p c)
 given_byte p d c cs = record { text = tidied_byte p d c cs; behind = behind_byte p d c cs }
 
 -- ---- no tree is some
@@ -51,11 +51,11 @@ unfolding behind_from
 behind_closed [] = refl
 behind_closed (c ∷ cs) = refl
 
-pub tidied_end : (p : Option Bool) (d : ℕ) → tidied_from p d [] ≡ []
+pub tidied_end : (p : Spot) (d : ℕ) → tidied_from p d [] ≡ []
 unfolding tidied_from
 tidied_end p d = refl
 
-pub behind_end : (p : Option Bool) (d : ℕ) → behind_from p d [] ≡ []
+pub behind_end : (p : Spot) (d : ℕ) → behind_from p d [] ≡ []
 unfolding behind_from
 behind_end p d = refl
 
@@ -147,10 +147,10 @@ never_ends_escape v h d =
 
 -- ---- what stays as it stands
 
-pub stays : (p : Option Bool) (d e : ℕ) (b rest front : List ℕ) → b ≡ front ++ rest → Gives p d b None e rest front → StaysTo p d b e rest
+pub stays : (p : Spot) (d e : ℕ) (b rest front : List ℕ) → b ≡ front ++ rest → Gives p d b None e rest front → StaysTo p d b e rest
 stays p d e b rest front whole g = record { front = front; whole = whole; text = g.text; behind = g.behind }
 
-pub stays_on : {p : Option Bool} {d e f : ℕ} {b mid rest : List ℕ} → StaysTo p d b e mid → StaysTo None e mid f rest → StaysTo p d b f rest
+pub stays_on : {p : Spot} {d e f : ℕ} {b mid rest : List ℕ} → StaysTo p d b e mid → StaysTo None e mid f rest → StaysTo p d b f rest
 stays_on {rest} s t = record {
   front = s.front ++ t.front;
   whole = s.whole ∙ ap (λ xs. s.front ++ xs) t.whole ∙ sym (append_assoc s.front t.front rest);
