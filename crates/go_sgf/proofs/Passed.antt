@@ -1,5 +1,5 @@
 -- What is written of a tree's text, byte by byte and part by part, and what follows the tree.
-use Rattle.std.proofs.Common.{◌≡◌, ◌≢◌, ◌==◌, ◌-◌, ◌+◌, not, ℕ, zero, suc, List, [], ◌∷◌, ◌++◌, Bool, true, false, Some, None, refl, sym, ap, subst, ◌∙◌, map, append_assoc, inl, inr, arith}
+use Rattle.std.proofs.Common.{◌≡◌, ◌≢◌, ◌==◌, ◌-◌, ◌+◌, not, ℕ, zero, suc, List, [], ◌∷◌, ◌++◌, Bool, true, false, if◌then◌else◌, refl, sym, ap, subst, ◌∙◌, map, append_assoc, inl, inr, arith}
 use Rattle.std.proofs.lemmas.Bool.{and_parts, cases_Bool, eq-eqb, true≢false}
 use Rattle.std.proofs.lemmas.Bool.Decides.{nat_tests}
 use Rattle.std.proofs.lemmas.List.{append-nil}
@@ -7,7 +7,7 @@ use Rattle.std.specs.List.{filter, flat_map, list_all, AllByRecursion}
 use Rattle.go_sgf.specs.Record.{Property, Trees, none, tree, AreTrees, IsProperty, IsValue, TreeValue, is_inside, is_letter_byte, is_lower, is_upper_byte, plain, plain_property}
 use Rattle.go_sgf.specs.Spelling.{Part, closing, value_part, text, text_of_parts, property_parts, node_parts, parts, tree_text, without_space, is_space, SpellsParts}
 use Rattle.go_sgf.specs.inner.Reads.{ReadsTree}
-use Rattle.go_sgf.specs.inner.Tidied.{NeverEnds, Spot, StaysTo, behind_from, is_left_out_byte, open_after, spot_after, tidied_from, written}
+use Rattle.go_sgf.specs.inner.Tidied.{Escaped, Inside, NeverEnds, Outside, Spot, StaysTo, behind_from, is_left_out_byte, open_after, spot_after, tidied_from, written}
 use Rattle.go_sgf.proofs.Parts.{SpellsParts-split}
 use Rattle.go_sgf.proofs.Scanning.{after_space_more, after_space_stop}
 use Rattle.go_sgf.proofs.Written.{joined-append, tree_then}
@@ -41,12 +41,12 @@ given_byte p d c cs = record { text = tidied_byte p d c cs; behind = behind_byte
 
 -- ---- no tree is some
 
-pub tidied_closed : (b : List ℕ) → tidied_from None 0 b ≡ []
+pub tidied_closed : (b : List ℕ) → tidied_from Outside 0 b ≡ []
 unfolding tidied_from
 tidied_closed [] = refl
 tidied_closed (c ∷ cs) = refl
 
-pub behind_closed : (b : List ℕ) → behind_from None 0 b ≡ b
+pub behind_closed : (b : List ℕ) → behind_from Outside 0 b ≡ b
 unfolding behind_from
 behind_closed [] = refl
 behind_closed (c ∷ cs) = refl
@@ -61,33 +61,33 @@ behind_end p d = refl
 
 -- ---- bytes outside of values
 
-pub left_out_given : (d c : ℕ) (cs : List ℕ) → is_left_out_byte c ≡ true → Gives None (suc d) (c ∷ cs) None (suc d) cs []
+pub left_out_given : (d c : ℕ) (cs : List ℕ) → is_left_out_byte c ≡ true → Gives Outside (suc d) (c ∷ cs) Outside (suc d) cs []
 left_out_given d c cs e =
     let bracket : (c == 91) ≡ false = grind (arith, nat_tests) in
     let opening' : (c == 40) ≡ false = grind (arith, nat_tests) in
     let closing' : (c == 41) ≡ false = grind (arith, nat_tests) in
-    let g = given_byte None d c cs in
+    let g = given_byte Outside d c cs in
     rw (e, bracket, opening', closing') at g
 
 pub other_given : (d c : ℕ) (cs : List ℕ) → is_left_out_byte c ≡ false → (c == 91) ≡ false → (c == 40) ≡ false → (c == 41) ≡ false →
-    Gives None (suc d) (c ∷ cs) None (suc d) cs (c ∷ [])
-other_given d c cs e bracket opening' closing' = let g = given_byte None d c cs in rw (e, bracket, opening', closing') at g
+    Gives Outside (suc d) (c ∷ cs) Outside (suc d) cs (c ∷ [])
+other_given d c cs e bracket opening' closing' = let g = given_byte Outside d c cs in rw (e, bracket, opening', closing') at g
 
-closing_given : (d : ℕ) (cs : List ℕ) → Gives None (suc d) (41 ∷ cs) None d cs (41 ∷ [])
+closing_given : (d : ℕ) (cs : List ℕ) → Gives Outside (suc d) (41 ∷ cs) Outside d cs (41 ∷ [])
 closing_given d cs =
     let same : suc d - 1 ≡ d = omega arith in
-    subst (λ (k : ℕ). Gives None (suc d) (41 ∷ cs) None k cs (41 ∷ [])) same (given_byte None d 41 cs)
+    subst (λ (k : ℕ). Gives Outside (suc d) (41 ∷ cs) Outside k cs (41 ∷ [])) same (given_byte Outside d 41 cs)
 
-space_given : (d : ℕ) (b : List ℕ) → Gives None (suc d) b None (suc d) (without_space b) []
-space_given d [] = nothing_given None (suc d) []
+space_given : (d : ℕ) (b : List ℕ) → Gives Outside (suc d) b Outside (suc d) (without_space b) []
+space_given d [] = nothing_given Outside (suc d) []
 space_given d (c ∷ cs) = elim (cases_Bool (is_space c)) [
   | inl e ↦
       let left_out : is_left_out_byte c ≡ true = rw e refl in
       rw (after_space_more c cs e) (given_then [] [] (left_out_given d c cs left_out) (space_given d cs))
-  | inr e ↦ rw (after_space_stop c cs e) (nothing_given None (suc d) (c ∷ cs))
+  | inr e ↦ rw (after_space_stop c cs e) (nothing_given Outside (suc d) (c ∷ cs))
 ]
 
-letter_given : (d c : ℕ) (cs : List ℕ) → is_letter_byte c ≡ true → Gives None (suc d) (c ∷ cs) None (suc d) cs (filter is_upper_byte (c ∷ []))
+letter_given : (d c : ℕ) (cs : List ℕ) → is_letter_byte c ≡ true → Gives Outside (suc d) (c ∷ cs) Outside (suc d) cs (filter is_upper_byte (c ∷ []))
 letter_given d c cs e = elim (cases_Bool (is_upper_byte c)) [
   | inl up ↦
       let left_out : is_left_out_byte c ≡ false = grind (arith, nat_tests) in
@@ -101,12 +101,12 @@ letter_given d c cs e = elim (cases_Bool (is_upper_byte c)) [
       rw up (left_out_given d c cs left_out)
 ]
 
-name_given : (d : ℕ) (n b : List ℕ) → list_all is_letter_byte n ≡ true → Gives None (suc d) (n ++ b) None (suc d) b (filter is_upper_byte n)
-name_given d [] b h = nothing_given None (suc d) b
+name_given : (d : ℕ) (n b : List ℕ) → list_all is_letter_byte n ≡ true → Gives Outside (suc d) (n ++ b) Outside (suc d) b (filter is_upper_byte n)
+name_given d [] b h = nothing_given Outside (suc d) b
 name_given d (c ∷ cs) b h =
     let both = and_parts (is_letter_byte c) (list_all is_letter_byte cs) h in
     let g = given_then (filter is_upper_byte (c ∷ [])) (filter is_upper_byte cs) (letter_given d c (cs ++ b) both.0) (name_given d cs b both.1) in
-    subst (λ (xs : List ℕ). Gives None (suc d) (c ∷ (cs ++ b)) None (suc d) b xs) (sym (filter_first c cs)) g
+    subst (λ (xs : List ℕ). Gives Outside (suc d) (c ∷ (cs ++ b)) Outside (suc d) b xs) (sym (filter_first c cs)) g
   where
     filter_first : (c : ℕ) (cs : List ℕ) → filter is_upper_byte (c ∷ cs) ≡ filter is_upper_byte (c ∷ []) ++ filter is_upper_byte cs
     filter_first c cs = elim (cases_Bool (is_upper_byte c)) [
@@ -116,41 +116,45 @@ name_given d (c ∷ cs) b h =
 
 -- ---- bytes inside of a value
 
-inside_given : (d : ℕ) (e : Bool) (v b : List ℕ) → is_inside e v ≡ true → Gives (Some e) (suc d) (v ++ b) (Some false) (suc d) b v
+-- inside of a value, behind a `\` or not
+abbrev inside_spot : Bool → Spot
+inside_spot e = if e then Escaped else Inside
+
+inside_given : (d : ℕ) (e : Bool) (v b : List ℕ) → is_inside e v ≡ true → Gives (inside_spot e) (suc d) (v ++ b) Inside (suc d) b v
 inside_given d true [] b h = cc
-inside_given d false [] b h = nothing_given (Some false) (suc d) b
-inside_given d true (c ∷ cs) b h = given_then (c ∷ []) cs (given_byte (Some true) d c (cs ++ b)) (inside_given d false cs b h)
+inside_given d false [] b h = nothing_given Inside (suc d) b
+inside_given d true (c ∷ cs) b h = given_then (c ∷ []) cs (given_byte Escaped d c (cs ++ b)) (inside_given d false cs b h)
 inside_given d false (c ∷ cs) b h =
     let both = and_parts (not (c == 93)) (is_inside (c == 92) cs) h in
     let other : (c == 93) ≡ false = grind (arith, nat_tests, both.0) in
-    let first : Gives (Some false) (suc d) (c ∷ (cs ++ b)) (Some (c == 92)) (suc d) (cs ++ b) (c ∷ []) =
-    let g = given_byte (Some false) d c (cs ++ b) in rw other at g in
+    let first : Gives Inside (suc d) (c ∷ (cs ++ b)) (inside_spot (c == 92)) (suc d) (cs ++ b) (c ∷ []) =
+    let g = given_byte Inside d c (cs ++ b) in rw other at g in
     given_then (c ∷ []) cs first (inside_given d (c == 92) cs b both.1)
 
 -- from behind a `[` to behind the `]`
-value_given : (d : ℕ) (v more : List ℕ) → IsValue v → Gives (Some false) (suc d) (v ++ (93 ∷ more)) None (suc d) more (v ++ (93 ∷ []))
-value_given d v more h = given_then v (93 ∷ []) (inside_given d false v (93 ∷ more) h) (given_byte (Some false) d 93 more)
+value_given : (d : ℕ) (v more : List ℕ) → IsValue v → Gives Inside (suc d) (v ++ (93 ∷ more)) Outside (suc d) more (v ++ (93 ∷ []))
+value_given d v more h = given_then v (93 ∷ []) (inside_given d false v (93 ∷ more) h) (given_byte Inside d 93 more)
 
 pub never_ends : (v : List ℕ) → IsValue v → NeverEnds v
 never_ends v h d =
-    let g = subst (λ (b : List ℕ). Gives (Some false) (suc d) b (Some false) (suc d) [] v) (append-nil v) (inside_given d false v [] h) in (
-      g.text ∙ ap (λ xs. v ++ xs) (tidied_end (Some false) (suc d)) ∙ append-nil v,
-      g.behind ∙ behind_end (Some false) (suc d),
+    let g = subst (λ (b : List ℕ). Gives Inside (suc d) b Inside (suc d) [] v) (append-nil v) (inside_given d false v [] h) in (
+      g.text ∙ ap (λ xs. v ++ xs) (tidied_end Inside (suc d)) ∙ append-nil v,
+      g.behind ∙ behind_end Inside (suc d),
     )
 
 pub never_ends_escape : (v : List ℕ) → IsValue v → NeverEnds (v ++ (92 ∷ []))
 never_ends_escape v h d =
-    let g = given_then v (92 ∷ []) (inside_given d false v (92 ∷ []) h) (given_byte (Some false) d 92 []) in (
-      g.text ∙ ap (λ xs. (v ++ (92 ∷ [])) ++ xs) (tidied_end (Some true) (suc d)) ∙ append-nil (v ++ (92 ∷ [])),
-      g.behind ∙ behind_end (Some true) (suc d),
+    let g = given_then v (92 ∷ []) (inside_given d false v (92 ∷ []) h) (given_byte Inside d 92 []) in (
+      g.text ∙ ap (λ xs. (v ++ (92 ∷ [])) ++ xs) (tidied_end Escaped (suc d)) ∙ append-nil (v ++ (92 ∷ [])),
+      g.behind ∙ behind_end Escaped (suc d),
     )
 
 -- ---- what stays as it stands
 
-pub stays : (p : Spot) (d e : ℕ) (b rest front : List ℕ) → b ≡ front ++ rest → Gives p d b None e rest front → StaysTo p d b e rest
+pub stays : (p : Spot) (d e : ℕ) (b rest front : List ℕ) → b ≡ front ++ rest → Gives p d b Outside e rest front → StaysTo p d b e rest
 stays p d e b rest front whole g = record { front = front; whole = whole; text = g.text; behind = g.behind }
 
-pub stays_on : {p : Spot} {d e f : ℕ} {b mid rest : List ℕ} → StaysTo p d b e mid → StaysTo None e mid f rest → StaysTo p d b f rest
+pub stays_on : {p : Spot} {d e f : ℕ} {b mid rest : List ℕ} → StaysTo p d b e mid → StaysTo Outside e mid f rest → StaysTo p d b f rest
 stays_on {rest} s t = record {
   front = s.front ++ t.front;
   whole = s.whole ∙ ap (λ xs. s.front ++ xs) t.whole ∙ sym (append_assoc s.front t.front rest);
@@ -158,26 +162,26 @@ stays_on {rest} s t = record {
   behind = s.behind ∙ t.behind;
 }
 
-pub value_stays : (b v more : List ℕ) → b ≡ v ++ (93 ∷ more) → IsValue v → (d : ℕ) → d ≢ 0 → StaysTo (Some false) d b d more
+pub value_stays : (b v more : List ℕ) → b ≡ v ++ (93 ∷ more) → IsValue v → (d : ℕ) → d ≢ 0 → StaysTo Inside d b d more
 value_stays b v more e h zero some = absurd (some refl)
 value_stays b v more e h (suc d) some =
-    subst (λ (xs : List ℕ). StaysTo (Some false) (suc d) xs (suc d) more) (sym e)
-    (stays (Some false) (suc d) (suc d) (v ++ (93 ∷ more)) more (v ++ (93 ∷ [])) (sym (append_assoc v (93 ∷ []) more)) (value_given d v more h))
+    subst (λ (xs : List ℕ). StaysTo Inside (suc d) xs (suc d) more) (sym e)
+    (stays Inside (suc d) (suc d) (v ++ (93 ∷ more)) more (v ++ (93 ∷ [])) (sym (append_assoc v (93 ∷ []) more)) (value_given d v more h))
 
-pub all_stays : (b : List ℕ) → NeverEnds b → (d : ℕ) → d ≢ 0 → StaysTo (Some false) d b d []
+pub all_stays : (b : List ℕ) → NeverEnds b → (d : ℕ) → d ≢ 0 → StaysTo Inside d b d []
 all_stays b h zero some = absurd (some refl)
 all_stays b h (suc d) some = record {
   front = b;
   whole = sym (append-nil b);
-  text = (h d).0 ∙ sym (append-nil b) ∙ ap (λ xs. b ++ xs) (sym (tidied_end None (suc d)));
-  behind = (h d).1 ∙ sym (behind_end None (suc d));
+  text = (h d).0 ∙ sym (append-nil b) ∙ ap (λ xs. b ++ xs) (sym (tidied_end Outside (suc d)));
+  behind = (h d).1 ∙ sym (behind_end Outside (suc d));
 }
 
-pub bracket_stays : (d c : ℕ) (more rest : List ℕ) → d ≢ 0 → c ≡ 91 → ((e : ℕ) → e ≢ 0 → StaysTo (Some false) e more e rest) → StaysTo None d (c ∷ more) d rest
+pub bracket_stays : (d c : ℕ) (more rest : List ℕ) → d ≢ 0 → c ≡ 91 → ((e : ℕ) → e ≢ 0 → StaysTo Inside e more e rest) → StaysTo Outside d (c ∷ more) d rest
 bracket_stays zero c more rest some e s = absurd (some refl)
 bracket_stays (suc d) c more rest some e s =
     let t = s (suc d) some in
-    let g = given_byte None d 91 more in
+    let g = given_byte Outside d 91 more in
     rw e (record {
       front = 91 ∷ t.front;
       whole = ap (λ xs. 91 ∷ xs) t.whole;
@@ -185,30 +189,30 @@ bracket_stays (suc d) c more rest some e s =
       behind = g.behind ∙ t.behind;
     })
 
-pub opening_stays : (d c : ℕ) (more : List ℕ) → d ≢ 0 → c ≡ 40 → StaysTo None d (c ∷ more) (d + 1) more
+pub opening_stays : (d c : ℕ) (more : List ℕ) → d ≢ 0 → c ≡ 40 → StaysTo Outside d (c ∷ more) (d + 1) more
 opening_stays zero c more some e = absurd (some refl)
 opening_stays (suc d) c more some e =
     let same : suc (suc d) ≡ suc d + 1 = omega arith in
-    subst (λ (k : ℕ). StaysTo None (suc d) (c ∷ more) k more) same
-    (rw e (stays None (suc d) (suc (suc d)) (40 ∷ more) more (40 ∷ []) refl (given_byte None d 40 more)))
+    subst (λ (k : ℕ). StaysTo Outside (suc d) (c ∷ more) k more) same
+    (rw e (stays Outside (suc d) (suc (suc d)) (40 ∷ more) more (40 ∷ []) refl (given_byte Outside d 40 more)))
 
-pub closing_stays : (d c : ℕ) (more : List ℕ) → d ≢ 0 → c ≡ 41 → StaysTo None d (c ∷ more) (d - 1) more
+pub closing_stays : (d c : ℕ) (more : List ℕ) → d ≢ 0 → c ≡ 41 → StaysTo Outside d (c ∷ more) (d - 1) more
 closing_stays zero c more some e = absurd (some refl)
-closing_stays (suc d) c more some e = rw e (stays None (suc d) (suc d - 1) (41 ∷ more) more (41 ∷ []) refl (given_byte None d 41 more))
+closing_stays (suc d) c more some e = rw e (stays Outside (suc d) (suc d - 1) (41 ∷ more) more (41 ∷ []) refl (given_byte Outside d 41 more))
 
-pub other_stays : (d c : ℕ) (more : List ℕ) → d ≢ 0 → is_left_out_byte c ≡ false → c ≢ 91 → c ≢ 40 → c ≢ 41 → StaysTo None d (c ∷ more) d more
+pub other_stays : (d c : ℕ) (more : List ℕ) → d ≢ 0 → is_left_out_byte c ≡ false → c ≢ 91 → c ≢ 40 → c ≢ 41 → StaysTo Outside d (c ∷ more) d more
 other_stays zero c more some left_out bracket opening' closing' = absurd (some refl)
 other_stays (suc d) c more some left_out bracket opening' closing' =
     let b : (c == 91) ≡ false = grind (arith, nat_tests) in
     let o : (c == 40) ≡ false = grind (arith, nat_tests) in
     let k : (c == 41) ≡ false = grind (arith, nat_tests) in
-    stays None (suc d) (suc d) (c ∷ more) more (c ∷ []) refl (other_given d c more left_out b o k)
+    stays Outside (suc d) (suc d) (c ∷ more) more (c ∷ []) refl (other_given d c more left_out b o k)
 
-pub semicolon_stays : (d c : ℕ) (more : List ℕ) → d ≢ 0 → c ≡ 59 → StaysTo None d (c ∷ more) d more
+pub semicolon_stays : (d c : ℕ) (more : List ℕ) → d ≢ 0 → c ≡ 59 → StaysTo Outside d (c ∷ more) d more
 semicolon_stays zero c more some e = absurd (some refl)
-semicolon_stays (suc d) c more some e = rw e (stays None (suc d) (suc d) (59 ∷ more) more (59 ∷ []) refl (given_byte None d 59 more))
+semicolon_stays (suc d) c more some e = rw e (stays Outside (suc d) (suc d) (59 ∷ more) more (59 ∷ []) refl (given_byte Outside d 59 more))
 
-pub upper_stays : (d c : ℕ) (more : List ℕ) → d ≢ 0 → is_upper_byte c ≡ true → StaysTo None d (c ∷ more) d more
+pub upper_stays : (d c : ℕ) (more : List ℕ) → d ≢ 0 → is_upper_byte c ≡ true → StaysTo Outside d (c ∷ more) d more
 upper_stays d c more some e =
     let left_out : is_left_out_byte c ≡ false = grind (arith, nat_tests) in
     let b : (c == 91) ≡ false = grind (arith, nat_tests) in
@@ -221,64 +225,64 @@ upper_stays d c more some e =
 
 -- ---- what is left out
 
-pub left_out_tidied : (c : ℕ) (cs : List ℕ) → is_left_out_byte c ≡ true → (d : ℕ) → d ≢ 0 → tidied_from None d (c ∷ cs) ≡ tidied_from None d cs
+pub left_out_tidied : (c : ℕ) (cs : List ℕ) → is_left_out_byte c ≡ true → (d : ℕ) → d ≢ 0 → tidied_from Outside d (c ∷ cs) ≡ tidied_from Outside d cs
 left_out_tidied c cs e zero some = absurd (some refl)
 left_out_tidied c cs e (suc d) some = (left_out_given d c cs e).text
 
-pub left_out_behind : (c : ℕ) (cs : List ℕ) → is_left_out_byte c ≡ true → (d : ℕ) → d ≢ 0 → behind_from None d (c ∷ cs) ≡ behind_from None d cs
+pub left_out_behind : (c : ℕ) (cs : List ℕ) → is_left_out_byte c ≡ true → (d : ℕ) → d ≢ 0 → behind_from Outside d (c ∷ cs) ≡ behind_from Outside d cs
 left_out_behind c cs e zero some = absurd (some refl)
 left_out_behind c cs e (suc d) some = (left_out_given d c cs e).behind
 
 -- ---- parts
 
 -- a part behind white space
-spaced : (d e : ℕ) (b front more x : List ℕ) → without_space b ≡ front ++ more → Gives None (suc d) (front ++ more) None e more x → Gives None (suc d) b None e more x
+spaced : (d e : ℕ) (b front more x : List ℕ) → without_space b ≡ front ++ more → Gives Outside (suc d) (front ++ more) Outside e more x → Gives Outside (suc d) b Outside e more x
 spaced d e b front more x same g =
-    given_then [] x (subst (λ (xs : List ℕ). Gives None (suc d) b None (suc d) xs []) same (space_given d b)) g
+    given_then [] x (subst (λ (xs : List ℕ). Gives Outside (suc d) b Outside (suc d) xs []) same (space_given d b)) g
 
-ended : (d : ℕ) (b rest : List ℕ) → without_space b ≡ rest → Gives None (suc d) b None (suc d) rest []
-ended d b rest same = subst (λ (xs : List ℕ). Gives None (suc d) b None (suc d) xs []) same (space_given d b)
+ended : (d : ℕ) (b rest : List ℕ) → without_space b ≡ rest → Gives Outside (suc d) b Outside (suc d) rest []
+ended d b rest same = subst (λ (xs : List ℕ). Gives Outside (suc d) b Outside (suc d) xs []) same (space_given d b)
 
 values_given : (d : ℕ) (vs : List (List ℕ)) (b rest : List ℕ) → AllByRecursion IsValue vs → SpellsParts b (map value_part vs) rest →
-    Gives None (suc d) b None (suc d) rest (text_of_parts (map value_part vs))
+    Gives Outside (suc d) b Outside (suc d) rest (text_of_parts (map value_part vs))
 values_given d [] b rest h s = ended d b rest s
 values_given d (v ∷ vs) b rest h s =
     let whole : text (value_part v) ++ s.0 ≡ 91 ∷ (v ++ (93 ∷ s.0)) = ap (λ xs. 91 ∷ xs) (append_assoc v (93 ∷ []) s.0) in
-    let one : Gives None (suc d) (text (value_part v) ++ s.0) None (suc d) s.0 (text (value_part v)) =
-    subst (λ (xs : List ℕ). Gives None (suc d) xs None (suc d) s.0 (text (value_part v))) (sym whole)
-    (given_then (91 ∷ []) (v ++ (93 ∷ [])) (given_byte None d 91 (v ++ (93 ∷ s.0))) (value_given d v s.0 h.0)) in
+    let one : Gives Outside (suc d) (text (value_part v) ++ s.0) Outside (suc d) s.0 (text (value_part v)) =
+    subst (λ (xs : List ℕ). Gives Outside (suc d) xs Outside (suc d) s.0 (text (value_part v))) (sym whole)
+    (given_then (91 ∷ []) (v ++ (93 ∷ [])) (given_byte Outside d 91 (v ++ (93 ∷ s.0))) (value_given d v s.0 h.0)) in
     given_then (text (value_part v)) (text_of_parts (map value_part vs)) (spaced d (suc d) b (text (value_part v)) s.0 (text (value_part v)) s.1 one)
     (values_given d vs s.0 rest h.1 s.2)
 
 property_given : (d : ℕ) (p : Property) (b rest : List ℕ) → IsProperty p → SpellsParts b (property_parts p) rest →
-    Gives None (suc d) b None (suc d) rest (text_of_parts (property_parts (plain_property p)))
+    Gives Outside (suc d) b Outside (suc d) rest (text_of_parts (property_parts (plain_property p)))
 property_given d p b rest h s =
     given_then (filter is_upper_byte p.name) (text_of_parts (map value_part p.values))
     (spaced d (suc d) b p.name s.0 (filter is_upper_byte p.name) s.1 (name_given d p.name s.0 h.named.0)) (values_given d p.values s.0 rest h.inside s.2)
 
 properties_given : (d : ℕ) (ps : List Property) (b rest : List ℕ) → AllByRecursion IsProperty ps → SpellsParts b (flat_map property_parts ps) rest →
-    Gives None (suc d) b None (suc d) rest (text_of_parts (flat_map property_parts (map plain_property ps)))
+    Gives Outside (suc d) b Outside (suc d) rest (text_of_parts (flat_map property_parts (map plain_property ps)))
 properties_given d [] b rest h s = ended d b rest s
 properties_given d (p ∷ ps) b rest h s =
     let split = SpellsParts-split (property_parts p) (flat_map property_parts ps) b rest s in
     let later = flat_map property_parts (map plain_property ps) in
-    subst (λ (xs : List ℕ). Gives None (suc d) b None (suc d) rest xs) (sym (joined-append (property_parts (plain_property p)) later))
+    subst (λ (xs : List ℕ). Gives Outside (suc d) b Outside (suc d) rest xs) (sym (joined-append (property_parts (plain_property p)) later))
     (given_then (text_of_parts (property_parts (plain_property p))) (text_of_parts later) (property_given d p b split.0 h.0 split.1)
     (properties_given d ps split.0 rest h.1 split.2))
 
 node_given : (d : ℕ) (ps : List Property) (b rest : List ℕ) → AllByRecursion IsProperty ps → SpellsParts b (node_parts ps) rest →
-    Gives None (suc d) b None (suc d) rest (text_of_parts (node_parts (map plain_property ps)))
+    Gives Outside (suc d) b Outside (suc d) rest (text_of_parts (node_parts (map plain_property ps)))
 node_given d ps b rest h s =
     given_then (59 ∷ []) (text_of_parts (flat_map property_parts (map plain_property ps)))
-    (spaced d (suc d) b (59 ∷ []) s.0 (59 ∷ []) s.1 (given_byte None d 59 s.0)) (properties_given d ps s.0 rest h s.2)
+    (spaced d (suc d) b (59 ∷ []) s.0 (59 ∷ []) s.1 (given_byte Outside d 59 s.0)) (properties_given d ps s.0 rest h s.2)
 
 nodes_given : (d : ℕ) (ns : List (List Property)) (b rest : List ℕ) → AllByRecursion (AllByRecursion IsProperty) ns → SpellsParts b (flat_map node_parts ns) rest →
-    Gives None (suc d) b None (suc d) rest (text_of_parts (flat_map node_parts (map (map plain_property) ns)))
+    Gives Outside (suc d) b Outside (suc d) rest (text_of_parts (flat_map node_parts (map (map plain_property) ns)))
 nodes_given d [] b rest h s = ended d b rest s
 nodes_given d (n ∷ ns) b rest h s =
     let split = SpellsParts-split (node_parts n) (flat_map node_parts ns) b rest s in
     let later = flat_map node_parts (map (map plain_property) ns) in
-    subst (λ (xs : List ℕ). Gives None (suc d) b None (suc d) rest xs) (sym (joined-append (node_parts (map plain_property n)) later))
+    subst (λ (xs : List ℕ). Gives Outside (suc d) b Outside (suc d) rest xs) (sym (joined-append (node_parts (map plain_property n)) later))
     (given_then (text_of_parts (node_parts (map plain_property n))) (text_of_parts later) (node_given d n b split.0 h.0 split.1)
     (nodes_given d ns split.0 rest h.1 split.2))
 
@@ -286,9 +290,9 @@ nodes_given d (n ∷ ns) b rest h s =
 
 -- the nodes, the children and the `)` of a tree
 body_given : (d : ℕ) (ns : List (List Property)) (children later : List Part) (b rest x : List ℕ) → AllByRecursion (AllByRecursion IsProperty) ns →
-    ((m r : List ℕ) → SpellsParts m children r → Gives None (suc d) m None (suc d) r x) →
+    ((m r : List ℕ) → SpellsParts m children r → Gives Outside (suc d) m Outside (suc d) r x) →
     SpellsParts b (flat_map node_parts ns ++ (children ++ (closing ∷ later))) rest →
-    (mid : List ℕ) × Gives None (suc d) b None d mid (text_of_parts (flat_map node_parts (map (map plain_property) ns)) ++ (x ++ (41 ∷ []))) × SpellsParts mid later rest
+    (mid : List ℕ) × Gives Outside (suc d) b Outside d mid (text_of_parts (flat_map node_parts (map (map plain_property) ns)) ++ (x ++ (41 ∷ []))) × SpellsParts mid later rest
 body_given d ns children later b rest x h inside s =
     let nodes = SpellsParts-split (flat_map node_parts ns) (children ++ (closing ∷ later)) b rest s in
     let inner = SpellsParts-split children (closing ∷ later) nodes.0 rest nodes.2 in
@@ -307,22 +311,22 @@ tree_text-is nodes children =
     (joined-append front (parts (plain children) ++ (closing ∷ [])) ∙ ap (λ xs. text_of_parts front ++ xs) (joined-append (parts (plain children)) (closing ∷ [])))
 
 trees_given : (c : Trees) (d : ℕ) (b rest : List ℕ) → AreTrees c → SpellsParts b (parts c) rest →
-    Gives None (suc d) b None (suc d) rest (text_of_parts (parts (plain c)))
+    Gives Outside (suc d) b Outside (suc d) rest (text_of_parts (parts (plain c)))
 trees_given none d b rest h s = ended d b rest s
 trees_given (tree nodes children later) d b rest h s =
     let inside = text_of_parts (parts (plain children)) in
     let behind = text_of_parts (parts (plain later)) in
     let body = body_given (suc d) nodes (parts children) (parts later) s.0 rest inside h.1 (λ m r. trees_given children (suc d) m r h.2) s.2 in
     let own = text_of_parts (flat_map node_parts (map (map plain_property) nodes)) ++ (inside ++ (41 ∷ [])) in
-    subst (λ (xs : List ℕ). Gives None (suc d) b None (suc d) rest xs)
+    subst (λ (xs : List ℕ). Gives Outside (suc d) b Outside (suc d) rest xs)
     (sym (tree_then nodes children (parts (plain later)) ∙ ap (λ ys. ys ++ behind) (tree_text-is nodes children)))
     (given_then (40 ∷ own) behind
-    (given_then (40 ∷ []) own (spaced d (suc (suc d)) b (40 ∷ []) s.0 (40 ∷ []) s.1 (given_byte None d 40 s.0)) body.1)
+    (given_then (40 ∷ []) own (spaced d (suc (suc d)) b (40 ∷ []) s.0 (40 ∷ []) s.1 (given_byte Outside d 40 s.0)) body.1)
     (trees_given later d body.0 rest h.3 body.2))
 
 -- a tree from behind its `(` on
 pub tree_given : (b rest : List ℕ) (t : TreeValue) → ReadsTree 1 b t rest →
-    (tree_text t.0 t.1 ≡ 40 ∷ tidied_from None 1 b) × (rest ≡ without_space (behind_from None 1 b))
+    (tree_text t.0 t.1 ≡ 40 ∷ tidied_from Outside 1 b) × (rest ≡ without_space (behind_from Outside 1 b))
 tree_given b rest t r =
     let inside = text_of_parts (parts (plain t.1)) in
     let own = text_of_parts (flat_map node_parts (map (map plain_property) t.0)) ++ (inside ++ (41 ∷ [])) in

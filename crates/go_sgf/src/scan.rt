@@ -1,9 +1,9 @@
-ghost use Rattle.std.specs.Prelude.{◌≡◌, ◌≢◌, ◌≤◌, ◌*◌, ◌∷◌, ◌++◌, ◌||◌, ◌==◌, ℕ, IfNone, IfSome, None, Some, false, length, map, min, take, true};
+ghost use Rattle.std.specs.Prelude.{◌≡◌, ◌≢◌, ◌≤◌, ◌*◌, ◌∷◌, ◌++◌, ◌||◌, ◌==◌, ℕ, IfNone, IfSome, Some, false, length, map, min, take, true};
 ghost use Rattle.std.specs.List.{list_all, list_any};
 ghost use Rattle.std.specs.Simd.Lanes.{mask_l};
 ghost use Rattle.memchr.specs.Find.{IsFirst, IsFirstByte, Nowhere, Passes, is_byte2};
 ghost use Rattle.go_sgf.specs.inner.Reads.{IsBracketAt, is_letter_first, is_ordinary};
-ghost use Rattle.go_sgf.specs.inner.Tidied.{behind_from, is_left_out_byte, is_left_out_first, tidied_from};
+ghost use Rattle.go_sgf.specs.inner.Tidied.{Outside, behind_from, is_left_out_byte, is_left_out_first, tidied_from};
 ghost use Rattle.go_sgf.specs.Record.{is_letter_byte, is_upper_byte};
 ghost use Rattle.go_sgf.specs.Spelling.{without_space, is_tree_first, is_first, tree_in, is_space};
 
@@ -47,9 +47,9 @@ pub(crate) fn is_left_out(byte: u8) -> bool
 /// The bytes behind those at the front that aren't written.
 pub(crate) fn behind_left_out(bytes: &[u8]) -> &[u8]
     ensures written { (d : ℕ) → d ≢ 0
-        → tidied_from None d bytes.now ≡ tidied_from None d result.now }
+        → tidied_from Outside d bytes.now ≡ tidied_from Outside d result.now }
     ensures behind { (d : ℕ) → d ≢ 0
-        → behind_from None d bytes.now ≡ behind_from None d result.now }
+        → behind_from Outside d bytes.now ≡ behind_from Outside d result.now }
     ensures stopped { is_left_out_first result.now ≡ false }
     ensures shorter { length result.now ≤ length bytes.now }
 {

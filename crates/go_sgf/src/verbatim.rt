@@ -1,5 +1,5 @@
-ghost use Rattle.std.specs.Prelude.{◌≡◌, ◌≢◌, ◌≤◌, ◌<◌, ◌+◌, ◌^◌, ◌++◌, ℕ, [], IfNone, IfSome, Some, None, false, length};
-ghost use Rattle.go_sgf.specs.inner.Tidied.{StaysTo, behind_from, is_left_out_first, tidied_from};
+ghost use Rattle.std.specs.Prelude.{◌≡◌, ◌≢◌, ◌≤◌, ◌<◌, ◌+◌, ◌^◌, ◌++◌, ℕ, [], IfNone, IfSome, false, length};
+ghost use Rattle.go_sgf.specs.inner.Tidied.{Inside, Outside, StaysTo, behind_from, is_left_out_first, tidied_from};
 
 use crate::scan::{is_left_out, is_upper};
 use crate::values::value;
@@ -11,9 +11,9 @@ pub(crate) fn verbatim(text: &[u8], depth: usize) -> Option<(&[u8], &[u8], usize
     requires { depth + length text.now ≤ 2 ^ 63 }
     ensures whole { IfSome result (λ r. text.now ≡ r.0.now ++ r.1.now) }
     ensures written { IfSome result
-        (λ r. tidied_from None depth text.now ≡ r.0.now ++ tidied_from None r.2 r.1.now) }
+        (λ r. tidied_from Outside depth text.now ≡ r.0.now ++ tidied_from Outside r.2 r.1.now) }
     ensures behind { IfSome result
-        (λ r. behind_from None depth text.now ≡ behind_from None r.2 r.1.now) }
+        (λ r. behind_from Outside depth text.now ≡ behind_from Outside r.2 r.1.now) }
     ensures bound { IfSome result (λ r. r.2 + length r.1.now ≤ depth + length text.now) }
     ensures shorter { IfSome result (λ r. length r.1.now < length text.now) }
     ensures none { IfNone result
@@ -36,7 +36,7 @@ pub(crate) fn verbatim(text: &[u8], depth: usize) -> Option<(&[u8], &[u8], usize
 #[inline]
 fn behind_next(text: &[u8], depth: usize) -> Option<(&[u8], usize)>
     requires { depth + length text.now ≤ 2 ^ 63 }
-    ensures stays { IfSome result (λ r. StaysTo None depth text.now r.1 r.0.now) }
+    ensures stays { IfSome result (λ r. StaysTo Outside depth text.now r.1 r.0.now) }
     ensures bound { IfSome result (λ r. r.1 + length r.0.now ≤ depth + length text.now) }
     ensures shorter { IfSome result (λ r. length r.0.now < length text.now) }
     ensures none { IfNone result
@@ -66,7 +66,7 @@ fn behind_next(text: &[u8], depth: usize) -> Option<(&[u8], usize)>
 /// What follows a value from behind its `[` on; nothing where it has no end.
 #[inline]
 fn behind_value(text: &[u8]) -> &[u8]
-    ensures stays { (d : ℕ) → d ≢ 0 → StaysTo (Some false) d text.now d result.now }
+    ensures stays { (d : ℕ) → d ≢ 0 → StaysTo Inside d text.now d result.now }
     ensures shorter { length result.now ≤ length text.now }
 {
     match value(text) {

@@ -1,7 +1,7 @@
-ghost use Rattle.std.specs.Prelude.{◌≡◌, ◌≤◌, ℕ, List, None, length};
+ghost use Rattle.std.specs.Prelude.{◌≡◌, ◌≤◌, ℕ, List, length};
 ghost use Rattle.go_board.specs.Device.{Sent, failures_after};
 ghost use Rattle.go_board.specs.Pens.{Writes};
-ghost use Rattle.go_sgf.specs.inner.Tidied.{behind_from, tidied_from};
+ghost use Rattle.go_sgf.specs.inner.Tidied.{Outside, behind_from, tidied_from};
 ghost use Rattle.go_sgf.specs.Record.{Trees};
 ghost use Rattle.go_sgf.specs.Spelling.{Spells, canonical, without_space};
 
@@ -54,8 +54,8 @@ fn put_trees<W: Sink>(source: &[u8], pen: &mut Pen<'_, W>)
 /// Writes a tree from behind its `(` on, and gives what follows its `)` and white space. What stands
 /// there just as it is written goes in one piece.
 fn put_tree<'a, W: Sink>(text: &'a [u8], pen: &mut Pen<'_, W>) -> &'a [u8]
-    ensures written { Writes W.Sink pen.old pen.new (tidied_from None 1 text.now) }
-    ensures rest { result.now ≡ without_space (behind_from None 1 text.now) }
+    ensures written { Writes W.Sink pen.old pen.new (tidied_from Outside 1 text.now) }
+    ensures rest { result.now ≡ without_space (behind_from Outside 1 text.now) }
     ensures shorter { length result.now ≤ length text.now }
 {
     let mut rest = text;

@@ -1,6 +1,6 @@
 -- What is written of a tree's text, byte by byte: all but the white space and the lower-case letters outside of values. It serves the
 -- contracts of private functions alone.
-use Rattle.std.specs.Prelude.{◌≡◌, ℕ, zero, suc, ◌-◌, ◌==◌, ◌||◌, if◌then◌else◌, Bool, true, false, List, [], ◌∷◌, ◌++◌, Option, Some, None}
+use Rattle.std.specs.Prelude.{◌≡◌, ℕ, zero, suc, ◌-◌, ◌==◌, ◌||◌, if◌then◌else◌, Bool, false, List, [], ◌∷◌, ◌++◌}
 use Rattle.go_sgf.specs.Record.{is_lower}
 use Rattle.go_sgf.specs.Spelling.{is_space}
 
@@ -11,26 +11,27 @@ abbrev pub is_left_out_first : List ℕ → Bool
 is_left_out_first [] = false
 is_left_out_first (c ∷ cs) = is_left_out_byte c
 
--- Where a byte stands: outside of values (None), inside of one (Some false), or inside of one behind the `\` that
--- escapes it (Some true).
-abbrev pub Spot : Type 0
-Spot = Option Bool
+-- where a byte stands: outside of values, inside of one, or inside of one behind the `\` that escapes it
+pub data Spot : Type 0 where
+  Outside : Spot
+  Inside : Spot
+  Escaped : Spot
 
 -- where the next byte stands
 abbrev pub spot_after : Spot → ℕ → Spot
-spot_after None c = if c == 91 then Some false else None
-spot_after (Some true) c = Some false
-spot_after (Some false) c = if c == 93 then None else Some (c == 92)
+spot_after Outside c = if c == 91 then Inside else Outside
+spot_after Inside c = if c == 93 then Outside else (if c == 92 then Escaped else Inside)
+spot_after Escaped c = Inside
 
 -- how many trees are open behind a byte
 abbrev pub open_after : Spot → ℕ → ℕ → ℕ
-open_after None d c = if c == 40 then suc d else (if c == 41 then d - 1 else d)
-open_after (Some escaped) d c = d
+open_after Outside d c = if c == 40 then suc d else (if c == 41 then d - 1 else d)
+open_after _ d c = d
 
 -- the byte, where it is written
 abbrev pub written : Spot → ℕ → List ℕ
-written None c = if is_left_out_byte c then [] else c ∷ []
-written (Some escaped) c = c ∷ []
+written Outside c = if is_left_out_byte c then [] else c ∷ []
+written _ c = c ∷ []
 
 -- with so many trees open, what is written until all of them are closed
 unfoldable pub tidied_from : Spot → ℕ → List ℕ → List ℕ
@@ -48,9 +49,9 @@ behind_from spot (suc d) (c ∷ cs) = behind_from (spot_after spot c) (open_afte
 pub record StaysTo (spot : Spot) (d : ℕ) (b : List ℕ) (e : ℕ) (rest : List ℕ) : Type 0 where
   pub front : List ℕ
   pub whole : b ≡ front ++ rest
-  pub text : tidied_from spot d b ≡ front ++ tidied_from None e rest
-  pub behind : behind_from spot d b ≡ behind_from None e rest
+  pub text : tidied_from spot d b ≡ front ++ tidied_from Outside e rest
+  pub behind : behind_from spot d b ≡ behind_from Outside e rest
 
 -- the text is inside of a value to its end, and all of it is written
 abbrev pub NeverEnds : List ℕ → Type 0
-NeverEnds b = (d : ℕ) → (tidied_from (Some false) (suc d) b ≡ b) × (behind_from (Some false) (suc d) b ≡ [])
+NeverEnds b = (d : ℕ) → (tidied_from Inside (suc d) b ≡ b) × (behind_from Inside (suc d) b ≡ [])

@@ -1,10 +1,11 @@
-use Rattle.std.proofs.Common.{[], None, refl, arith}
+use Rattle.std.proofs.Common.{[], refl, arith}
+use Rattle.go_sgf.specs.inner.Tidied.{Outside}
 use Rattle.go_sgf.proofs.Passed.{nothing_given, stays, stays_on}
 use Rattle.go_sgf.proofs.verbatim.verbatim.Goals as goal
 
 pub loop-more-init : goal.loop-more-init
 loop-more-init c = record {
-  stays = stays None c.args.depth c.args.depth c.args.text.now c.args.text.now [] refl (nothing_given None c.args.depth c.args.text.now);
+  stays = stays Outside c.args.depth c.args.depth c.args.text.now c.args.text.now [] refl (nothing_given Outside c.args.depth c.args.text.now);
   bound = omega arith;
   no_longer = omega arith;
   same = λ e. (refl, refl);

@@ -1,10 +1,10 @@
-use Rattle.std.proofs.Common.{◌≡◌, ◌≤◌, ◌+◌, None, length}
-use Rattle.go_sgf.specs.inner.Tidied.{StaysTo}
+use Rattle.std.proofs.Common.{◌≡◌, ◌≤◌, ◌+◌, length}
+use Rattle.go_sgf.specs.inner.Tidied.{Outside, StaysTo}
 use Rattle.go_sgf.proofs.verbatim.verbatim.Given as goal
 
 abbrev pub invariant-loop-more : goal.invariant-loop-more
 invariant-loop-more l = record {
-  stays : StaysTo None l.depth l.text l.there l.rest;
+  stays : StaysTo Outside l.depth l.text l.there l.rest;
   bound : l.there + length l.rest ≤ l.depth + length l.text;
   no_longer : length l.rest ≤ length l.text;
   same : length l.rest ≡ length l.text → (l.rest ≡ l.text) × (l.there ≡ l.depth);

@@ -1,8 +1,8 @@
-use Rattle.std.proofs.Common.{◌≡◌, [], ◌++◌, ℕ, List, None, sym, ap, subst, ◌∙◌, append_assoc, length, arith}
+use Rattle.std.proofs.Common.{◌≡◌, [], ◌++◌, ℕ, List, sym, ap, subst, ◌∙◌, append_assoc, length, arith}
 use Rattle.std.proofs.lemmas.List.{append-nil}
 use Rattle.go_board.specs.Pens.{Writes}
 use Rattle.go_board.specs.lemmas.Writing.{writes_writes}
-use Rattle.go_sgf.specs.inner.Tidied.{behind_from, tidied_from}
+use Rattle.go_sgf.specs.inner.Tidied.{Outside, behind_from, tidied_from}
 use Rattle.go_sgf.specs.Spelling.{without_space}
 use Rattle.go_sgf.proofs.Parts.{length-after_space}
 use Rattle.go_sgf.proofs.Passed.{behind_closed, behind_end, tidied_closed, tidied_end}
@@ -13,7 +13,7 @@ returns-in_default-clause-written g c =
     let i = c.loop-depth.invariant in
     let skip = c.behind_left_out.ensures in
     let none = c.in_default.ensures.none skip.stopped c.loop-depth-test.true in
-    let last : tidied_from None c.loop-depth.depth c.loop-depth.rest.now ≡ [] = skip.written c.loop-depth.depth c.loop-depth-test.true ∙ ap (tidied_from None c.loop-depth.depth) none ∙ tidied_end None c.loop-depth.depth in
+    let last : tidied_from Outside c.loop-depth.depth c.loop-depth.rest.now ≡ [] = skip.written c.loop-depth.depth c.loop-depth-test.true ∙ ap (tidied_from Outside c.loop-depth.depth) none ∙ tidied_end Outside c.loop-depth.depth in
     subst (λ (xs : List ℕ). Writes g.W.Sink c.args.pen.now c.loop-depth.pen xs)
     (sym (i.written.2 ∙ ap (λ xs. i.written.0 ++ xs) last ∙ append-nil i.written.0)) i.written.1
 
@@ -22,7 +22,7 @@ returns-in_default-clause-rest g c =
     let i = c.loop-depth.invariant in
     let skip = c.behind_left_out.ensures in
     let none = c.in_default.ensures.none skip.stopped c.loop-depth-test.true in
-    sym (ap without_space (i.behind ∙ skip.behind c.loop-depth.depth c.loop-depth-test.true ∙ ap (behind_from None c.loop-depth.depth) none ∙ behind_end None c.loop-depth.depth))
+    sym (ap without_space (i.behind ∙ skip.behind c.loop-depth.depth c.loop-depth-test.true ∙ ap (behind_from Outside c.loop-depth.depth) none ∙ behind_end Outside c.loop-depth.depth))
 
 pub loop-depth-preserved : goal.loop-depth-preserved
 loop-depth-preserved g c =
@@ -36,7 +36,7 @@ loop-depth-preserved g c =
         writes_writes i.written.1 c.put.ensures,
         i.written.2
             ∙ ap (λ xs. i.written.0 ++ xs) (skip.written c.loop-depth.depth c.loop-depth-test.true ∙ piece.written)
-            ∙ sym (append_assoc i.written.0 front (tidied_from None c.in-Some.now c.in-Some.more.now)),
+            ∙ sym (append_assoc i.written.0 front (tidied_from Outside c.in-Some.now c.in-Some.more.now)),
       );
       behind = i.behind ∙ skip.behind c.loop-depth.depth c.loop-depth-test.true ∙ piece.behind;
       shorter = omega (arith, i.shorter, skip.shorter, piece.shorter);
@@ -46,7 +46,7 @@ loop-depth-preserved g c =
 pub returns-clause-written : goal.returns-clause-written
 returns-clause-written g c =
     let i = c.loop-depth.invariant in
-    let last = ap (λ d. tidied_from None d c.loop-depth.rest.now) c.loop-depth-test.false ∙ tidied_closed c.loop-depth.rest.now in
+    let last = ap (λ d. tidied_from Outside d c.loop-depth.rest.now) c.loop-depth-test.false ∙ tidied_closed c.loop-depth.rest.now in
     subst (λ (xs : List ℕ). Writes g.W.Sink c.args.pen.now c.loop-depth.pen xs)
     (sym (i.written.2 ∙ ap (λ xs. i.written.0 ++ xs) last ∙ append-nil i.written.0)) i.written.1
 
@@ -54,7 +54,7 @@ pub returns-clause-rest : goal.returns-clause-rest
 returns-clause-rest g c =
     let i = c.loop-depth.invariant in
     c.after_space.ensures
-    ∙ sym (ap without_space (i.behind ∙ ap (λ d. behind_from None d c.loop-depth.rest.now) c.loop-depth-test.false ∙ behind_closed c.loop-depth.rest.now))
+    ∙ sym (ap without_space (i.behind ∙ ap (λ d. behind_from Outside d c.loop-depth.rest.now) c.loop-depth-test.false ∙ behind_closed c.loop-depth.rest.now))
 
 pub returns-clause-shorter : goal.returns-clause-shorter
 returns-clause-shorter g c =

@@ -1,6 +1,6 @@
-use Rattle.std.proofs.Common.{◌∷◌, ◌++◌, [], None, refl}
+use Rattle.std.proofs.Common.{◌∷◌, ◌++◌, [], refl}
 use Rattle.go_board.specs.lemmas.Writing.{writes_nothing, writes_writes}
-use Rattle.go_sgf.specs.inner.Tidied.{tidied_from}
+use Rattle.go_sgf.specs.inner.Tidied.{Outside, tidied_from}
 use Rattle.go_sgf.proofs.Tidied.{all_written, none_written, one_written}
 use Rattle.go_sgf.proofs.writer.put_trees.Goals as goal
 
@@ -11,7 +11,7 @@ pub loop-inside-preserved : goal.loop-inside-preserved
 loop-inside-preserved g c =
     let w = c.loop-inside.invariant in
     let b = c.put_tree-rest.ensures in
-    let text = tidied_from None 1 c.in-Some.inside.now in (
+    let text = tidied_from Outside 1 c.in-Some.inside.now in (
       w.0 ++ ((40 ∷ text) ++ (10 ∷ [])),
       writes_writes w.1 (writes_writes (writes_writes c.put.ensures b.written) c.put-in-Some.ensures),
       λ x s.
