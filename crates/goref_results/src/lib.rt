@@ -1,5 +1,5 @@
-//! What commands answer of a game: the score, the diagram, the chains and the places of handicap
-//! stones, each written behind a space as it stands in an answer.
+//! What commands answer of a game: the score, the diagram, the chains, the places of handicap stones
+//! and the legal plays, each written behind a space as it stands in an answer.
 #![tactic(auto)]
 
 mod chain_lines;

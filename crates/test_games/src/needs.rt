@@ -6,13 +6,13 @@ use std::alloc::Allocator;
 use std::process::Abort;
 use test_allocator::Limited;
 
-/// What a short game, or a start from a grid, may ask for in all. The log of plays needs some 290
+/// What a short game, or a start from a grid, may ask for in all. The log of plays needs some 182
 /// kilobytes to begin with, and twice that when it grows; the rest is for stones and moves.
-const GAME: u64 = 900_000;
+const GAME: u64 = 600_000;
 
 /// What the first play of a game, and its undo, may ask for in all: the log has no room for a second
 /// one yet.
-const FIRST_PLAY: u64 = 350_000;
+const FIRST_PLAY: u64 = 220_000;
 
 /// What a game chooses for a colour is legal, and is played.
 fn plays_choice<A: Allocator + Copy>(rt: &impl Abort, game: &mut Game<A>, colour: Colour) {

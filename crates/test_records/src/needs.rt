@@ -92,9 +92,9 @@ fn little_memory_for_a_record(rt: HostRuntime) -> Result<(), Fail> {
     Ok(())
 }
 
-/// What the game of the long record asks for. The log of plays needs some 290 kilobytes to begin
+/// What the game of the long record asks for. The log of plays needs some 182 kilobytes to begin
 /// with, and twice that when it grows; the rest is for 1,200 moves, 100 of them plays.
-const GAME: u64 = 1_000_000;
+const GAME: u64 = 700_000;
 
 #[test]
 fn little_memory_for_a_long_record(rt: HostRuntime) -> Result<(), Fail> {

@@ -9,10 +9,10 @@ use std::process::Abort;
 use test_allocator::Limited;
 use test_devices::{Reader, Writer};
 
-/// What the lines of a row may ask for in all. A log of plays needs some 290 kilobytes to begin
+/// What the lines of a row may ask for in all. A log of plays needs some 182 kilobytes to begin
 /// with, and twice that when it grows. A row begins two of them at most, for two games or for the
 /// stones of a record and its moves, and one of the two grows. The rest is for moves and records.
-const ROW: u64 = 1_200_000;
+const ROW: u64 = 800_000;
 
 /// Asserts what a row is answered by a session that may ask for little memory.
 fn needs_little(rt: &impl Abort, alloc: Global, row: Row) {
