@@ -32,8 +32,8 @@ pub outranks-under : (a : ℤ) (b : ℕ) (c : ℤ) (d : ℕ) (e : ℤ) (f : ℕ)
 outranks-under a b c d e f over under = grind (arith, ints, nat_tests)
 
 -- a greater lead is better
-pub outranks-greater : (present a : ℤ) (b : ℕ) (c : ℤ) (d : ℕ) → int_lt present a ≡ true → int_lt present c ≡ false → outranks a b c d ≡ true
-outranks-greater present a b c d more less = grind (arith, ints, nat_tests)
+pub outranks-greater : (standing_lead a : ℤ) (b : ℕ) (c : ℤ) (d : ℕ) → int_lt standing_lead a ≡ true → int_lt standing_lead c ≡ false → outranks a b c d ≡ true
+outranks-greater standing_lead a b c d more less = grind (arith, ints, nat_tests)
 
 -- lists of numbers that pass tests
 cond_and : {X : Type 0} (a b : Bool) (x : X) (xs ys : List X) (f : List X → List X) → f (x ∷ xs) ≡ cond b (x ∷ ys) ys → f xs ≡ ys → f (cond a (x ∷ xs) xs) ≡ cond (a && b) (x ∷ ys) ys
@@ -144,21 +144,21 @@ chosen_none s c best is none =
     pick_pass s.lines (s.lines * s.lines) (may_play s c) (raises_margin s c) (is_better s c)
     (λ q low legal. absurd (true≢false (sym legal ∙ subst (IsBestTrial s c (s.lines * s.lines)) is none q low)))
 
-module _ (s : Standing) (c : Colour) (best : Option Trial) (t : Trial) (present lead : ℤ) (is : best ≡ Some t) (trial : IsBestTrial s c (s.lines * s.lines) best)
-    (present_is : present ≡ lead_of s c) (lead_is : lead ≡ t.lead) where
+module _ (s : Standing) (c : Colour) (best : Option Trial) (t : Trial) (standing_lead lead : ℤ) (is : best ≡ Some t) (trial : IsBestTrial s c (s.lines * s.lines) best)
+    (standing_is : standing_lead ≡ lead_of s c) (lead_is : lead ≡ t.lead) where
   best_of : IsBestTrial s c (s.lines * s.lines) (Some t)
   best_of = subst (IsBestTrial s c (s.lines * s.lines)) is trial
 
-  raises_is : raises_margin s c best_of.0 ≡ int_lt present lead
-  raises_is = ap₂ int_lt (sym present_is) (ap (λ (u : Trial). u.lead) (sym best_of.2) ∙ sym lead_is)
+  raises_is : raises_margin s c best_of.0 ≡ int_lt standing_lead lead
+  raises_is = ap₂ int_lt (sym standing_is) (ap (λ (u : Trial). u.lead) (sym best_of.2) ∙ sym lead_is)
 
-  pub chosen_play : int_lt present lead ≡ true → At t.point ≡ chosen s c
+  pub chosen_play : int_lt standing_lead lead ≡ true → At t.point ≡ chosen s c
   unfolding chosen
   chosen_play more =
       ap (λ (u : Trial). At u.point) best_of.2
       ∙ pick_first s.lines (s.lines * s.lines) (may_play s c) (raises_margin s c) (is_better s c) best_of.0 best_of.1.below best_of.1.legal (raises_is ∙ more) best_of.1.best best_of.1.first
 
-  pub chosen_pass : int_lt present lead ≡ false → Pass ≡ chosen s c
+  pub chosen_pass : int_lt standing_lead lead ≡ false → Pass ≡ chosen s c
   unfolding chosen
   chosen_pass less = pick_pass s.lines (s.lines * s.lines) (may_play s c) (raises_margin s c) (is_better s c) (λ q low legal. not_more q (best_of.1.best q low legal))
     where
@@ -184,10 +184,6 @@ tried_at s c n p k size at number =
 
     numbered : number_of s.lines p ≡ k
     numbered = ap (λ m. number_of m p) (sym size) ∙ number
-
--- what isn't legal has none
-pub untried : (s : Standing) (c : Colour) (p : Point) → is_legal s c (At p) ≡ false → None ≡ tried_on s c p
-untried s c p closed = sym (ap (λ b. cond b (Some (trial_of p (lead_after s c (number_of s.lines p)) (liberties_after s c (number_of s.lines p)))) None) closed)
 
 -- what is told of the colouring that a legal play leaves is its trial
 pub tried_as : (s : Standing) (c : Colour) (p : Point) (g : Colouring) (lead : ℤ) (liberties : ℕ) → is_legal s c (At p) ≡ true → g ≡ moved s.lines (board_of s) c (number_of s.lines p)

@@ -139,9 +139,9 @@ impl<A: Allocator + Copy> Game<A> {
             ≤ self.old.count + 4 * most_on_all self.old.standing colour }
     {
         let holdings = self.holdings(colour);
-        let present = holdings.lead();
+        let standing_lead = holdings.lead();
         match self.best_trial(&holdings, colour)? {
-            Some(best) if best.lead > present => Ok(Vertex::At(best.point)),
+            Some(best) if best.lead > standing_lead => Ok(Vertex::At(best.point)),
             _ => Ok(Vertex::Pass),
         }
     }

@@ -22,8 +22,10 @@ pub(crate) fn ahead(own: u16, theirs: u16) -> i32
     i32::from(own) - i32::from(theirs)
 }
 
-/// The stones of a colour and of the other, and what they hold. Rows hold a point where a colour has
-/// a stone or an empty point reaches it, and areas what only one colour holds.
+/// What a colour and the other have on a board. A colour holds its stones, and each empty point that
+/// is joined to one of them by empty points alone; an empty point may be held by both. `own` and
+/// `theirs` are the places of the stones, `own_held` and `theirs_held` those of all points held, and
+/// an area counts the points that one colour holds and the other doesn't.
 #[derive(Drop)]
 pub(crate) struct Holdings {
     pub(crate) own: Rows,
