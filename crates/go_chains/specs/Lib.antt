@@ -5,4 +5,5 @@ pub mod Sound
 pub mod Rewound
 pub mod Playing
 pub mod inner
+pub mod lemmas
 pub use Rattle.go_board.specs.declared.taken.Taken
