@@ -1,3 +1,4 @@
 pub mod Keys
 pub mod Histories
 pub mod inner
+pub mod lemmas
