@@ -1,2 +1,3 @@
 -- Lemmas for the proofs of the crates above.
 pub mod Sound
+pub mod Crossing
