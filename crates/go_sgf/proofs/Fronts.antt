@@ -109,17 +109,24 @@ ends_some b e =
     let is : without_space b ++ (41 ∷ []) ≡ [] = sym (after_space-append b (41 ∷ []) refl) ∙ e in
     push_some (without_space b) 41 is
 
+-- a tree's `)` behind its nodes and its children, and what follows it
+pub tree_closed : (nodes : List (List Property)) (children : Trees) (ps : List Part) (inner behind r : List ℕ) →
+    SpellsParts inner (flat_map node_parts nodes ++ parts children) [] → SpellsParts behind ps r →
+    SpellsParts (inner ++ (41 ∷ behind)) (flat_map node_parts nodes ++ (parts children ++ (closing ∷ ps))) r
+tree_closed nodes children ps inner behind r s later =
+    let b : List ℕ = inner ++ (41 ∷ behind) in
+    let own : List Part = flat_map node_parts nodes ++ parts children in
+    let longer : SpellsParts b own (41 ∷ behind) = SpellsParts-longer own inner [] (41 ∷ behind) refl s in
+    let P : List Part → Type 0 = λ qs. SpellsParts b qs r in
+    subst P (append_assoc (flat_map node_parts nodes) (parts children) (closing ∷ ps))
+    (SpellsParts-append own (closing ∷ ps) b (41 ∷ behind) r longer (behind, refl, later))
+
 inner_outcome : (nodes : List (List Property)) (children : Trees) (inner : List ℕ) → AreTrees (tree nodes children none) →
     SpellsParts inner (flat_map node_parts nodes ++ parts children) [] →
     outcome (depth children + 1) opened 1 (inner ++ (41 ∷ [])) ≡ Ok []
 inner_outcome nodes children inner fit s =
-    let longer : SpellsParts (inner ++ (41 ∷ [])) (flat_map node_parts nodes ++ parts children) (41 ∷ []) =
-    SpellsParts-longer (flat_map node_parts nodes ++ parts children) inner [] (41 ∷ []) refl s in
-    let both : SpellsParts (inner ++ (41 ∷ [])) ((flat_map node_parts nodes ++ parts children) ++ (closing ∷ [])) [] =
-    SpellsParts-append (flat_map node_parts nodes ++ parts children) (closing ∷ []) (inner ++ (41 ∷ [])) (41 ∷ []) [] longer ([], refl, refl) in
-    let P : List Part → Type 0 = λ ps. SpellsParts (inner ++ (41 ∷ [])) ps [] in
     let whole : SpellsParts (inner ++ (41 ∷ [])) (flat_map node_parts nodes ++ (parts children ++ (closing ∷ []))) [] =
-    subst P (append_assoc (flat_map node_parts nodes) (parts children) (closing ∷ [])) both in
+    tree_closed nodes children [] inner [] [] s refl in
     tree_outcome (depth children + 1) 1 (omega arith, omega arith) nodes children (inner ++ (41 ∷ [])) [] fit.0 fit.1 fit.2 (omega arith) whole
 
 -- the tree is whole at the end of its text

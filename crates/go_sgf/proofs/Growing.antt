@@ -7,7 +7,7 @@ use Rattle.go_sgf.specs.Record.{Property, TreeValue, IsProperty, AreTrees, depth
 use Rattle.go_sgf.specs.Spelling.{Part, opening, closing, node_parts, parts, without_space, is_first, SpellsParts}
 use Rattle.go_sgf.specs.Stands.{StateAt, opened, closed}
 use Rattle.go_sgf.specs.inner.Outcome.{outcome, outcome_after, IsWithin, here}
-use Rattle.go_sgf.specs.inner.Reads.{ReadsNodes, ReadsTree}
+use Rattle.go_sgf.specs.inner.Reads.{ReadsNodes, ReadsToEnd, ReadsTree}
 use Rattle.go_sgf.specs.View.{chain, nodes_and_children, tree_of, trees_of}
 use Rattle.go_sgf.specs.declared.record.Tree.{Tree}
 use Rattle.go_sgf.specs.declared.record.Tree.TheFolds.{fold-roll-Tree, fold_out-Tree}
@@ -138,14 +138,19 @@ tree_more d h less b ns ts ts' rest inside t more far e f r place =
 
 -- behind the last child
 pub tree_whole : (d : ℕ) (b : List ℕ) (ns : List (List Property)) (ts : List TreeValue) (at rest behind : List ℕ) → ReadsNodes b ns at → TreeSoFar d b ns ts rest →
-    rest ≡ 41 ∷ behind → ReadsTree d b (ns, chain ts) (without_space behind)
+    rest ≡ 41 ∷ behind → ReadsToEnd d b (ns, chain ts) behind
 tree_whole d b ns ts at rest behind r far e = record {
-  some = r.some;
-  nodes = r.fit;
-  children = far.fit;
-  nesting = far.nesting;
-  spelling =
-      let P : List Part → Type 0 = λ ps. SpellsParts b ps (without_space behind) in
-      subst P (append_assoc (flat_map node_parts ns) (parts (chain ts)) (closing ∷ []))
-      (SpellsParts-append (flat_map node_parts ns ++ parts (chain ts)) (closing ∷ []) b rest (without_space behind) far.spelling (behind, ap without_space e, refl));
+  tree = record {
+    some = r.some;
+    nodes = r.fit;
+    children = far.fit;
+    nesting = far.nesting;
+    spelling =
+        let P : List Part → Type 0 = λ ps. SpellsParts b ps (without_space behind) in
+        subst P (append_assoc (flat_map node_parts ns) (parts (chain ts)) (closing ∷ []))
+        (SpellsParts-append (flat_map node_parts ns ++ parts (chain ts)) (closing ∷ []) b rest (without_space behind) far.spelling (behind, ap without_space e, refl));
+  };
+  closed =
+      let Q : List ℕ → Type 0 = λ xs. SpellsParts b (flat_map node_parts ns ++ parts (chain ts)) xs in
+      subst Q e far.spelling;
 }

@@ -16,6 +16,7 @@ pub mod Canonical
 pub mod Unambiguous
 pub mod LineWalks
 pub mod Fronts
+pub mod Walking
 pub mod Fronted
 pub mod Rectangles
 pub mod Listing

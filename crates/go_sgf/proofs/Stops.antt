@@ -7,7 +7,7 @@ use Rattle.go_sgf.specs.Spelling.{Part, opening, closing, is_first, node_parts, 
 use Rattle.go_sgf.specs.Stands.{stands, run, opened, IsAtDepth}
 use Rattle.go_sgf.specs.inner.Outcome.{outcome, left_of, error_at, Meets}
 use Rattle.go_sgf.specs.inner.Reads.{ReadsTree}
-use Rattle.go_sgf.specs.Refusals.{StopsAt, EndsAt, StandsNoLonger, StandsTooDeep, IsRefusal}
+use Rattle.go_sgf.specs.Refusals.{StopsAt, IsReadUpTo, EndsAt, StandsNoLonger, StandsTooDeep, IsRefusal}
 use Rattle.go_sgf.specs.View.{chain}
 use Rattle.go_sgf.specs.declared.error.Fault.{Fault}
 use Rattle.go_sgf.specs.declared.error.Fault.TheVariants.{Memory, End, Unexpected, TooDeep}
@@ -68,7 +68,7 @@ tree_begins [] ps b r some s = absurd (some refl)
 tree_begins (n ∷ ns) ps b r some s = rw s.1 refl
 
 -- trees and then a fault, and trees and then no tree, aren't both read from one text
-two_ways : (before c : Trees) (b at rest inside : List ℕ) (f : Fault) → AreTrees before → depth before ≤ MAX_DEPTH → AreTrees c → depth c ≤ MAX_DEPTH →
+pub two_ways : (before c : Trees) (b at rest inside : List ℕ) (f : Fault) → AreTrees before → depth before ≤ MAX_DEPTH → AreTrees c → depth c ≤ MAX_DEPTH →
     SpellsParts b (parts before) at → SpellsParts b (parts c) rest → is_tree_first rest ≡ false → is_tree_first at ≡ true → at ≡ 40 ∷ inside →
     outcome MAX_DEPTH opened 1 inside ≡ Err f → ⊥
 two_ways none none b at rest inside f w n w' n' s s' ended begins is e =
@@ -150,7 +150,7 @@ no_longer inside at h zero less = absurd (omega arith)
 no_longer inside at h (suc k) less = h k (omega arith)
 
 -- why it stops, in a text
-abbrev WhyIn : Fault → List ℕ → ℕ → Type 0
+abbrev pub WhyIn : Fault → List ℕ → ℕ → Type 0
 WhyIn Memory text at = ⊥
 WhyIn End text at = EndsAt text at
 WhyIn (Unexpected n) text at = StandsNoLonger text at
@@ -165,6 +165,14 @@ why_in inside (TooDeep n) at w =
     let same : suc (at + 1) ≡ suc at + 1 = omega arith in
     (omega arith, subst P same w.1)
 
+-- how far the text of a tree with a fault is read
+pub read_up_to : (inside : List ℕ) (f : Fault) (i : FaultIs MAX_DEPTH opened 1 inside f) → IsReadUpTo (40 ∷ inside) (suc i.at) (WhyIn f)
+read_up_to inside f i = record {
+  unfinished = i.unfinished;
+  shallow = shallow_text inside i.at i.shallow;
+  stops = why_in inside f i.at i.stops;
+}
+
 stops_at : (source : List ℕ) (ts : List TreeValue) (inside : List ℕ) (f : Fault) (place : ℕ) → TreesSoFar source ts (40 ∷ inside) →
     is_tree_first (40 ∷ inside) ≡ true → outcome MAX_DEPTH opened 1 inside ≡ Err f → place + left_of f ≡ length source →
     StopsAt source place (WhyIn f)
@@ -178,11 +186,7 @@ stops_at source ts inside f place far begins e placed =
       text = 40 ∷ inside;
       behind = record { whole = far.fit; nesting = far.nesting; spelling = far.spelling; begins = begins };
       count = suc i.at;
-      reading = record {
-        unfinished = i.unfinished;
-        shallow = shallow_text inside i.at i.shallow;
-        stops = why_in inside f i.at i.stops;
-      };
+      reading = read_up_to inside f i;
       placed = let h = i.left in omega arith;
     }
 

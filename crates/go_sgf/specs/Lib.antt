@@ -5,6 +5,7 @@ pub mod Stands
 pub mod Refusals
 pub mod MainLine
 pub mod Laws
+pub mod GameTrees
 pub mod Cooked
 pub mod Numbers
 pub mod BoardValues

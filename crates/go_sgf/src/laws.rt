@@ -2,6 +2,7 @@
 //! function that does nothing.
 ghost use Rattle.std.specs.Prelude.{◌≡◌, ℕ};
 ghost use Rattle.go_sgf.specs.Cooked.{CookedByFront, CookingUndoesEscaping};
+ghost use Rattle.go_sgf.specs.GameTrees.{RefusedAlike, SpelledAreWalked};
 ghost use Rattle.go_sgf.specs.Laws.{CanonicalSpellsPlain, FrontsStand, OneRecord, SpelledIsFit, SpelledIsRead};
 ghost use Rattle.go_sgf.specs.declared.limits.TheConstants.{MAX_DEPTH, MAX_RECORD};
 
@@ -36,6 +37,18 @@ pub fn one_record()
 /// it is all of the text.
 pub fn fronts_stand()
     ensures { FrontsStand }
+{}
+
+/// A walk over a text's game trees meets the trees that the text spells, one after another, and no
+/// others with white space alone between them.
+pub fn spelled_are_walked()
+    ensures { SpelledAreWalked }
+{}
+
+/// What [`next_tree`](crate::next_tree) refuses, [`check`](crate::check) refuses by the same reason
+/// of the text from there on, if it isn't too long.
+pub fn refused_alike()
+    ensures { RefusedAlike }
 {}
 
 /// What a value says, by its front, is what cooking gives, whatever a line break gives.

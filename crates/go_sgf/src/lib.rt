@@ -2,6 +2,8 @@
 //!
 //! - [`read`], [`SgfError`]: a record from its bytes, or why they are none, and at which byte.
 //! - [`check`]: the same answer, with nothing kept and no memory taken.
+//! - [`next_tree`], [`TreeSpan`], [`tree_begin`]: where the game trees of a source stand, one after
+//!   another, with anything between them.
 //! - [`Collection`], [`Tree`], [`Node`], [`Property`]: the parts of a record, as lists of the parts
 //!   below them. Names and values are parts of the source, which isn't copied.
 //! - [`MainLine`]: a walk along a record's main line, from value to value, without lists.
@@ -17,11 +19,12 @@
 //! write(&collection, &mut writer)?;
 //! ```
 //!
-//! What is promised is in the clauses of `reader.rt`, `writer.rt`, `record.rt`, `nodes.rt`,
-//! `main_line.rt` and the files of values: `numbers.rt`, `hundredths.rt`, `points.rt`,
+//! What is promised is in the clauses of `reader.rt`, `writer.rt`, `game_trees.rt`, `record.rt`,
+//! `nodes.rt`, `main_line.rt` and the files of values: `numbers.rt`, `hundredths.rt`, `points.rt`,
 //! `rectangle.rt` and `cooking.rt`. Their words are in `specs/`: `Spelling` says which bytes spell a
 //! record, `Record` what it is as plain data, `View` which of that the types stand for, `MainLine`
-//! what is left of a main line, `Refusals` and `Stands` why a text is refused, and `Numbers`,
+//! what is left of a main line, `GameTrees` where game trees stand, `Refusals` and `Stands` why a
+//! text is refused, and `Numbers`,
 //! `BoardValues`, `Rectangles` and `Cooked` what values say. `Laws` has what holds of all records.
 //! What `specs/inner/` defines serves private functions alone.
 #![tactic(auto)]
@@ -29,6 +32,7 @@
 mod cooking;
 mod error;
 mod few;
+mod game_trees;
 mod hundredths;
 mod keep;
 pub mod laws;
@@ -48,6 +52,7 @@ mod writer;
 
 pub use cooking::{cook_simple, cook_text, escape};
 pub use error::SgfError;
+pub use game_trees::{TreeSpan, next_tree, tree_begin};
 pub use hundredths::hundredths_of;
 pub use limits::{MAX_DEPTH, MAX_RECORD};
 pub use main_line::MainLine;

@@ -1,10 +1,10 @@
 ghost use Rattle.std.specs.Prelude.{◌≡◌, ◌≢◌, ◌≤◌, ◌<◌, ◌↔◌, ◌∷◌, ◌++◌, ℕ, List, [], Err, IfErr, IfOk, IfSome, IsErrOf, OnErr, OnOk, Some, false, is_some, length, option_map, true};
 ghost use Rattle.go_sgf.specs.inner.Held.{property_of, trees_in};
 ghost use Rattle.go_sgf.specs.inner.Outcome.{IsWithin, Meets, here, left_of, outcome, outcome_after, error_at};
-ghost use Rattle.go_sgf.specs.inner.Reads.{ReadsNode, ReadsNodes, ReadsProperty, ReadsTree, ReadsValues, is_letter_first};
+ghost use Rattle.go_sgf.specs.inner.Reads.{ReadsNode, ReadsNodes, ReadsProperty, ReadsToEnd, ReadsValues, is_letter_first};
 ghost use Rattle.go_sgf.specs.Record.{Property, TreeValue, Trees, values_of};
 ghost use Rattle.go_sgf.specs.Refusals.{IsRefusal};
-ghost use Rattle.go_sgf.specs.Spelling.{Spells};
+ghost use Rattle.go_sgf.specs.Spelling.{Spells, without_space};
 ghost use Rattle.go_sgf.specs.Stands.{closed, in_node, named, opened};
 ghost use Rattle.go_sgf.specs.View.{chain, trees_of};
 
@@ -230,8 +230,8 @@ fn push<T: Drop, A: Allocator + Copy>(list: &mut Vec<T, A>, item: T) -> Result<(
 }
 
 /// Reads a tree at this depth, from behind its `(` on, into a list of trees where there is one, and
-/// gives what follows it.
-fn tree<'a, K: Keep>(
+/// gives what follows its `)`.
+pub(crate) fn tree<'a, K: Keep>(
     keep: K,
     trees: &mut Option<Vec<Tree<'a, K::Alloc>, K::Alloc>>,
     bytes: &'a [u8],
@@ -239,12 +239,12 @@ fn tree<'a, K: Keep>(
 ) -> Result<&'a [u8], Fault>
     requires depth { IsWithin MAX_DEPTH depth }
     requires kept { is_some trees.old ≡ true → K.keeps }
-    ensures read { IfOk result (λ rest. (t : TreeValue)
+    ensures read { IfOk result (λ behind. (t : TreeValue)
         × (K.keeps → trees_in trees.new ≡ option_map (λ ts. ts ++ t ∷ []) (trees_in trees.old))
-        × ReadsTree depth bytes.now t rest.now) }
+        × ReadsToEnd depth bytes.now t behind.now) }
     ensures kept { OnOk result (is_some trees.new ≡ is_some trees.old) }
     ensures place { Meets result (outcome MAX_DEPTH opened depth bytes.now)
-        (λ rest. outcome_after MAX_DEPTH depth rest.now) }
+        (λ behind. outcome_after MAX_DEPTH depth (without_space behind.now)) }
     ensures memory { IsErrOf result Fault.Memory → K.keeps }
 {
     let mut own = Few::new();
@@ -254,17 +254,18 @@ fn tree<'a, K: Keep>(
         if depth == MAX_DEPTH {
             return Err(Fault::TooDeep(rest.len()));
         }
-        rest = tree(keep, &mut children, inside, depth + 1)?;
+        let behind = tree(keep, &mut children, inside, depth + 1)?;
+        rest = after_space(behind);
     }
     let Some(behind) = strip(rest, b')') else {
         return Err(unexpected(rest));
     };
     add_tree(trees, own, children)?;
-    Ok(after_space(behind))
+    Ok(behind)
 }
 
 /// What is answered for a fault in a source of this length.
-fn placed(fault: Fault, length: usize) -> SgfError
+pub(crate) fn placed(fault: Fault, length: usize) -> SgfError
     requires { left_of fault ≤ length }
     ensures { result ≡ error_at length fault }
 {
@@ -298,7 +299,7 @@ fn trees<'a, K: Keep>(
     let mut trees = no_trees(keep);
     while let Some(inside) = strip_tree(rest) {
         rest = match tree(keep, &mut trees, inside, 1) {
-            Ok(more) => more,
+            Ok(behind) => after_space(behind),
             Err(fault) => return Err(placed(fault, source.len())),
         };
     }

@@ -2,7 +2,7 @@
 use Rattle.std.specs.Prelude.{◌≡◌, ◌≢◌, ◌<◌, ◌≤◌, ◌+◌, ◌==◌, ◌||◌, not, Bool, false, ℕ, List, [], ◌∷◌, ◌++◌, length, map, slice_index}
 use Rattle.std.specs.List.{flat_map, AllByRecursion}
 use Rattle.go_sgf.specs.Record.{Property, IsValue, IsProperty, AreTrees, depth, TreeValue, is_letter_byte}
-use Rattle.go_sgf.specs.Spelling.{is_space, closing, value_part, SpellsParts, property_parts, node_parts, parts}
+use Rattle.go_sgf.specs.Spelling.{is_space, without_space, closing, value_part, SpellsParts, property_parts, node_parts, parts}
 use Rattle.go_sgf.specs.declared.limits.TheConstants.{MAX_DEPTH}
 
 pub record ReadsValues (b : List ℕ) (vs : List (List ℕ)) (rest : List ℕ) : Type 0 where
@@ -30,6 +30,11 @@ pub record ReadsTree (d : ℕ) (b : List ℕ) (t : TreeValue) (rest : List ℕ) 
   pub children : AreTrees t.1
   pub nesting : depth t.1 + d ≤ MAX_DEPTH
   pub spelling : SpellsParts b (flat_map node_parts t.0 ++ (parts t.1 ++ (closing ∷ []))) rest
+
+-- the same, where this follows its `)`
+pub record ReadsToEnd (d : ℕ) (b : List ℕ) (t : TreeValue) (behind : List ℕ) : Type 0 where
+  pub tree : ReadsTree d b t (without_space behind)
+  pub closed : SpellsParts b (flat_map node_parts t.0 ++ parts t.1) (41 ∷ behind)
 
 -- neither `]` nor `\`
 abbrev pub is_ordinary : ℕ → Bool

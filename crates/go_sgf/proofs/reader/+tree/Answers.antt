@@ -6,7 +6,7 @@ use Rattle.go_sgf.specs.declared.error.Fault.TheVariants.{TooDeep}
 use Rattle.go_sgf.specs.declared.limits.TheConstants.{MAX_DEPTH}
 use Rattle.go_sgf.specs.inner.Held.{trees_in}
 use Rattle.go_sgf.specs.inner.Outcome.{outcome}
-use Rattle.go_sgf.specs.Spelling.{node_parts, parts}
+use Rattle.go_sgf.specs.Spelling.{node_parts, parts, without_space}
 use Rattle.go_sgf.specs.Stands.{closed}
 use Rattle.go_sgf.specs.View.{chain, tree_of}
 use Rattle.go_sgf.proofs.Keeping.{added_is, kept_where, where_kept}
@@ -20,15 +20,15 @@ returns-then-depth-eq-MAX_DEPTH-clause-place g t c =
     c.loop-inside.invariant.5.place
     ∙ subst P (sym c.if-depth-eq-MAX_DEPTH.true) (too_deep MAX_DEPTH c.loop-inside.rest.now c.in-Some.inside.now c.in-Some.ensures.stripped)
 
-pub returns-in_err-rest-2-clause-place : goal.returns-in_err-rest-2-clause-place
-returns-in_err-rest-2-clause-place g t c =
+pub returns-in_err-behind-clause-place : goal.returns-in_err-behind-clause-place
+returns-in_err-behind-clause-place g t c =
     let less : c.args.depth < MAX_DEPTH = omega arith in
-    let p = err_from_is_err_and c.from_residual-in_err-rest-2.result c.from_residual-in_err-rest-2.ensures.1 in
+    let p = err_from_is_err_and c.from_residual-in_err-behind.result c.from_residual-in_err-behind.ensures.1 in
     rw (p.1, p.2)
     (passes _ _ _ _ _
     (c.loop-inside.invariant.5.place
     ∙ into_child MAX_DEPTH c.args.depth c.requires.depth less c.loop-inside.rest.now c.in-Some.inside.now c.in-Some.ensures.stripped)
-    c.in_err-rest-2.ensures.place)
+    c.in_err-behind.ensures.place)
 
 pub loop-inside-init : goal.loop-inside-init
 loop-inside-init g t c =
@@ -45,21 +45,25 @@ loop-inside-init g t c =
 
 pub loop-inside-smaller : goal.loop-inside-smaller
 loop-inside-smaller g t c =
-    shorter 40 c.loop-inside.rest.now c.in-Some.inside.now c.in_ok-rest-2.rest.now c.in-Some.ensures.stripped
-    (tree_le _ c.in-Some.inside.now c.in_ok-rest-2.ensures.read.0 c.in_ok-rest-2.rest.now c.in_ok-rest-2.ensures.read.2)
+    let read = c.in_ok-behind.ensures.read in
+    rw c.after_space-rest.ensures
+    (shorter 40 c.loop-inside.rest.now c.in-Some.inside.now (without_space c.in_ok-behind.behind.now) c.in-Some.ensures.stripped
+    (tree_le _ c.in-Some.inside.now read.0 (without_space c.in_ok-behind.behind.now) read.2.tree))
 
 pub loop-inside-preserved : goal.loop-inside-preserved
 loop-inside-preserved g t c =
     let less : c.args.depth < MAX_DEPTH = omega arith in
     let i = c.loop-inside.invariant in
-    let read = c.in_ok-rest-2.ensures.read in (
+    let read = c.in_ok-behind.ensures.read in (
       i.0,
       i.1 ++ read.0 ∷ [],
       i.2,
       λ keeps. read.1 keeps ∙ ap (option_map (λ us. us ++ read.0 ∷ [])) (i.3 keeps),
-      λ kept. i.4 (sym c.in_ok-rest-2.ensures.kept ∙ kept),
-      tree_more c.args.depth c.requires.depth less c.args.bytes.now i.0 i.1 (i.1 ++ read.0 ∷ []) c.loop-inside.rest.now
-          c.in-Some.inside.now read.0 c.in_ok-rest-2.rest.now i.5 refl c.in-Some.ensures.stripped read.2 c.in_ok-rest-2.ensures.place,
+      λ kept. i.4 (sym c.in_ok-behind.ensures.kept ∙ kept),
+      rw c.after_space-rest.ensures
+          (tree_more c.args.depth c.requires.depth less c.args.bytes.now i.0 i.1 (i.1 ++ read.0 ∷ []) c.loop-inside.rest.now
+          c.in-Some.inside.now read.0 (without_space c.in_ok-behind.behind.now) i.5 refl c.in-Some.ensures.stripped read.2.tree
+          c.in_ok-behind.ensures.place),
       i.6,
       i.7,
     )
@@ -76,15 +80,13 @@ returns-clause-read g t c =
       λ keeps.
           added_is (trees_in c.args.trees.now) (trees_in c.add_tree.new.trees) c.loop-inside.children (λ list. map tree_of list.items) i.1 c.nodes.new.list i.0
           c.in_ok-add_tree.ensures.added (sym c.own.view_is ∙ i.2 keeps) (i.3 keeps),
-      rw c.after_space.ensures
-          (tree_whole c.args.depth c.args.bytes.now i.0 i.1 i.6 c.loop-inside.rest.now c.in-Some-strip.behind.now i.7 i.5 c.in-Some-strip.ensures.stripped),
+      tree_whole c.args.depth c.args.bytes.now i.0 i.1 i.6 c.loop-inside.rest.now c.in-Some-strip.behind.now i.7 i.5 c.in-Some-strip.ensures.stripped,
     )
 
 pub returns-clause-place : goal.returns-clause-place
 returns-clause-place g t c =
-    rw c.after_space.ensures
-    (c.loop-inside.invariant.5.place
-    ∙ closes MAX_DEPTH c.args.depth c.requires.depth c.loop-inside.rest.now c.in-Some-strip.behind.now c.in-Some-strip.ensures.stripped)
+    c.loop-inside.invariant.5.place
+    ∙ closes MAX_DEPTH c.args.depth c.requires.depth c.loop-inside.rest.now c.in-Some-strip.behind.now c.in-Some-strip.ensures.stripped
 
 pub returns-in_default-strip-clause-place : goal.returns-in_default-strip-clause-place
 returns-in_default-strip-clause-place g t c = refuses _ _ _

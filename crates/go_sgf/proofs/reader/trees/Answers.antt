@@ -1,6 +1,7 @@
 use Rattle.std.proofs.Common.{[], ◌∷◌, ◌++◌, ◌∙◌, refl, sym, ap, eqb-true, length}
 use Rattle.std.proofs.lemmas.List.{nil_from_length}
 use Rattle.std.specs.Prelude.{option_map}
+use Rattle.go_sgf.specs.Spelling.{without_space}
 use Rattle.go_sgf.proofs.Growing.{tree_le}
 use Rattle.go_sgf.proofs.Keeping.{kept_where}
 use Rattle.go_sgf.proofs.Passing.{shorter}
@@ -29,8 +30,10 @@ returns-in-Err-clause-refused g c =
 
 pub loop-inside-smaller : goal.loop-inside-smaller
 loop-inside-smaller g c =
-    shorter 40 c.loop-inside.rest.now c.in-Some.inside.now c.in-Ok.more.now c.in-Some.ensures.stripped
-    (tree_le 1 c.in-Some.inside.now c.in-Ok.ensures.read.0 c.in-Ok.more.now c.in-Ok.ensures.read.2)
+    let read = c.in-Ok.ensures.read in
+    rw c.after_space-rest.ensures
+    (shorter 40 c.loop-inside.rest.now c.in-Some.inside.now (without_space c.in-Ok.behind.now) c.in-Some.ensures.stripped
+    (tree_le 1 c.in-Some.inside.now read.0 (without_space c.in-Ok.behind.now) read.2.tree))
 
 pub loop-inside-preserved : goal.loop-inside-preserved
 loop-inside-preserved g c =
@@ -39,8 +42,9 @@ loop-inside-preserved g c =
       ts ++ read.0 ∷ [],
       λ keeps. read.1 keeps ∙ ap (option_map (λ us. us ++ read.0 ∷ [])) (c.loop-inside.invariant.1 keeps),
       λ kept. c.loop-inside.invariant.2 (sym c.in-Ok.ensures.kept ∙ kept),
-      trees_more c.args.source.now ts (ts ++ read.0 ∷ []) c.loop-inside.rest.now c.in-Some.inside.now read.0 c.in-Ok.more.now
-          c.loop-inside.invariant.3 refl c.in-Some.ensures.stripped read.2,
+      rw c.after_space-rest.ensures
+          (trees_more c.args.source.now ts (ts ++ read.0 ∷ []) c.loop-inside.rest.now c.in-Some.inside.now read.0 (without_space c.in-Ok.behind.now)
+          c.loop-inside.invariant.3 refl c.in-Some.ensures.stripped read.2.tree),
     )
 
 pub returns-clause-read : goal.returns-clause-read
