@@ -227,6 +227,7 @@ stops_in_first source from begin inside f place b opens e placed =
       count = suc i.at;
       reading = subst P (sym opens) (read_up_to inside f i);
       placed = let h = i.left in let w = b.within in omega arith;
+      past = let h = i.left in let w = b.within in omega arith;
     }
 
 -- no more bytes are left at a fault than the source has

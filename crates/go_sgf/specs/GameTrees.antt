@@ -34,6 +34,7 @@ pub record StopsInFirst (source : List ℕ) (from place : ℕ) (Reason : List �
   pub count : ℕ
   pub reading : IsReadUpTo (drop begin source) count Reason
   pub placed : place ≡ begin + count
+  pub past : begin < place
 
 -- what each refusal says of the source's first tree from a place on
 abbrev pub IsRefusalFrom : List ℕ → ℕ → SgfError → Type 0
