@@ -14,3 +14,4 @@ pub mod Replies
 pub mod Answered
 pub mod Laws
 pub mod inner
+pub mod lemmas

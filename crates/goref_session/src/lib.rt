@@ -11,6 +11,7 @@ mod fetched;
 mod flow;
 pub mod laws;
 mod loading;
+mod second;
 mod session;
 
 pub use fetched::{Fetched, wants};

@@ -1,8 +1,14 @@
-ghost use Rattle.std.specs.Prelude.{◌≡◌, cond, false};
+ghost use Rattle.std.specs.Prelude.{◌≡◌, IfNone, IfSome, Ok, OnErr, Some, false};
+ghost use Rattle.std.specs.Option.{option_and_then};
 ghost use Rattle.go_board.specs.Device.{failures_after};
 ghost use Rattle.go_game.specs.Standings.{Standing};
 ghost use Rattle.goref_session.specs.Replies.{is_end};
-ghost use Rattle.goref_session.specs.Contents.{content_of};
+ghost use Rattle.goref_session.specs.Commands.{command_of};
+ghost use Rattle.goref_session.specs.Contents.{Content, content_of};
+ghost use Rattle.goref_session.specs.Record.{DecidesBytes, DecidesLoad, load_of};
+ghost use Rattle.goref_session.specs.declared.command.Command.{Command};
+ghost use Rattle.goref_session.specs.declared.flow.Flow.{Flow};
+ghost use Rattle.goref_session.specs.inner.Refusing.{after_load};
 ghost use Rattle.goref_session.specs.Answered.{Answered, flow_of};
 ghost use Rattle.goref_session.specs.inner.Told.{IsTold};
 ghost use Rattle.goref_session.specs.Starts.{begun};
@@ -11,10 +17,12 @@ ghost use Rattle.goref_lines.specs.Words.{has_bytes};
 
 use crate::answer::write_answer;
 use crate::command::{Command, command_asked};
-use crate::commands::{handicap, play, record, setup, telling, time};
+use crate::commands::record::{Record, record_asked};
+use crate::commands::{handicap, play, setup, telling, time};
 use crate::decision::{Decision, Fact, Refusal};
 use crate::fetched::Fetched;
 use crate::flow::Flow;
+use crate::second::Second;
 use go_board::{Sink, Size, WriteFault};
 use go_game::Game;
 use goref_lines::{Line, Request, id_of_cut};
@@ -25,20 +33,18 @@ use std::marker::Model;
 #[derive(Drop)]
 pub struct Session<A: Allocator + Copy> {
     first: Game<A>,
-    second: Game<A>,
-    /// Which of the two is played. Records are loaded on the other, so that a refused one leaves the
-    /// game as it is, and a game that was loaded isn't moved.
-    plays_second: bool,
+    /// The second game, once a record was to be loaded.
+    second: Option<Second<A>>,
     alloc: A,
 }
 
 impl<A: Allocator + Copy> Model for Session<A> {
-    ghost use Rattle.std.specs.Prelude.{cond};
     ghost use Rattle.go_game.specs.Standings.{Standing};
+    ghost use Rattle.goref_session.specs.inner.Played.{played_of};
 
     ghost Value = { Standing };
 
-    ghost view = { λ s. cond s.plays_second s.second.standing s.first.standing };
+    ghost view = { λ s. played_of s.first.standing s.second };
 }
 
 impl<A: Allocator + Copy> Session<A> {
@@ -48,8 +54,7 @@ impl<A: Allocator + Copy> Session<A> {
     {
         Session {
             first: Game::new(alloc, size),
-            second: Game::new(alloc, size),
-            plays_second: false,
+            second: None,
             alloc,
         }
     }
@@ -58,10 +63,9 @@ impl<A: Allocator + Copy> Session<A> {
     pub fn game(&self) -> &Game<A>
         ensures { result.now.standing ≡ self.now }
     {
-        if self.plays_second {
-            &self.second
-        } else {
-            &self.first
+        match &self.second {
+            Some(second) if second.is_played => &second.game,
+            _ => &self.first,
         }
     }
 
@@ -75,6 +79,7 @@ impl<A: Allocator + Copy> Session<A> {
     ) -> Result<Flow, WriteFault>
         ensures answered { Answered self.old self.new line.now (content_of fetched) result
             (W.taken writer.old) (W.taken writer.new) }
+        ensures discarded { has_bytes line.now.text ≡ false → result ≡ Ok Flow.More }
         ensures silent { has_bytes line.now.text ≡ false → W.held writer.new ≡ W.held writer.old }
         ensures failures { W.failures writer.new ≡ failures_after result (W.failures writer.old) }
     {
@@ -115,31 +120,64 @@ impl<A: Allocator + Copy> Session<A> {
             (record { decision = result; standing = self.new }) }
     {
         let alloc = self.alloc;
-        let (decision, is_loaded) = if self.plays_second {
-            decide_on(&mut self.second, &mut self.first, alloc, request, fetched)
-        } else {
-            decide_on(&mut self.first, &mut self.second, alloc, request, fetched)
+        let decided = match &mut self.second {
+            Some(second) if second.is_played => decide_on(&mut second.game, alloc, request),
+            _ => decide_on(&mut self.first, alloc, request),
         };
-        if is_loaded {
-            self.plays_second = !self.plays_second;
+        match decided {
+            Some(decision) => decision,
+            None => self.decide_load(request, fetched),
         }
-        decision
+    }
+
+    /// Decides on `loadsgf`, which both games are for.
+    fn decide_load(&mut self, request: &Request, fetched: &Fetched<A>) -> Decision
+        ensures { DecidesLoad self.old (load_of request.now.arguments) (content_of fetched.now)
+            (record { decision = result; standing = self.new }) }
+    {
+        let source = match record_asked(request, fetched) {
+            Ok(source) => source,
+            Err(why) => return Decision::Refused(why),
+        };
+        match self.load(&source) {
+            Ok(()) => Decision::Done,
+            Err(why) => Decision::Refused(why),
+        }
+    }
+
+    /// Loads a record, and plays on its game. A refusal leaves the session as it was.
+    fn load(&mut self, source: &Record) -> Result<(), Refusal>
+        ensures decides { DecidesBytes self.old source.now.bytes.now source.now.number
+            (after_load self.old self.new result) }
+        ensures stays { OnErr result (self.new ≡ self.old) }
+    {
+        match &mut self.second {
+            Some(second) => second.load(&mut self.first, source),
+            None => {
+                let Ok(mut second) = Second::new(self.alloc, self.first.size()) else {
+                    return Err(Refusal::OutOfMemory);
+                };
+                let loaded = second.load(&mut self.first, source);
+                self.second = Some(second);
+                loaded
+            }
+        }
     }
 }
 
-/// Decides on the command that is asked for, and tells whether it is the spare game that is to be
-/// played on. One that was played gives its memory back then.
+/// Decides on the command that is asked for; none where that is `loadsgf`, which has a function of
+/// its own since it needs both games.
 fn decide_on<A: Allocator + Copy>(
     game: &mut Game<A>,
-    spare: &mut Game<A>,
     alloc: A,
     request: &Request,
-    fetched: &Fetched<A>,
-) -> (Decision, bool)
-    ensures { Decides game.old.standing request.now (content_of fetched.now) (record {
-      decision = result.0;
-      standing = cond result.1 spare.new.standing game.new.standing;
-    }) }
+) -> Option<Decision>
+    ensures decided { IfSome result (λ decision. (content : Content) →
+        Decides game.old.standing request.now content
+        (record { decision = decision; standing = game.new.standing })) }
+    ensures loads { IfNone result
+        ((option_and_then command_of request.now.name ≡ Some Command.Loadsgf)
+        × (game.new.standing ≡ game.old.standing)) }
 {
     let decision = match command_asked(request) {
         None => Decision::Refused(Refusal::UnknownCommand),
@@ -153,13 +191,7 @@ fn decide_on<A: Allocator + Copy>(
         Some(Command::Genmove) => play::decide_genmove(game, request),
         Some(Command::Undo) => play::decide_undo(game),
         Some(Command::RegGenmove) => play::decide_reg_genmove(game, request),
-        Some(Command::Loadsgf) => match record::load_requested(spare, request, fetched) {
-            Ok(()) => {
-                game.clear();
-                return (Decision::Done, true);
-            }
-            Err(why) => Decision::Refused(why),
-        },
+        Some(Command::Loadsgf) => return None,
         Some(Command::FixedHandicap) => handicap::decide_fixed(game, alloc, request),
         Some(Command::PlaceFreeHandicap) => handicap::decide_place_free(game, alloc, request),
         Some(Command::SetFreeHandicap) => handicap::decide_set_free(game, alloc, request),
@@ -168,7 +200,7 @@ fn decide_on<A: Allocator + Copy>(
         Some(Command::Legal) => play::decide_legal(game, request),
         Some(Command::Superko) => setup::decide_superko(game, request),
     };
-    (decision, false)
+    Some(decision)
 }
 
 /// Whether the session goes on after what was decided.

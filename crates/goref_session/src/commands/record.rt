@@ -1,8 +1,10 @@
 //! loadsgf: a game that is read of a record.
-ghost use Rattle.std.specs.Prelude.{◌≡◌, IsErrOf, OnOk};
+ghost use Rattle.std.specs.Prelude.{◌≡◌, IfErr, IfOk, IsErrOf, OnOk};
 ghost use Rattle.go_game.specs.Standings.{Standing};
 ghost use Rattle.goref_session.specs.Contents.{content_of};
-ghost use Rattle.goref_session.specs.Record.{DecidesBytes, DecidesContent, DecidesLoad, Loads, LoadsNone, load_error_of, load_of, of_sgf};
+ghost use Rattle.goref_session.specs.Record.{DecidesBytes, DecidesLoad, Loads, LoadsNone, load_error_of, load_of, of_sgf};
+ghost use Rattle.goref_session.specs.Decisions.{Decided, keeps};
+ghost use Rattle.goref_session.specs.declared.decision.Decision.{Decision};
 ghost use Rattle.goref_session.specs.inner.Refusing.{after_load};
 
 use crate::decision::Refusal;
@@ -14,32 +16,33 @@ use go_sgf::{SgfError, check};
 use goref_lines::Request;
 use std::alloc::Allocator;
 
-/// Loads what a request asks for on a game, or tells why not.
-pub fn load_requested<A: Allocator + Copy>(
-    game: &mut Game<A>,
-    request: &Request,
-    fetched: &Fetched<A>,
-) -> Result<(), Refusal>
-    ensures { (s : Standing) → DecidesLoad s (load_of request.now.arguments)
-        (content_of fetched.now) (after_load s game.new.standing result) }
-{
-    match load_asked(request) {
-        None => Err(Refusal::SyntaxError),
-        Some(load) => load_fetched(game, fetched, load.number),
-    }
+/// A record that is to be loaded, up to the move of a number where one is given.
+#[derive(Clone, Copy)]
+pub struct Record<'a> {
+    pub bytes: &'a [u8],
+    pub number: Option<u32>,
 }
 
-/// Loads what was fetched, or tells why there is nothing to load.
-fn load_fetched<A: Allocator + Copy>(
-    game: &mut Game<A>,
-    fetched: &Fetched<A>,
-    number: Option<u32>,
-) -> Result<(), Refusal>
-    ensures { (s : Standing) → DecidesContent s (content_of fetched.now) number
-        (after_load s game.new.standing result) }
+/// The record that a request asks for, or why there is none to load.
+pub fn record_asked<'a, A: Allocator + Copy>(
+    request: &Request,
+    fetched: &'a Fetched<A>,
+) -> Result<Record<'a>, Refusal>
+    ensures asked { IfOk result (λ source. (s : Standing) (d : Decided) →
+        DecidesBytes s source.bytes.now source.number d →
+        DecidesLoad s (load_of request.now.arguments) (content_of fetched.now) d) }
+    ensures refused { IfErr result (λ why. (s : Standing) →
+        DecidesLoad s (load_of request.now.arguments) (content_of fetched.now)
+        (keeps s (Decision.Refused why))) }
 {
+    let Some(load) = load_asked(request) else {
+        return Err(Refusal::SyntaxError);
+    };
     match fetched {
-        Fetched::Bytes(bytes) => load_bytes(game, bytes.as_slice(), number),
+        Fetched::Bytes(bytes) => Ok(Record {
+            bytes: bytes.as_slice(),
+            number: load.number,
+        }),
         Fetched::Memory => Err(Refusal::OutOfMemory),
         Fetched::None => Err(Refusal::CannotLoad),
         Fetched::Missing => Err(Refusal::CannotLoad),
@@ -47,34 +50,27 @@ fn load_fetched<A: Allocator + Copy>(
     }
 }
 
-/// Loads a record from its bytes, or tells why not.
-fn load_bytes<A: Allocator + Copy>(
-    game: &mut Game<A>,
-    bytes: &[u8],
-    number: Option<u32>,
-) -> Result<(), Refusal>
-    ensures { (s : Standing) → DecidesBytes s bytes.now number
+/// Brings a game to where a record's stands, or tells why not. A refusal leaves it at no standing
+/// that was asked for.
+pub fn load_on<A: Allocator + Copy>(game: &mut Game<A>, source: &Record) -> Result<(), Refusal>
+    ensures { (s : Standing) → DecidesBytes s source.now.bytes.now source.now.number
         (after_load s game.new.standing result) }
 {
-    match load_on(game, bytes, number) {
+    match replay_on(game, source) {
         Ok(()) => Ok(()),
         Err(LoadError::Cannot) => Err(Refusal::CannotLoad),
         Err(LoadError::Memory) => Err(Refusal::OutOfMemory),
     }
 }
 
-/// Brings a game to where a record's stands, up to the move of a number where one is given. A
-/// refusal leaves it at no standing that was asked for.
-fn load_on<A: Allocator + Copy>(
-    game: &mut Game<A>,
-    bytes: &[u8],
-    number: Option<u32>,
-) -> Result<(), LoadError>
-    ensures ok { OnOk result (Loads bytes.now number game.new.standing) }
-    ensures cannot { IsErrOf result LoadError.Cannot → LoadsNone bytes.now number }
+/// The same, with want of memory told apart from all other refusals.
+fn replay_on<A: Allocator + Copy>(game: &mut Game<A>, source: &Record) -> Result<(), LoadError>
+    ensures ok { OnOk result (Loads source.now.bytes.now source.now.number game.new.standing) }
+    ensures cannot { IsErrOf result LoadError.Cannot
+        → LoadsNone source.now.bytes.now source.now.number }
 {
-    check(bytes)?;
-    replay_source_on(game, bytes, number)?;
+    check(source.bytes)?;
+    replay_source_on(game, source.bytes, source.number)?;
     Ok(())
 }
 

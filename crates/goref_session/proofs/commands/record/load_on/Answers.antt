@@ -1,12 +1,11 @@
-use Rattle.std.proofs.Common.{inr}
-use Rattle.std.proofs.lemmas.Result.{err_from_is_err_and}
-use Rattle.goref_session.proofs.Loads.{other_refusal}
+use Rattle.std.proofs.Common.{rules}
 use Rattle.goref_session.proofs.commands.record.load_on.Goals as goal
 
-pub returns-in_err-replay_source_on-clause-cannot : goal.returns-in_err-replay_source_on-clause-cannot
-returns-in_err-replay_source_on-clause-cannot g c = λ h.
-    let p = err_from_is_err_and c.from_residual-in_err-replay_source_on.result c.from_residual-in_err-replay_source_on.ensures.1 in
-    let why = c.in_err-replay_source_on.field-0.0 in
-    let other = other_refusal c.from_residual-in_err-replay_source_on.result p.0 why p.1 p.2 h in
-    let spelled = c.in_ok-check.ensures.read in
-    inr (spelled.0, why, other, spelled.1, c.in_err-replay_source_on.ensures.err spelled.0 spelled.1 other)
+pub returns-in-Ok : goal.returns-in-Ok
+returns-in-Ok g c = search rules
+
+pub returns-in-Err-Cannot : goal.returns-in-Err-Cannot
+returns-in-Err-Cannot g c = search rules
+
+pub returns-in-Err-Memory : goal.returns-in-Err-Memory
+returns-in-Err-Memory g c = search rules

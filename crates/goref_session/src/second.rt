@@ -1,0 +1,54 @@
+//! The second game of a session. It stands apart, so that it takes memory only where a record is
+//! loaded.
+ghost use Rattle.std.specs.Prelude.{◌≡◌, IfOk, OnErr, Some, false};
+ghost use Rattle.go_game.specs.Standings.{Standing};
+ghost use Rattle.goref_session.specs.Record.{DecidesBytes};
+ghost use Rattle.goref_session.specs.inner.Refusing.{after_load};
+ghost use Rattle.goref_session.specs.inner.Played.{played_of};
+
+use crate::commands::record::{Record, load_on};
+use crate::decision::Refusal;
+use go_board::Size;
+use go_game::Game;
+use std::alloc::{AllocError, Allocator};
+
+/// The second game, and whether it is the one that is played. Records are loaded on the game that
+/// isn't played, so that a refused one leaves the other as it is, and no game is moved.
+#[derive(Drop)]
+pub struct Second<A: Allocator + Copy> {
+    pub game: Box<Game<A>, A>,
+    pub is_played: bool,
+}
+
+impl<A: Allocator + Copy> Second<A> {
+    /// A second game that isn't played.
+    pub fn new(alloc: A, size: Size) -> Result<Second<A>, AllocError>
+        ensures { IfOk result (λ second. second.is_played ≡ false) }
+    {
+        let game = Box::new(alloc, Game::new(alloc, size))?;
+        Ok(Second {
+            game,
+            is_played: false,
+        })
+    }
+
+    /// Loads a record on the game that isn't played, and plays on that. The one that was played gives
+    /// its memory back then.
+    pub fn load(&mut self, first: &mut Game<A>, source: &Record) -> Result<(), Refusal>
+        ensures decides { (s : Standing) → s ≡ played_of first.old.standing (Some self.old) →
+            DecidesBytes s source.now.bytes.now source.now.number
+            (after_load s (played_of first.new.standing (Some self.new)) result) }
+        ensures stays { OnErr result (played_of first.new.standing (Some self.new)
+            ≡ played_of first.old.standing (Some self.old)) }
+    {
+        if self.is_played {
+            load_on(first, source)?;
+            self.game.clear();
+        } else {
+            load_on(&mut self.game, source)?;
+            first.clear();
+        }
+        self.is_played = !self.is_played;
+        Ok(())
+    }
+}
