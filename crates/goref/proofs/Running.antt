@@ -7,10 +7,10 @@ use Rattle.go_game.specs.Standings.{Standing}
 use Rattle.goref_lines.specs.Kept.{Kept}
 use Rattle.goref.specs.Lines.{lines}
 use Rattle.goref.specs.Shelves.{Pair}
-use Rattle.goref.specs.Conversation.{ends, BreaksOff}
+use Rattle.goref.specs.Conversation.{BreaksOff}
 use Rattle.goref.specs.inner.Progress.{Progress}
 use Rattle.goref.specs.Runs.{AnswersComplete, AnswersFront}
-use Rattle.goref.proofs.Conversations.{retold}
+use Rattle.goref.specs.lemmas.Conversations.{so_far}
 
 -- the complete lines of what was read are answered
 pub answers_complete : {s now : Standing} {read : List ℕ} {line : Kept} {left left' : Option (List ℕ)} {given given' : Option (List Pair)} {taken taken' : Option (List ℕ)} →
@@ -18,13 +18,7 @@ pub answers_complete : {s now : Standing} {read : List ℕ} {line : Kept} {left 
 answers_complete {s} {now} {read} e p = record {
   read = read;
   has_read = e;
-  converses = record {
-    asked = p.asked;
-    text = p.text;
-    is = retold (append-nil _) (append-nil p.asked) (append-nil p.text) (p.reaches.on [] [] [] (ends now));
-    tells = p.tells;
-    took = p.took;
-  };
+  converses = so_far p.goes_on;
 }
 
 pub answers_front : {s : Standing} {left left' : Option (List ℕ)} {given given' : Option (List Pair)} {taken taken' : Option (List ℕ)} (read : List ℕ) →

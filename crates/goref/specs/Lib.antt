@@ -4,6 +4,7 @@ pub mod Conversation
 pub mod Runs
 pub mod Limits
 pub mod inner
+pub mod lemmas
 pub use Rattle.goref_lines.specs.Words
 pub use Rattle.goref_lines.specs.Kept
 pub use Rattle.goref_session.specs.Starts

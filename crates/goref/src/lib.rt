@@ -5,6 +5,7 @@
 //! - [`wants`], [`Fetched`]: the file that a line names, and what was fetched for it.
 //! - [`run`], [`run_within`]: read lines from a device and answer each before the next read;
 //!   a [`Shelf`] gives the files, and [`RunError`] says why a run broke off.
+//! - [`answer_lines`]: answers the lines of a text over a session that goes on afterwards.
 //! - [`tidy_run`], [`judge_run`]: write the canonical spelling of a record, and the verdict on it;
 //!   [`ToolError`] says why not. [`read_input`] reads a whole input, up to a record's limit.
 //! - [`task_of`], [`Task`]: what the program's words ask for.
@@ -32,5 +33,5 @@ pub use goref_cli::{Task, task_of};
 pub use goref_lines::{LINE_LIMIT, Line};
 pub use goref_session::{Fetched, Flow, Session, wants};
 pub use goref_tools::{ToolError, judge_run, read_input, tidy_run};
-pub use runs::{READS, run, run_within};
+pub use runs::{READS, answer_lines, run, run_within};
 pub use shelf::Shelf;

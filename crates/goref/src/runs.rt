@@ -1,4 +1,4 @@
-ghost use Rattle.std.specs.Prelude.{◌≡◌, ◌+◌, ◌⊎◌, ℕ, List, [], ◌∷◌, ◌++◌, Option, IfOk, IfSome, OnOk, IsErrOf, false, true};
+ghost use Rattle.std.specs.Prelude.{◌≡◌, ◌+◌, ◌⊎◌, ℕ, List, [], ◌∷◌, ◌++◌, Ok, Option, IfOk, IfSome, OnOk, IsErrOf, false, true};
 ghost use Rattle.go_board.specs.Device.{failures_after};
 ghost use Rattle.go_game.specs.Standings.{Standing};
 ghost use Rattle.goref_lines.specs.Words.{has_bytes};
@@ -7,8 +7,9 @@ ghost use Rattle.goref.specs.Lines.{lines};
 ghost use Rattle.goref.specs.inner.Progress.{HasNoEnd};
 ghost use Rattle.goref_session.specs.Contents.{content_of};
 ghost use Rattle.goref.specs.Shelves.{Pair};
-ghost use Rattle.goref.specs.Conversation.{Converses};
-ghost use Rattle.goref.specs.inner.Progress.{Fetches, Responds, Progress, Proceeds, Finishes};
+ghost use Rattle.goref_session.specs.declared.flow.Flow.{Flow};
+ghost use Rattle.goref.specs.Conversation.{AnswersLines, Converses, Responds};
+ghost use Rattle.goref.specs.inner.Progress.{Fetches, Progress, Proceeds};
 ghost use Rattle.goref.specs.Runs.{AnswersComplete, AnswersFront, RunsOn};
 
 use crate::error::RunError;
@@ -75,6 +76,28 @@ pub fn run_within<A: Allocator + Copy, R: Source, W: Sink, S: Shelf<A>>(
     run_from(limit, &mut session, reader, writer, shelf)
 }
 
+/// Answers the lines of a text over a session, up to `quit`. A last line without a line end is
+/// answered too, so a text that is sent in pieces is cut at line ends. On a fault the session stands
+/// as after the command whose answer isn't whole, and goes on with the next text.
+pub fn answer_lines<A: Allocator + Copy, W: Sink, S: Shelf<A>>(
+    session: &mut Session<A>,
+    text: &[u8],
+    writer: &mut W,
+    shelf: &mut S,
+) -> Result<Flow, WriteFault>
+    ensures answered { AnswersLines result session.old (lines text.now) session.new
+        (S.given shelf.old) (S.given shelf.new) (W.taken writer.old) (W.taken writer.new) }
+    ensures held { OnOk result (W.held writer.old ≡ 0 → W.held writer.new ≡ 0) }
+    ensures failures { W.failures writer.new ≡ failures_after result (W.failures writer.old) }
+{
+    let mut line = Line::new();
+    match feed(session, &mut line, text, writer, shelf) {
+        Ok(Flow::More) => end_input(session, &line, writer, shelf),
+        Ok(Flow::Quit) => Ok(Flow::Quit),
+        Err(WriteFault) => Err(WriteFault),
+    }
+}
+
 /// As [`run_within`], from where a session stands.
 fn run_from<A: Allocator + Copy, R: Source, W: Sink, S: Shelf<A>>(
     limit: u64,
@@ -95,6 +118,7 @@ fn run_from<A: Allocator + Copy, R: Source, W: Sink, S: Shelf<A>>(
     ensures devices { RunsOn limit R.Source W.Sink result reader.old reader.new
         writer.old writer.new }
 {
+    some_reply();
     let mut line = Line::new();
     let mut buffer = [0u8; CHUNK];
     for _ in 0..limit {
@@ -104,7 +128,7 @@ fn run_from<A: Allocator + Copy, R: Source, W: Sink, S: Shelf<A>>(
         };
         if count == 0 {
             match end_input(session, &line, writer, shelf) {
-                Ok(()) => return Ok(()),
+                Ok(_) => return Ok(()),
                 Err(WriteFault) => return Err(RunError::Write),
             }
         }
@@ -167,7 +191,6 @@ fn end_line<A: Allocator + Copy, W: Sink, S: Shelf<A>>(
     ensures held { OnOk result (W.held writer.old ≡ 0 → W.held writer.new ≡ 0) }
     ensures failures { W.failures writer.new ≡ failures_after result (W.failures writer.old) }
 {
-    some_reply();
     line.extend(part);
     let result = respond(session, line, writer, shelf);
     line.clear();
@@ -180,20 +203,17 @@ fn end_input<A: Allocator + Copy, W: Sink, S: Shelf<A>>(
     line: &Line,
     writer: &mut W,
     shelf: &mut S,
-) -> Result<(), WriteFault>
+) -> Result<Flow, WriteFault>
     ensures finishes { (start : Standing) (read : List ℕ) (given : Option (List Pair))
         (taken : Option (List ℕ)) →
         Progress start read line.now session.old given
         (S.given shelf.old) taken (W.taken writer.old) →
-        Finishes result start read given (S.given shelf.new) taken (W.taken writer.new) }
+        AnswersLines result start (lines read) session.new given (S.given shelf.new)
+        taken (W.taken writer.new) }
     ensures held { OnOk result (W.held writer.old ≡ 0 → W.held writer.new ≡ 0) }
     ensures failures { W.failures writer.new ≡ failures_after result (W.failures writer.old) }
 {
-    some_reply();
-    match respond(session, line, writer, shelf) {
-        Ok(_) => Ok(()),
-        Err(WriteFault) => Err(WriteFault),
-    }
+    respond(session, line, writer, shelf)
 }
 
 /// Fetches what a line wants, answers the line, and passes the answer on.
@@ -205,6 +225,7 @@ fn respond<A: Allocator + Copy, W: Sink, S: Shelf<A>>(
 ) -> Result<Flow, WriteFault>
     ensures responds { Responds session.old session.new line.now result (S.given shelf.old)
         (S.given shelf.new) (W.taken writer.old) (W.taken writer.new) }
+    ensures discarded { has_bytes line.now.text ≡ false → result ≡ Ok Flow.More }
     ensures held { OnOk result (W.held writer.old ≡ 0 → W.held writer.new ≡ 0) }
     ensures failures { W.failures writer.new ≡ failures_after result (W.failures writer.old) }
 {
@@ -227,6 +248,7 @@ fn fetch_for<A: Allocator + Copy, S: Shelf<A>>(line: &Line, shelf: &mut S) -> Fe
 /// Flushes the answer of a line, where it has one.
 fn pass_on<W: Sink>(line: &Line, flow: Flow, writer: &mut W) -> Result<Flow, WriteFault>
     ensures same { IfOk result (λ passed. passed ≡ flow) }
+    ensures discarded { has_bytes line.now.text ≡ false → result ≡ Ok flow }
     ensures bytes { W.taken writer.new ≡ W.taken writer.old }
     ensures passed { OnOk result (has_bytes line.now.text ≡ true → W.held writer.new ≡ 0) }
     ensures silent { has_bytes line.now.text ≡ false → W.held writer.new ≡ W.held writer.old }

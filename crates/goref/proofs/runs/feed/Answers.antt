@@ -1,7 +1,7 @@
 use Rattle.std.proofs.Common.{◌∙◌, [], ◌∷◌, ◌++◌, drop, refl, sym, ap, append_assoc}
 use Rattle.std.proofs.lemmas.List.{append-nil}
 use Rattle.goref.specs.Lines.{lines, unfinished_line}
-use Rattle.goref.specs.Conversation.{Converses, BreaksOff}
+use Rattle.goref.specs.Conversation.{Converses, WasCut}
 use Rattle.goref.proofs.Lines.{no_cut, first_cut, chunk_cut}
 use Rattle.goref.proofs.Progressing.{reads_on, settled}
 use Rattle.goref.proofs.runs.feed.Goals as goal
@@ -27,7 +27,7 @@ returns-in-Err-clause-proceeds g c = λ start read given taken p.
     let now = c.loop-end.invariant in
     let part = c.split_at.result.0.now in
     let rest = c.loop-end.rest.now in
-    settled (λ text. BreaksOff start (lines text) given (g.S.Shelf.given c.end_line.new.shelf) taken (g.W.Sink.taken c.end_line.new.writer))
+    settled (λ text. WasCut start (lines text) c.end_line.new.session given (g.S.Shelf.given c.end_line.new.shelf) taken (g.W.Sink.taken c.end_line.new.writer))
     read now.front (part ++ 10 ∷ []) (drop 1 (drop c.in-Some.end rest)) c.args.chunk.now
     (chunk_cut c.args.chunk.now now.front rest part _ c.in-Some.end now.whole c.split_at.ensures.front refl c.in-Some.ensures)
     (rw c.in-Err.is at (c.end_line.ensures.proceeds start (read ++ now.front) given taken (now.progress start read given taken p)))

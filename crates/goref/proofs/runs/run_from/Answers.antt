@@ -4,6 +4,8 @@ use Rattle.go_board.specs.Device.{after_bytes}
 use Rattle.go_board.specs.declared.device.Failed.{Failed}
 use Rattle.goref.specs.Lines.{lines}
 use Rattle.goref.specs.Conversation.{Converses}
+use Rattle.goref.proofs.Conversations.{cut_breaks_off}
+use Rattle.goref.specs.lemmas.Conversations.{answered_converses}
 use Rattle.goref.proofs.Progressing.{begins}
 use Rattle.go_board.specs.lemmas.Reading.{after_bytes-nil, has_read_more, of_input}
 use Rattle.goref.proofs.Running.{answers_complete, answers_front, no_end_found, of_ended}
@@ -50,7 +52,7 @@ returns-in-Err-end_input-clause-write g c = λ _.
     let now = c.loop.invariant in
     let nothing = rw c.if-count-eq0.true at c.in-Ok.ensures.bytes in
     answers_front now.read (now.left ∙ ap (after_bytes now.read) (nothing ∙ after_bytes-nil (g.R.Source.left c.pull.new.self)))
-    (rw c.in-Err-end_input.is at (c.end_input.ensures.finishes _ now.read _ _ now.progress))
+    (cut_breaks_off c.some_reply.ensures (rw c.in-Err-end_input.is at (c.end_input.ensures.finishes _ now.read _ _ now.progress)))
 
 pub returns-in-Ok-end_input-clause-ok : goal.returns-in-Ok-end_input-clause-ok
 returns-in-Ok-end_input-clause-ok g c =
@@ -59,14 +61,14 @@ returns-in-Ok-end_input-clause-ok g c =
     of_ended (λ input. Converses c.args.session.now (lines input) _ _ _ _) now.read (g.R.Source.left c.pull.new.self)
     (now.left ∙ ap (after_bytes now.read) (nothing ∙ after_bytes-nil (g.R.Source.left c.pull.new.self)))
     (c.in-Ok.ensures.end c.if-count-eq0.true (omega (arith, c.pull.auto.buffer)))
-    (rw c.in-Ok-end_input.is at (c.end_input.ensures.finishes _ now.read _ _ now.progress))
+    (answered_converses _ _ (rw c.in-Ok-end_input.is at (c.end_input.ensures.finishes _ now.read _ _ now.progress)))
 
 pub returns-in-Err-feed-clause-write : goal.returns-in-Err-feed-clause-write
 returns-in-Err-feed-clause-write g c = λ _.
     let now = c.loop.invariant in
     let chunk = c.split_at.result.0.now in
     answers_front (now.read ++ chunk) (has_read_more (g.R.Source.left c.pull.new.self) now.read chunk now.left (c.in-Ok.ensures.bytes ∙ ap (λ xs. after_bytes xs (g.R.Source.left c.pull.new.self)) (sym c.split_at.ensures.front)))
-    (rw append-nil at (rw c.in-Err-feed.is at (c.feed.ensures.proceeds _ now.read _ _ now.progress) []))
+    (cut_breaks_off c.some_reply.ensures (rw append-nil at (rw c.in-Err-feed.is at (c.feed.ensures.proceeds _ now.read _ _ now.progress) [])))
 
 pub returns-in-Ok-Quit-clause-ok : goal.returns-in-Ok-Quit-clause-ok
 returns-in-Ok-Quit-clause-ok g c =
