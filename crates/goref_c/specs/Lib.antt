@@ -1,3 +1,6 @@
 pub mod Devices
 pub mod Ends
 pub mod Files
+pub mod NextGame
+pub mod Sessions
+pub mod Handles

@@ -82,6 +82,13 @@ impl<A: Allocator> TextWriter<A> {
         }
     }
 
+    /// Forgets what it took. The memory for it is kept.
+    pub(crate) fn clear(&mut self)
+        ensures { self.new ≡ record { taken = []; failures = self.old.failures } }
+    {
+        self.bytes.clear();
+    }
+
     /// What it took.
     pub(crate) fn bytes(&self) -> &[u8]
         ensures { result.now ≡ self.now.taken }

@@ -1,5 +1,9 @@
+//! The file that a caller gives with lines, as a shelf.
 ghost use Rattle.std.specs.Prelude.{◌≡◌, []};
+ghost use Rattle.goref_c.specs.Files.{bytes_of, content_given};
+ghost use Rattle.goref_session.specs.Contents.{content_of};
 
+use go_sgf::MAX_RECORD;
 use goref::{Fetched, Shelf};
 use std::alloc::Allocator;
 use std::marker::Model;
@@ -41,67 +45,98 @@ fn letters_of(text: &[u8]) -> Snapshot<Letters>
     letters
 }
 
-/// Names that only contracts see: those before and one, or none where there are none before.
+/// Names that only contracts see, each with whether there was memory for a file: those before and
+/// one, or none where there are none before.
 #[derive(Drop)]
 struct Names {
     before: Option<Snapshot<Names>>,
     last: Snapshot<Letters>,
+    has_memory: bool,
 }
 
 impl Model for Names {
-    ghost use Rattle.std.specs.Prelude.{List, ℕ, length};
-    ghost use Rattle.goref_c.specs.Files.{one_after};
+    ghost use Rattle.std.specs.Prelude.{List, length};
+    ghost use Rattle.goref_c.specs.Files.{Asking, one_after};
 
-    ghost Value = { List (List ℕ) };
+    ghost Value = { List Asking };
 
-    ghost view = { λ n. one_after n.before n.last.value };
+    ghost view = { λ n. one_after n.before (n.last.value, n.has_memory) };
 
     ghost size = { λ n. length n };
 }
 
-/// A shelf without files. Contracts see the names that it was asked for.
+/// A shelf that gives the same file under each name, or none. Contracts see the names that it was
+/// asked for.
 #[derive(Drop)]
-pub(crate) struct NoFiles {
+pub(crate) struct OneFile<'a, A: Allocator + Copy> {
+    alloc: A,
+    file: Option<&'a [u8]>,
     asked: Snapshot<Names>,
 }
 
-impl Model for NoFiles {
-    ghost use Rattle.std.specs.Prelude.{List, ℕ};
+impl<'a, A: Allocator + Copy> Model for OneFile<'a, A> {
+    ghost use Rattle.goref_c.specs.Files.{Shown, bytes_of};
 
-    ghost Value = { List (List ℕ) };
+    ghost Value = { Shown };
 
-    ghost view = { λ s. s.asked.value };
+    ghost view = { λ s. record { file = bytes_of s.file; asked = s.asked.value } };
 }
 
-impl NoFiles {
+impl<'a, A: Allocator + Copy> OneFile<'a, A> {
     /// A shelf that was asked for nothing so far.
-    pub(crate) fn new() -> NoFiles
-        ensures { result ≡ [] }
+    pub(crate) fn new(alloc: A, file: Option<&'a [u8]>) -> OneFile<'a, A>
+        ensures { result ≡ record { file = bytes_of file.entry; asked = [] } }
     {
-        NoFiles {
-            asked: Snapshot::of(&Names {
-                before: None,
-                last: letters_of(b""),
-            }),
+        OneFile {
+            alloc,
+            file,
+            asked: no_names(),
         }
     }
 }
 
-impl<A: Allocator> Shelf<A> for NoFiles {
-    ghost use Rattle.std.specs.Prelude.{Some, map};
-    ghost use Rattle.goref_c.specs.Files.{no_file};
+fn no_names() -> Snapshot<Names>
+    ensures { result.value ≡ [] }
+{
+    Snapshot::of(&Names {
+        before: None,
+        last: letters_of(b""),
+        has_memory: true,
+    })
+}
 
-    ghost given = { λ s. Some (map no_file s) };
-
-    fn fetch(&mut self, name: &[u8]) -> Fetched<A> {
-        let none = NoFiles::new().asked;
-        let before = mem::replace(&mut self.asked, none);
-        self.asked = Snapshot::of(&Names {
-            before: Some(before),
-            last: letters_of(name),
-        });
-        Fetched::Missing
+/// What is fetched of a file that its caller has, or hasn't.
+fn fetched_of<A: Allocator + Copy>(alloc: A, file: Option<&[u8]>) -> (Fetched<A>, bool)
+    ensures { content_of result.0 ≡ content_given (bytes_of file.entry) result.1 }
+{
+    let Some(bytes) = file else {
+        return (Fetched::Missing, true);
+    };
+    if bytes.len() > MAX_RECORD {
+        return (Fetched::TooLarge, true);
+    }
+    match Vec::from_slice(alloc, bytes) {
+        Ok(copy) => (Fetched::Bytes(copy), true),
+        Err(_) => (Fetched::Memory, false),
     }
 }
 
-const _: () = prove!(mem::size_of::<NoFiles>() == 0);
+impl<A: Allocator + Copy> Shelf<A> for OneFile<'_, A> {
+    ghost use Rattle.std.specs.Prelude.{Some};
+    ghost use Rattle.goref_c.specs.Files.{told_of};
+
+    ghost given = { λ s. Some (told_of s.file s.asked) };
+
+    fn fetch(&mut self, name: &[u8]) -> Fetched<A> {
+        let (fetched, has_memory) = fetched_of(self.alloc, self.file);
+        let before = mem::replace(&mut self.asked, no_names());
+        self.asked = Snapshot::of(&Names {
+            before: Some(before),
+            last: letters_of(name),
+            has_memory,
+        });
+        fetched
+    }
+}
+
+const _: () = prove!(mem::size_of::<Snapshot<Names>>() == 0);

@@ -1,20 +1,28 @@
-//! goref for other languages: three functions from bytes to bytes, which keep nothing between calls.
+//! goref for other languages: functions from bytes to bytes, which keep nothing between calls, and
+//! sessions behind handles, which do.
 //!
-//! Each puts its text into a room of the caller's, as far as it fits, and the text's whole length
-//! into a place of the caller's, and gives the status that the program would end with. Where that
-//! isn't 0, the text is the reason.
+//! A text goes into a room of the caller's, as far as it fits, and the text's whole length into a
+//! place of the caller's. `include/goref.h` says what each status means.
 #![tactic(auto)]
 
-ghost use Rattle.std.specs.Prelude.{◌≡◌, ◌≢◌, ◌⊎◌, ◌<◌, ◌↔◌, []};
+ghost use Rattle.std.specs.Prelude.{◌≡◌, ◌≢◌, ◌⊎◌, ◌<◌, ◌≤◌, ◌↔◌, [], None, Some};
 ghost use Rattle.go_board.specs.declared.size.TheConstants.{MAX_LINES};
 ghost use Rattle.goref_c.specs.Ends.{IsText, ShowsAnswers, ShowsGameRefusal, ShowsNoMemory, ShowsRefusal, ShowsTidied, ShowsVerdict};
+ghost use Rattle.goref_c.specs.NextGame.{ShowsBrokenTree, ShowsNoTree, ShowsTree};
+ghost use Rattle.goref_c.specs.Sessions.{ComesTo, ShowsAnswered, ShowsWanted, fresh};
 
 mod devices;
 mod files;
+mod games;
+mod handle;
+mod held;
+mod loose;
 mod room;
 mod session;
+mod sessions;
 mod tools;
 
+use handle::Handle;
 use std::alloc::Global;
 
 /// The answers to lines of the Go Text Protocol, on a board of so many lines. There are no files. The
@@ -71,5 +79,97 @@ pub extern "C" fn goref_judge(
     tools::judge(alloc, source, room, length)
 }
 
+/// Where the first game tree that begins at `from` or later stands. The status is 0, or 1 where no
+/// tree begins from there on, or 2 where that tree is broken. No memory is taken.
+#[unsafe(no_mangle)]
+pub extern "C" fn goref_next_game(
+    source: &[u8],
+    from: usize,
+    begin: &mut usize,
+    end: &mut usize,
+) -> u8
+    ensures statuses { result ≤ 2 }
+    ensures found { result ≡ 0 → ShowsTree source.now from begin.new end.new }
+    ensures none { result ≡ 1 → ShowsNoTree source.now from begin.new end.new }
+    ensures broken { result ≡ 2 → ShowsBrokenTree source.now from begin.new end.new }
+{
+    games::next_game(source, from, begin, end)
+}
+
+/// Opens a session on a board of so many lines behind a handle. One that stood there is closed. The
+/// status is 0, or 2 where no board has so many lines, or 3 where there was no memory; with both of
+/// these the handle stays as it was.
+#[unsafe(no_mangle)]
+pub extern "C" fn goref_open(alloc: Global, lines: u8, handle: &mut Handle) -> u8
+    ensures done { result ≡ 0 → handle.new.value ≡ Some (fresh lines) }
+    ensures size { (result ≡ 2) ↔ ((lines ≡ 0) ⊎ (MAX_LINES < lines)) }
+    ensures fault { result ≢ 0 → result ≢ 2 → result ≡ 3 }
+    ensures stays { result ≢ 0 → handle.new.value ≡ handle.old.value }
+{
+    sessions::open(alloc, lines, handle)
+}
+
+/// Answers the lines of a text over the session behind a handle, which keeps the answers. Lines get
+/// no file. The status is 0, or 1 where `quit` was answered, now or before, or 3 where there was no
+/// memory for an answer, or 4 where the handle has no session.
+#[unsafe(no_mangle)]
+pub extern "C" fn goref_send(
+    alloc: Global,
+    handle: &mut Handle,
+    text: &[u8],
+    length: &mut usize,
+) -> u8
+    ensures { ComesTo result None text.now handle.old.value handle.new.value length.new }
+{
+    sessions::send(alloc, handle, text, None, length)
+}
+
+/// As `goref_send`, where each line that wants a file gets this one.
+#[unsafe(no_mangle)]
+pub extern "C" fn goref_give(
+    alloc: Global,
+    handle: &mut Handle,
+    text: &[u8],
+    file: &[u8],
+    length: &mut usize,
+) -> u8
+    ensures { ComesTo result (Some file.now) text.now handle.old.value handle.new.value length.new }
+{
+    sessions::send(alloc, handle, text, Some(file), length)
+}
+
+/// The name of the file that the first line of a text wants. The status is 0, or 1 where it wants
+/// none.
+#[unsafe(no_mangle)]
+pub extern "C" fn goref_wants(text: &[u8], room: &mut [u8], length: &mut usize) -> u8
+    ensures { ShowsWanted result text.now room.old room.new length.new }
+{
+    sessions::wanted(text, room, length)
+}
+
+/// The answers to the last text. The status is 0, or 4 where the handle has no session.
+#[unsafe(no_mangle)]
+pub extern "C" fn goref_take(
+    alloc: Global,
+    handle: &mut Handle,
+    room: &mut [u8],
+    length: &mut usize,
+) -> u8
+    ensures stays { handle.new.value ≡ handle.old.value }
+    ensures shown { ShowsAnswered result handle.old.value room.old room.new length.new }
+{
+    sessions::take(alloc, handle, room, length)
+}
+
+/// Closes the session behind a handle, if there is one.
+#[unsafe(no_mangle)]
+pub extern "C" fn goref_close(alloc: Global, handle: &mut Handle)
+    ensures { handle.new.value ≡ None }
+{
+    *handle = Handle::shut(alloc);
+}
+
+#[cfg(test)]
+mod game_tests;
 #[cfg(test)]
 mod tests;

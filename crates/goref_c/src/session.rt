@@ -2,11 +2,11 @@ ghost use Rattle.std.specs.Prelude.{◌≡◌, ◌≢◌, ◌⊎◌, ◌<◌, �
 ghost use Rattle.go_board.specs.declared.size.TheConstants.{MAX_LINES};
 ghost use Rattle.goref_c.specs.Ends.{IsText, ShowsAnswers, ShowsNoMemory};
 
-use crate::devices::{TextReader, TextWriter};
-use crate::files::NoFiles;
+use crate::devices::TextWriter;
+use crate::files::OneFile;
 use crate::room::show;
-use go_board::Size;
-use goref::run_within;
+use go_board::{Size, WriteFault};
+use goref::{Session, answer_lines};
 use std::alloc::Allocator;
 
 /// Puts the answers to lines into a room, and gives the status.
@@ -27,16 +27,17 @@ pub(crate) fn answers<A: Allocator + Copy>(
         show(b"", room, length);
         return 2;
     };
-    let mut reader = TextReader::new(text);
+    let mut session = Session::new(alloc, size);
     let mut writer = TextWriter::new(alloc);
-    let mut shelf = NoFiles::new();
-    // No text has a byte for each of so many reads, so none is without end.
-    let end = run_within(alloc, u64::MAX, size, &mut reader, &mut writer, &mut shelf);
-    if end.is_ok() {
-        show(writer.bytes(), room, length);
-        0
-    } else {
-        show(b"out of memory", room, length);
-        3
+    let mut shelf = OneFile::new(alloc, None);
+    match answer_lines(&mut session, text, &mut writer, &mut shelf) {
+        Ok(_) => {
+            show(writer.bytes(), room, length);
+            0
+        }
+        Err(WriteFault) => {
+            show(b"out of memory", room, length);
+            3
+        }
     }
 }

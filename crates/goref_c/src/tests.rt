@@ -1,4 +1,8 @@
-use crate::{goref_answers, goref_judge, goref_tidy};
+use crate::handle::Handle;
+use crate::{
+    goref_answers, goref_close, goref_give, goref_judge, goref_open, goref_send, goref_take,
+    goref_tidy, goref_wants,
+};
 use std::test::Fail;
 
 /// What a call comes to: its status, and the text that stands in a room of so many bytes.
@@ -98,6 +102,116 @@ fn lines_are_answered(rt: HostRuntime) -> Result<(), Fail> {
         let end = goref_answers(rt.alloc(), *lines, input, room.as_mut_slice(), &mut length);
         assert!(rt; end == *status && length == *whole, "row {number}");
         assert!(rt; room.as_slice().starts_with(text), "row {number}");
+    }
+    Ok(())
+}
+
+/// A text, the file that is given with it, and what sending it comes to: the status and the answers.
+type Sent = (&'static [u8], Option<&'static [u8]>, u8, &'static [u8]);
+
+/// A record on three lines, whose one stone has the whole board.
+const SMALL: &[u8] = b"(;SZ[3];B[bb])";
+
+/// Texts for one session on five lines, one after another.
+const SENT: &[Sent] = &[
+    (b"play b c3\n", None, 0, b"=\n\n"),
+    (
+        b"1 play w c3\n2 play w b2",
+        None,
+        0,
+        b"?1 illegal move\n\n=2\n\n",
+    ),
+    (b"", None, 0, b""),
+    (b"\n # nothing", None, 0, b""),
+    (b"loadsgf a\n", None, 0, b"? cannot load file\n\n"),
+    (
+        b"loadsgf a\nfinal_score\n",
+        Some(SMALL),
+        0,
+        b"=\n\n= B+9\n\n",
+    ),
+    (b"loadsgf b 1\nfinal_score", Some(SMALL), 0, b"=\n\n= 0\n\n"),
+    (
+        b"play w a1\nloadsgf c\n",
+        Some(b"(;SZ[3]"),
+        0,
+        b"=\n\n? cannot load file\n\n",
+    ),
+    (b"final_score\n", Some(SMALL), 0, b"= W+9\n\n"),
+    (b"name\nquit\nname\n", None, 1, b"= goref\n\n=\n\n"),
+    (b"name\n", None, 1, b""),
+    (b"name\n", Some(SMALL), 1, b""),
+];
+
+/// Lines, the room that is given, and what `goref_wants` comes to with them.
+const WANTED: &[(&[u8], usize, End)] = &[
+    (b"loadsgf a.sgf", 9, (0, 5, b"a.sgf")),
+    (b"7 loadsgf\ta.sgf  # it\nname", 4, (0, 5, b"a.sg")),
+    (b"loadsgf a.sgf x", 9, (1, 0, b"")),
+    (b"name\nloadsgf a.sgf\n", 9, (1, 0, b"")),
+    (b"", 9, (1, 0, b"")),
+];
+
+/// Sends a text with its file, and tells whether the answers are those of the row.
+fn is_answered(rt: &HostRuntime, handle: &mut Handle, sent: &Sent) -> bool {
+    let (text, file, status, answers) = sent;
+    let mut length = 7;
+    let end = match file {
+        Some(file) => goref_give(rt.alloc(), handle, text, file, &mut length),
+        None => goref_send(rt.alloc(), handle, text, &mut length),
+    };
+    let mut room = [0; 64];
+    let mut whole = 7;
+    let taken = goref_take(rt.alloc(), handle, &mut room, &mut whole);
+    let is_told = end == *status && taken == 0 && length == answers.len() && whole == length;
+    is_told && room.as_slice().starts_with(answers)
+}
+
+#[test]
+fn a_session_goes_on_from_text_to_text(rt: HostRuntime) {
+    let mut handle = Handle::shut(rt.alloc());
+    assert!(rt; goref_open(rt.alloc(), 5, &mut handle) == 0);
+    for (number, sent) in SENT.iter().enumerate() {
+        assert!(rt; is_answered(&rt, &mut handle, sent), "row {number}");
+    }
+    // A handle that is opened anew has a session of its own.
+    assert!(rt; goref_open(rt.alloc(), 5, &mut handle) == 0);
+    assert!(rt; is_answered(&rt, &mut handle, &SENT[0]));
+    assert!(rt; goref_open(rt.alloc(), 26, &mut handle) == 2);
+    assert!(rt; goref_open(rt.alloc(), 0, &mut handle) == 2);
+    assert!(rt; is_answered(&rt, &mut handle, &SENT[1]));
+    goref_close(rt.alloc(), &mut handle);
+}
+
+#[test]
+fn a_handle_without_a_session_is_told(rt: HostRuntime) {
+    let mut handle = Handle::shut(rt.alloc());
+    let mut room = [0; 8];
+    for _ in 0..2 {
+        let mut length = 7;
+        assert!(rt; goref_send(rt.alloc(), &mut handle, b"name\n", &mut length) == 4);
+        assert!(rt; length == 0);
+        length = 7;
+        assert!(rt; goref_give(rt.alloc(), &mut handle, b"name\n", SMALL, &mut length) == 4);
+        assert!(rt; length == 0);
+        length = 7;
+        assert!(rt; goref_take(rt.alloc(), &mut handle, &mut room, &mut length) == 4);
+        assert!(rt; length == 0 && room == [0; 8]);
+        assert!(rt; goref_open(rt.alloc(), 19, &mut handle) == 0);
+        goref_close(rt.alloc(), &mut handle);
+        goref_close(rt.alloc(), &mut handle);
+    }
+}
+
+#[test]
+fn lines_want_files(rt: HostRuntime) -> Result<(), Fail> {
+    for (number, (line, size, (status, whole, name))) in WANTED.iter().enumerate() {
+        let mut room = Vec::new(rt.alloc());
+        room.resize(*size, 0)?;
+        let mut length = 7;
+        let end = goref_wants(line, room.as_mut_slice(), &mut length);
+        assert!(rt; end == *status && length == *whole, "row {number}");
+        assert!(rt; room.as_slice().starts_with(name), "row {number}");
     }
     Ok(())
 }

@@ -1,0 +1,5 @@
+pub mod HandleSteps
+pub mod LooseSteps
+pub mod FirstLine
+pub mod HeldSends
+pub mod Sending
