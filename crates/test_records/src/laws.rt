@@ -6,6 +6,8 @@ fn call_those_of_records() {
     go_sgf::laws::spelled_is_read();
     go_sgf::laws::one_record();
     go_sgf::laws::fronts_stand();
+    go_sgf::laws::spelled_are_walked();
+    go_sgf::laws::refused_alike();
     go_sgf::laws::cooked_by_front();
     go_sgf::laws::cooking_undoes_escaping();
     goref_tools::laws::tidy_is_tidy();

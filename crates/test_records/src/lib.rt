@@ -8,6 +8,8 @@ mod drawn;
 #[cfg(test)]
 mod ends;
 #[cfg(test)]
+mod game_trees;
+#[cfg(test)]
 mod judging;
 #[cfg(test)]
 mod kinds;

@@ -40,4 +40,6 @@ mod sessions;
 #[cfg(test)]
 mod superko;
 #[cfg(test)]
+mod texts;
+#[cfg(test)]
 mod watched;
