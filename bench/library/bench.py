@@ -1,6 +1,8 @@
 """Times the Python module over the records of a folder, beside the program: bench.py TOP LIBRARY FOLDER ROUNDS"""
 
 import os
+import random
+import resource
 import subprocess
 import sys
 import time
@@ -63,3 +65,53 @@ start = time.perf_counter()
 for record in few:
     subprocess.run([os.path.join(top, "goref"), "judge"], input=record, capture_output=True)
 print(f"goref judge, a process each {1e6 * (time.perf_counter() - start) / len(few):8.2f} us a record by the clock")
+
+# A line by a session, and by a pipe to a process, with one game and with a thousand, the games in turn. The plays are
+# on distinct points, so each is legal.
+POINTS = [f"{column}{row}" for row in range(1, 20) for column in "abcdefghjklmnopqrst"]
+random.Random(2026).shuffle(POINTS)
+PLAYS = [f"play {'bw'[move % 2]} {point}\n".encode() for move, point in enumerate(POINTS[:250])]
+
+
+def by_sessions(count):
+    games = [goref.Session() for _ in range(count)]
+    start = time.process_time()
+    for play in PLAYS:
+        for game in games:
+            if game.send(play) != b"=\n\n":
+                sys.exit("a play that was refused")
+    taken = time.process_time() - start
+    for game in games:
+        game.close()
+    return 1e6 * taken / count / len(PLAYS)
+
+
+def by_pipes(count):
+    soft, hard = resource.getrlimit(resource.RLIMIT_NOFILE)
+    resource.setrlimit(resource.RLIMIT_NOFILE, (min(hard, 4096), hard))
+    words = [os.path.join(top, "bin", "goref"), "gtp"]
+    begun = time.perf_counter()
+    games = [subprocess.Popen(words, stdin=subprocess.PIPE, stdout=subprocess.PIPE, bufsize=0) for _ in range(count)]
+    start, before = time.perf_counter(), os.times()
+    for play in PLAYS:
+        for game in games:
+            game.stdin.write(play)
+            if game.stdout.read(64) != b"=\n\n":
+                sys.exit("a play that was refused")
+    taken = time.perf_counter() - start
+    for game in games:
+        game.stdin.close()
+        game.wait()
+        game.stdout.close()
+    end = os.times()
+    spent = end.user + end.system + end.children_user + end.children_system
+    spent -= before.user + before.system + before.children_user + before.children_system
+    lines = count * len(PLAYS)
+    return 1e6 * taken / lines, 1e6 * spent / lines, 1e3 * (start - begun) / count
+
+
+for count in (1, 1000):
+    print(f"Session.send, {count} games {by_sessions(count):8.2f} us a line")
+    clock, spent, started = by_pipes(count)
+    print(f"goref gtp by pipes, {count} games {clock:8.2f} us a line by the clock, {spent:.2f} of both processors, "
+          f"{started:.2f} ms to start one")

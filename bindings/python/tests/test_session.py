@@ -1,0 +1,86 @@
+"""Sessions."""
+
+import gc
+import threading
+
+import pytest
+
+import goref
+
+RECORD = b"(;SZ[3];B[bb])"
+
+
+def test_lines_go_on_from_text_to_text():
+    with goref.Session(5) as game:
+        assert game.send(b"play b c3\n") == b"=\n\n"
+        assert game.send(b"1 play w c3\n2 final_score") == b"?1 illegal move\n\n=2 B+25\n\n"
+        assert game.send(b"") == game.send(b"\n# nothing\n") == b""
+
+
+def test_a_command_is_asked():
+    with goref.Session(5) as game:
+        assert game.ask("play b c3") == "" and game.ask(b"7 final_score\n") == "B+25"
+        assert game.ask("protocol_version") == "2" and game.ask("12 protocol_version") == "2"
+        assert game.ask("showboard").startswith("size 5 komi 0")
+        with pytest.raises(goref.Refused, match="^illegal move$"):
+            game.ask("3 play w c3")
+        with pytest.raises(ValueError, match="several lines"):
+            game.ask("name\nname")
+
+
+def test_quit_and_close_end_a_session():
+    game = goref.Session()
+    assert game.send(b"name\nquit\nname\n") == b"= goref\n\n=\n\n" and game.is_over
+    assert game.send(b"name\n") == b""
+    with pytest.raises(goref.SessionOver):
+        game.ask("name")
+    game.close()
+    game.close()
+    with pytest.raises(goref.SessionOver, match="closed"):
+        game.send(b"name\n")
+
+
+def test_files_are_a_mapping_a_folder_or_a_function(tmp_path):
+    (tmp_path / "a").write_bytes(RECORD)
+    (tmp_path / "b").mkdir()
+    (tmp_path / "out").symlink_to("/etc/passwd")
+    asked = []
+
+    def fetch(name):
+        asked.append(name)
+        return RECORD if name == b"a" else None
+
+    for files in ({b"a": RECORD}, {"a": RECORD}, tmp_path, str(tmp_path), fetch):
+        with goref.Session() as game:
+            assert game.send(b"loadsgf a\nfinal_score\nloadsgf c\nloadsgf b\n1 loadsgf ../x\nloadsgf out", files) == (
+                b"=\n\n= B+9\n\n? cannot load file\n\n? cannot load file\n\n?1 cannot load file\n\n? cannot load file\n\n"
+            )
+    assert asked == [b"a", b"c", b"b", b"../x", b"out"]
+    with goref.Session() as game:
+        assert game.send(b"loadsgf a\nloadsgf x y\n") == b"? cannot load file\n\n? syntax error\n\n"
+        with pytest.raises(TypeError, match="file is text"):
+            game.send(b"loadsgf a\n", {"a": "(;)"})
+        assert game.send(b"loadsgf a\n", {"a": b"(;C[" + b"x" * 16_777_216 + b"])"}) == b"? cannot load file\n\n"
+
+
+def test_no_line_follows_quit_where_files_are_given():
+    with goref.Session() as game:
+        assert game.send(b"loadsgf a\nquit\nname\n", {"a": RECORD}) == b"=\n\n=\n\n"
+
+
+def test_a_session_is_used_by_threads():
+    with goref.Session() as game:
+        threads = [
+            threading.Thread(target=lambda: [game.send(b"play b a1\nundo\n") for _ in range(200)]) for _ in range(4)
+        ]
+        for thread in threads:
+            thread.start()
+        for thread in threads:
+            thread.join()
+        assert game.ask("showboard").splitlines()[0].endswith("moves 0 next B")
+
+
+def test_a_session_that_is_let_go_is_closed():
+    for _ in range(3000):
+        goref.Session()
+    gc.collect()
