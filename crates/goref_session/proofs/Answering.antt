@@ -1,17 +1,23 @@
 -- A line that was answered, from what was decided and what was written.
-use Rattle.std.proofs.Common.{◌≡◌, inl, inr, ℕ, true, false, List, Option, Ok, refl, sym, subst}
-use Rattle.std.specs.Prelude.{Result}
+use Rattle.std.proofs.Common.{◌≡◌, inl, inr, ℕ, true, false, List, Option, Some, None, Ok, refl, sym, subst}
+use Rattle.std.specs.Option.{option_and_then}
+use Rattle.std.specs.Prelude.{IfNone, Result}
 use Rattle.go_board.specs.lemmas.Writing.{then_bytes-nil}
 use Rattle.go_board.specs.declared.device.WriteFault.{WriteFault}
 use Rattle.goref_session.specs.declared.flow.Flow.{Flow}
 use Rattle.goref_session.specs.declared.flow.Flow.TheVariants.{More}
 use Rattle.go_game.specs.Standings.{Standing}
 use Rattle.goref_lines.specs.Kept.{Kept}
-use Rattle.goref_lines.specs.Requests.{asked_by, id_before_space}
+use Rattle.goref_lines.specs.Requests.{Asked, asked_by, id_before_space}
 use Rattle.goref_lines.specs.Words.{has_bytes, words}
+use Rattle.goref_session.specs.Commands.{command_of}
 use Rattle.goref_session.specs.Contents.{Content}
 use Rattle.goref_session.specs.Decisions.{Decided}
 use Rattle.goref_session.specs.Replies.{silent, spoken, line_id, Reply, DecidesLine}
+use Rattle.goref_session.specs.Record.{DecidesLoad, load_of}
+use Rattle.goref_session.specs.Table.{Decides}
+use Rattle.goref_session.specs.declared.command.Command.TheVariants.{Loadsgf}
+use Rattle.goref_session.specs.declared.decision.Decision.{Decision}
 use Rattle.goref_session.specs.Answered.{Answered}
 use Rattle.goref_session.specs.inner.Told.{IsTold}
 
@@ -44,3 +50,12 @@ long_id k e = rw e refl
 -- the id of one that isn't
 pub whole_id : (k : Kept) → k.is_long ≡ false → (asked_by (words k.text)).id ≡ line_id k
 whole_id k e = rw e refl
+
+-- what is decided on `loadsgf`, where nothing else was decided
+pub decided_load : (s t : Standing) (r : Asked) (content : Content) (o : Option Decision) (d : Decided) → o ≡ None →
+    IfNone o ((option_and_then command_of r.name ≡ Some Loadsgf) × (t ≡ s)) →
+    DecidesLoad t (load_of r.arguments) content d → Decides s r content d
+decided_load s t r content o d none named loads =
+    let is : (option_and_then command_of r.name ≡ Some Loadsgf) × (t ≡ s) =
+        subst (λ (p : Option Decision). IfNone p ((option_and_then command_of r.name ≡ Some Loadsgf) × (t ≡ s))) none named in
+    rw is.0 (subst (λ (u : Standing). DecidesLoad u (load_of r.arguments) content d) is.1 loads)

@@ -1,3 +1,5 @@
+//! A session answers lines over its game. It finds the function that decides on each command, and decides on
+//! `loadsgf` itself, because a load needs both games.
 ghost use Rattle.std.specs.Prelude.{◌≡◌, IfNone, IfSome, Ok, OnErr, Some, false};
 ghost use Rattle.std.specs.Option.{option_and_then};
 ghost use Rattle.go_board.specs.Device.{failures_after};
@@ -92,8 +94,15 @@ impl<A: Allocator + Copy> Session<A> {
             return self.tell(id_of_cut(text), &refused, writer);
         }
         let request = Request::of(text);
-        let decision = self.decide(&request, &fetched);
-        self.tell(request.id(), &decision, writer)
+        // It is told where it stands, since it has room for all points.
+        let decided = self.decide(&request);
+        match &decided {
+            Some(decision) => self.tell(request.id(), decision, writer),
+            None => {
+                let decision = self.decide_load(&request, &fetched);
+                self.tell(request.id(), &decision, writer)
+            }
+        }
     }
 
     /// Tells what was decided on a line with this id, and whether the session goes on.
@@ -114,19 +123,19 @@ impl<A: Allocator + Copy> Session<A> {
         }
     }
 
-    /// Decides on the command that is asked for.
-    fn decide(&mut self, request: &Request, fetched: &Fetched<A>) -> Decision
-        ensures { Decides self.old request.now (content_of fetched.now)
-            (record { decision = result; standing = self.new }) }
+    /// Decides on the command that is asked for; none where that is `loadsgf`.
+    fn decide(&mut self, request: &Request) -> Option<Decision>
+        ensures decided { IfSome result (λ decision. (content : Content) →
+            Decides self.old request.now content
+            (record { decision = decision; standing = self.new })) }
+        ensures loads { IfNone result
+            ((option_and_then command_of request.now.name ≡ Some Command.Loadsgf)
+            × (self.new ≡ self.old)) }
     {
         let alloc = self.alloc;
-        let decided = match &mut self.second {
+        match &mut self.second {
             Some(second) if second.is_played => decide_on(&mut second.game, alloc, request),
             _ => decide_on(&mut self.first, alloc, request),
-        };
-        match decided {
-            Some(decision) => decision,
-            None => self.decide_load(request, fetched),
         }
     }
 
