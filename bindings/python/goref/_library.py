@@ -5,7 +5,7 @@ import ctypes.util
 import functools
 import os
 from ctypes import POINTER, Structure, c_char_p, c_size_t, c_uint8, c_void_p
-from typing import Any, List
+from typing import Any, Optional
 
 from goref._types import GorefError
 
@@ -38,36 +38,42 @@ _CALLS = {
     "goref_close": [_HANDLE],
 }
 
+# From here, what bindings/build makes, and what stands in the `lib` that this package was installed below.
+_KNOWN = ("../../lib/libgoref.so", "../../../libgoref.so.1")
 
-def _places() -> List[str]:
-    """Where the library is looked for."""
+
+def _place() -> Optional[str]:
+    """Where the library is."""
     named = os.environ.get("GOREF_LIBRARY")
     if named:
-        return [named]
+        return named
     here = os.path.dirname(os.path.abspath(__file__))
-    built = os.path.join(os.path.dirname(os.path.dirname(here)), "lib", "libgoref.so")
-    installed = ctypes.util.find_library("goref")
-    return [place for place in (built, installed) if place and (place == installed or os.path.exists(place))]
+    for known in _KNOWN:
+        place = os.path.normpath(os.path.join(here, known))
+        if os.path.exists(place):
+            return place
+    # To ask the system may run a compiler, so that comes last.
+    return ctypes.util.find_library("goref")
 
 
 @functools.lru_cache(maxsize=None)
 def library() -> Any:
     """The library, loaded once."""
-    places = _places()
-    if not places:
+    place = _place()
+    if place is None:
         raise MissingLibrary(
             "libgoref.so isn't there: make it by bindings/build, or set GOREF_LIBRARY to where it is"
         )
     try:
-        loaded = ctypes.CDLL(places[0])
+        loaded = ctypes.CDLL(place)
         for name, arguments in _CALLS.items():
             function = getattr(loaded, name)
             function.argtypes = arguments
             function.restype = None if name == "goref_close" else c_uint8
     except OSError as why:
-        raise MissingLibrary(f"{places[0]} can't be loaded ({why}): make it anew by bindings/build") from None
+        raise MissingLibrary(f"{place} can't be loaded ({why}): make it anew by bindings/build") from None
     except AttributeError as why:
-        raise MissingLibrary(f"{places[0]} is older than this module ({why}): make it anew by bindings/build") from None
+        raise MissingLibrary(f"{place} is older than this module ({why}): make it anew by bindings/build") from None
     return loaded
 
 

@@ -21,14 +21,14 @@ class Session:
     """A game that is played by lines of GTP, on a board that has `size` lines at first.
 
     It is a context manager, and `close` ends it. Several threads may use one session: each call waits for the one
-    before it. A session takes 72 kB at first; after 250 moves on 19 lines some 160 kB of it are in memory.
+    before it, but for calls that a function for files makes itself: their lines are answered first. A session takes 72 kB at first; after 250 moves on 19 lines some 160 kB of it are in memory.
     """
 
     def __init__(self, size: int = 19) -> None:
         size = lines_of_board(size)
         self._library = library()
         self._handle = Handle()
-        self._lock = threading.Lock()
+        self._lock = threading.RLock()
         self._is_over = False
         if self._library.goref_open(size, ctypes.byref(self._handle)) != 0:
             raise OutOfMemory("out of memory")

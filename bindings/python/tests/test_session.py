@@ -63,6 +63,31 @@ def test_files_are_a_mapping_a_folder_or_a_function(tmp_path):
         assert game.send(b"loadsgf a\n", {"a": b"(;C[" + b"x" * 16_777_216 + b"])"}) == b"? cannot load file\n\n"
 
 
+@pytest.mark.parametrize("call, told", [(lambda game: game.send(b"boardsize 3\n"), b"=\n\n"), (lambda game: game.close(), None)])
+def test_a_function_for_files_may_use_the_session(call, told):
+    game = goref.Session(5)
+    found = []
+
+    def fetch(name):
+        found.append(call(game))
+        return RECORD
+
+    # In a thread of its own, so that a call that waits for ever fails.
+    ends = []
+
+    def ask():
+        try:
+            ends.append(game.send(b"loadsgf a\nfinal_score\n", fetch))
+        except goref.SessionOver as why:
+            ends.append(str(why))
+
+    thread = threading.Thread(target=ask, daemon=True)
+    thread.start()
+    thread.join(10)
+    assert found == [told]
+    assert ends == [b"=\n\n= B+9\n\n" if told else "the session was closed"]
+
+
 def test_no_line_follows_quit_where_files_are_given():
     with goref.Session() as game:
         assert game.send(b"loadsgf a\nquit\nname\n", {"a": RECORD}) == b"=\n\n=\n\n"

@@ -1,0 +1,30 @@
+"""`python3 -m goref` is the command goref-tools."""
+
+import os
+import sys
+
+
+def run() -> int:
+    """Runs the command, and gives the status."""
+    try:
+        from goref._tools.main import main
+
+        return main()
+    except KeyboardInterrupt:
+        # One that came before the command could answer it.
+        return 130
+
+
+def end() -> None:
+    """Runs the command, and ends this process at once: what a pool of processes would wait for may never come."""
+    status = run()
+    for stream in (sys.stdout, sys.stderr):
+        try:
+            stream.flush()
+        except (OSError, ValueError, AttributeError):
+            pass
+    os._exit(status)
+
+
+if __name__ == "__main__":
+    end()

@@ -1,0 +1,152 @@
+"""Files and folders that are named on the command line, and files that take another's place."""
+
+import os
+import stat
+import sys
+from contextlib import contextmanager
+from typing import IO, Iterator, List, Optional, Union
+
+from goref._tools.faults import Fault, fault_of, shown
+
+MOST = 268_435_456
+"""How many bytes of a file are read at most; goref itself reads records of 16,777,216."""
+
+
+def records_in(path: str) -> Iterator[Union[str, Fault]]:
+    """The files that a path names: itself, or each `*.sgf` of a folder and of the folders in it, in a fixed order.
+
+    What can't be looked into comes as its fault in the place where it stands. Folders behind links are left out.
+    """
+    if path == "-" or not os.path.isdir(path):
+        yield path
+        return
+    found = False
+    for one in _walk(path):
+        found = True
+        yield one
+    if not found:
+        yield Fault(f"{shown(path)}: no file in it is named *.sgf")
+
+
+def _walk(top: str) -> Iterator[Union[str, Fault]]:
+    """The records below a folder. It keeps what it has to look into, so that no depth is too great."""
+    left: List[Union[str, "os.DirEntry[str]"]] = [top]
+    while left:
+        entry = left.pop()
+        if isinstance(entry, str) or entry.is_dir(follow_symlinks=False):
+            try:
+                left += _inside(os.fspath(entry))
+            except OSError as why:
+                yield fault_of(os.fspath(entry), why)
+        elif entry.name.lower().endswith(".sgf"):
+            yield from _record(entry.path)
+
+
+def _inside(folder: str) -> "List[os.DirEntry[str]]":
+    """What a folder has, the last first."""
+    with os.scandir(folder) as entries:
+        return sorted(entries, key=lambda entry: os.fsencode(entry.name), reverse=True)
+
+
+def _record(path: str) -> Iterator[Union[str, Fault]]:
+    """A file that a folder has, if it is one: to open a pipe might wait for ever. A link may lead to a folder."""
+    try:
+        mode = os.stat(path).st_mode
+    except OSError as why:
+        yield fault_of(path, why)
+        return
+    if stat.S_ISREG(mode):
+        yield path
+    elif not stat.S_ISDIR(mode):
+        yield Fault(f"{shown(path)}: no regular file")
+
+
+def contents(path: str) -> bytes:
+    """All bytes of a file, and those of the standard input for `-`. Raises a Fault that names the file."""
+    try:
+        if path == "-":
+            if sys.stdin is None:
+                raise Fault("standard input: it is closed")
+            data = _read(sys.stdin.buffer)
+        else:
+            with open(path, "rb", buffering=0) as file:
+                data = _read(file)
+    except OSError as why:
+        raise fault_of(path, why) from None
+    except MemoryError:
+        raise Fault(f"{shown(path)}: out of memory") from None
+    if len(data) > MOST:
+        raise Fault(f"{shown(path)}: longer than {MOST:,} bytes")
+    return data
+
+
+def _read(file: IO[bytes]) -> bytes:
+    """What a file, a pipe or a device has, and no more than is wanted."""
+    blocks = []
+    left = MOST + 1
+    status = os.fstat(file.fileno())
+    is_whole = stat.S_ISREG(status.st_mode)
+    # One read for most files, which comes back short at their end.
+    size = status.st_size + 1 if is_whole else 1 << 20
+    while left:
+        block = file.read(min(left, size))
+        blocks.append(block or b"")
+        left -= len(blocks[-1])
+        if not block or (is_whole and len(block) < size):
+            break
+    return b"".join(blocks)
+
+
+@contextmanager
+def replacing(path: str) -> Iterator[IO[bytes]]:
+    """A new file beside one, which takes its place when all was written and is on the disk.
+
+    At any moment the path names the old file or the new one, whole. The mode stays; a link stays a link, and the file
+    that it leads to is replaced. Raises a Fault that names the file.
+    """
+    target = os.path.realpath(path)
+    folder = os.path.dirname(target)
+    if os.path.exists(target) and not os.path.isfile(target):
+        raise Fault(f"{shown(path)}: no regular file")
+    made: Optional[str] = os.path.join(folder, f".goref-{os.urandom(8).hex()}.new")
+    try:
+        number = os.open(str(made), os.O_WRONLY | os.O_CREAT | os.O_EXCL | os.O_CLOEXEC, 0o666)
+        with os.fdopen(number, "wb") as file:
+            _keep(number, target)
+            yield file
+            file.flush()
+            os.fsync(number)
+        os.replace(str(made), target)
+        made = None
+        _sync(folder)
+    except OSError as why:
+        raise fault_of(path, why) from None
+    finally:
+        if made is not None:
+            try:
+                os.unlink(made)
+            except OSError:
+                pass
+
+
+def _keep(number: int, target: str) -> None:
+    """Gives a new file the mode of the one that it replaces, and its owner where that may be."""
+    try:
+        old = os.stat(target)
+    except FileNotFoundError:
+        return
+    if (old.st_uid, old.st_gid) != (os.geteuid(), os.getegid()):
+        try:
+            os.fchown(number, old.st_uid, old.st_gid)
+        except PermissionError:
+            pass
+    os.fchmod(number, stat.S_IMODE(old.st_mode))
+
+
+def _sync(folder: str) -> None:
+    """Has the disk keep the names of a folder."""
+    number = os.open(folder, os.O_RDONLY)
+    try:
+        os.fsync(number)
+    finally:
+        os.close(number)
