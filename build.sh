@@ -1,6 +1,7 @@
 #!/bin/sh
 # Proves and builds the program, its crates side by side as far as processors and memory reach, and
-# says on the standard error how far it is. Called as build.sh LOGS: each crate has a log there.
+# says on the standard error how far it is. Called as build.sh LOGS: each crate has a log there. Called as build.sh --sum
+# it builds nothing, and tells the sum of all that goes into the program.
 #
 # rt lets nobody else into a crate that it works in or stands on. So each crate is built in a tree of
 # its own, in which those below it are links to what is built here, and then put here, where rt finds
@@ -28,6 +29,19 @@ crates() {
             for (place = 1; place <= count; place++)
                 if (index(below["goref_program"] " ", " " order[place] " ")) print order[place] below[order[place]]
         }' "$here/crates.txt"
+}
+
+# The sum of the sources of the program's crates and of their lines in crates.txt, wherever these stand.
+sum() {
+    names="$(crates | cut -d ' ' -f 1) goref_program"
+    cd "$here" && {
+        for crate in $names; do
+            grep -E "^$crate( [a-z]+)?:" crates.txt
+        done
+        for crate in $names; do
+            find "crates/$crate/src" "crates/$crate/specs" -type f -print0
+        done | LC_ALL=C sort -z | xargs -0 sha256sum
+    } | sha256sum | cut -d ' ' -f 1
 }
 
 # How many crates are built at once: one for each processor and 4 GB of memory, and one at least.
@@ -152,6 +166,10 @@ follow() {
     done
 }
 
+if [ "$1" = --sum ]; then
+    sum
+    exit
+fi
 rm -rf "$room" "$logs"
 mkdir -p "$room" "$logs" || exit
 all=$(($(crates | wc -l) + 1))
