@@ -1,3 +1,5 @@
+//! Stones and board sizes drawn at random, about as games of people have them. No stone is ever taken off
+//! here, so a point is drawn only once in a game.
 ghost use Rattle.std.specs.Prelude.{◌<◌};
 
 use crate::random::Random;

@@ -1,3 +1,4 @@
+//! The two colours, and the letters, words and numbers that name them.
 ghost use Rattle.std.specs.Prelude.{◌≡◌, ◌<◌, ◌↔◌, IsTrue, Some};
 ghost use Rattle.go_board.specs.Colours.{is_same_word};
 

@@ -1,3 +1,5 @@
+//! Traits for devices that bytes are read from and for devices that bytes are written to. Their contracts say
+//! which bytes a call moves, and count the calls that fail.
 ghost use Rattle.std.specs.Prelude.{◌≡◌, ◌≤◌, ◌<◌, ◌+◌, ℕ, List, [], Option, IfOk, IfSome, OnErr, OnOk, length, take};
 ghost use Rattle.go_board.specs.Device.{then_bytes, after_bytes, ends_after, failures_after, put_failures_after};
 

@@ -1,3 +1,5 @@
+//! The colour of each point of a board, in one array that has room for the largest board. A grid keeps no
+//! chains and no liberties.
 ghost use Rattle.std.specs.Prelude.{◌≡◌, ◌<◌, ◌≤◌, ◌*◌, ◌↔◌, None, IsTrue, is_some, length, not, replicate, slice_set, take};
 ghost use Rattle.std.specs.List.{list_any};
 

@@ -1,3 +1,5 @@
+//! Grids in two bits a point, which are compared and hashed as bytes. A pack that ends in zeros can be kept
+//! as its first bytes.
 ghost use Rattle.std.specs.Prelude.{◌≡◌, ◌<◌, ◌≤◌, ◌+◌, ◌*◌, IfNone, IfSome, drop, false, length, replicate, slice_index, slice_set};
 ghost use Rattle.go_board.specs.declared.pack.TheConstants.{PACK_BYTES};
 ghost use Rattle.go_board.specs.PackBytes.{are_zero, bytes_of, pack_of_front};

@@ -1,3 +1,4 @@
+//! Texts written whole to a device, although one call may take only a part of the bytes.
 ghost use Rattle.std.specs.Prelude.{◌≡◌, if◌then◌else◌, false, Ok, Err};
 ghost use Rattle.go_board.specs.Device.{Sent, failures_after};
 

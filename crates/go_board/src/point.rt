@@ -1,3 +1,4 @@
+//! Points by column and row, their numbers on a board of a given size, and the points beside them.
 ghost use Rattle.std.specs.Prelude.{◌≡◌, ◌<◌, ◌≤◌, ◌*◌, ◌/◌, ◌↔◌, [], IsTrue, IsSome, IfSome, All, Contains, map};
 ghost use Rattle.std.specs.List.Sorted.{IsStrictlyIncreasing};
 ghost use Rattle.go_board.specs.Points.{IsOn, are_beside, number_of, point_at};

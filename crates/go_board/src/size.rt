@@ -1,3 +1,4 @@
+//! The limits of a board, and a number of lines that is known to be within them.
 ghost use Rattle.std.specs.Prelude.{◌≡◌, ◌≤◌, ◌<◌, ◌↔◌, ◌*◌, IsSome, IfSome};
 ghost use Rattle.go_board.specs.declared.size.TheConstants.{MAX_LINES};
 

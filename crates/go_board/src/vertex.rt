@@ -1,3 +1,4 @@
+//! Moves and vertices. A vertex is read from a word of the Go Text Protocol, and written as one.
 ghost use Rattle.std.specs.Prelude.{◌≡◌, ◌<◌, ◌↔◌, ◌∷◌, ◌+◌, ◌==◌, [], Some, None, Err, IfOk, IfSome, decimal, option_map, position};
 ghost use Rattle.go_board.specs.Vertices.{IsOnBoard, SpellsOffBoard, column_letters, column_of, letter_of_column, point_of, row_numbered, row_of, vertex_of, vertex_on, vertex_word};
 

@@ -1,3 +1,5 @@
+//! All tables of a board in one array of numbers, and where each table begins. A meter counts each read and
+//! each write. Each write is traced, and a write of a colour also changes the pack.
 ghost use Rattle.std.specs.Prelude.{◌≡◌, ◌≢◌, ◌<◌, ◌≤◌, ◌+◌, ◌*◌, ◌++◌, ◌∷◌, [], ℕ, slice_index, slice_set};
 ghost use Rattle.go_board.specs.PackBytes.{bytes_of};
 ghost use Rattle.go_board.specs.Packs.{code_of, colour_coded, packed_of};

@@ -1,3 +1,5 @@
+//! An iterator over the stones of a chain or its liberties. It fills its set of points late, so a caller who
+//! wants only the first stone doesn't pay for the others.
 ghost use Rattle.std.specs.Prelude.{◌≡◌};
 ghost use Rattle.std.specs.Iterator.{YieldsFirst, item_count};
 ghost use Rattle.go_board.specs.Points.{IsOn};

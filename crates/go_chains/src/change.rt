@@ -1,3 +1,4 @@
+//! A write to a cell as it can be undone, and the ten bytes in which a log keeps it.
 ghost use Rattle.std.specs.Prelude.{◌≡◌, ◌<◌};
 ghost use Rattle.go_chains.specs.declared.cells.TheConstants.{COUNT};
 

@@ -1,3 +1,5 @@
+//! The writes of each play, from which the last play is taken back. Room for all writes of a play is reserved
+//! before the first, so no write of a play can fail for want of memory.
 ghost use Rattle.std.specs.Prelude.{◌≡◌, ◌<◌, ◌≤◌, ◌+◌, ◌++◌, ◌∷◌, ◌⊎◌, [], List, OnErr, OnOk, length, vec_capacity, vec_len};
 ghost use Rattle.go_chains.specs.declared.cells.TheConstants.{COUNT};
 ghost use Rattle.go_chains.specs.Rewound.{ForLast, NamesCells, rewound, undone};

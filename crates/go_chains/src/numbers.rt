@@ -1,3 +1,4 @@
+//! The numbers in all cells. They have a file of their own, so that other code can't reach one uncounted.
 ghost use Rattle.std.specs.Prelude.{◌≡◌, ◌<◌, ◌+◌, replicate, slice_index, slice_set};
 ghost use Rattle.go_chains.specs.declared.cells.TheConstants.{COUNT};
 

@@ -1,3 +1,4 @@
+//! The list of all writes to the cells, for contracts alone: the program keeps nothing of it.
 ghost use Rattle.std.specs.Prelude.{◌≡◌, ◌++◌, ◌∷◌, [], slice_index};
 
 use crate::numbers::Numbers;

@@ -1,3 +1,5 @@
+//! A game with its komi and its superko rule, and what it tells of its moves and its board. Starts from a
+//! grid, plays with their undo, and the choice of a play are in files of their own.
 ghost use Rattle.std.specs.Prelude.{◌≡◌, ◌<◌, ◌+◌, ◌*◌, [], pos, false, IsSome, length, map, slice_get};
 
 use crate::Superko;

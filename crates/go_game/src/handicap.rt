@@ -1,3 +1,4 @@
+//! How many handicap stones a board of each size can have, where they go, and grids with black stones.
 ghost use Rattle.std.specs.Prelude.{◌≡◌, ◌≤◌, ◌<◌, ◌+◌, ◌*◌, ◌++◌, ◌%◌, ◌==◌, ◌&&◌, ℕ, All, IfSome, false, length, min, nat_lt, option_map};
 ghost use Rattle.go_board.specs.declared.size.TheConstants.{MAX_LINES};
 ghost use Rattle.go_board.specs.Points.{IsOn};

@@ -1,3 +1,4 @@
+//! Counts of the stones that were taken. A move adds to them, and its undo subtracts the same numbers.
 ghost use Rattle.std.specs.Prelude.{◌≡◌, ◌<◌, ◌≤◌, ◌+◌, ◌^◌};
 
 use go_board::{Colour, Taken};

@@ -1,3 +1,5 @@
+//! The entries of a tree of keys, in lists. To save memory, an entry keeps only the first bytes of its pack,
+//! and no hash.
 ghost use Rattle.std.specs.Prelude.{◌≡◌, ◌<◌, ◌≤◌, ◌-◌, ◌++◌, ◌∷◌, [], OnErr, OnOk, Some, length, slice_index_or, slice_set, take};
 ghost use Rattle.go_board.specs.PackBytes.{pack_of_front};
 ghost use Rattle.go_board.specs.declared.pack.TheConstants.{PACK_BYTES};

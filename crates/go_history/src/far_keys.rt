@@ -1,3 +1,5 @@
+//! The keys that a history's hash table has no place for, in two trees. One has the packs that fit a board of
+//! 19 lines, the other has the rest.
 ghost use Rattle.std.specs.Prelude.{◌≡◌, ℕ, cond, IfOk, None, Ok, OnErr, Some, []};
 ghost use Rattle.std.specs.Map.{lookup};
 ghost use Rattle.go_history.specs.Keys.{key_eq};

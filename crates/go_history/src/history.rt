@@ -1,3 +1,5 @@
+//! The positions of a game, each with the number of moves after which it first came. A hash table has the
+//! first 4,096 keys. Trees have the rest, so that no choice of moves makes a look-up long.
 ghost use Rattle.std.specs.Prelude.{◌≡◌, ℕ, cond, IfOk, None, Ok, OnErr, Some};
 ghost use Rattle.std.specs.Map.{lookup};
 ghost use Rattle.go_history.specs.Keys.{key_eq};

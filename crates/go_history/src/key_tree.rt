@@ -1,3 +1,5 @@
+//! A tree of keys, in which the digits of a key's hash lead to its entry. Its nodes lie in lists, so all
+//! their memory is given back at once.
 ghost use Rattle.std.specs.Prelude.{◌≡◌, ◌≢◌, ◌<◌, ◌≤◌, ◌-◌, ◌++◌, ◌∷◌, ◌⊎◌, [], ℕ, List, cond, IfNone, IfOk, IfSome, None, Ok, OnErr, OnOk, Some, length, slice_index, slice_index_or, take, false, true};
 ghost use Rattle.std.specs.Map.{lookup};
 ghost use Rattle.go_board.specs.PackBytes.{pack_of_front};

@@ -1,3 +1,5 @@
+//! Why a record has no game, as an error and as a text. The text for an illegal move adds the reason that the
+//! game gave.
 ghost use Rattle.std.specs.Prelude.{◌≡◌};
 ghost use Rattle.go_record.specs.declared.error.RecordError.TheVariants.{Memory};
 

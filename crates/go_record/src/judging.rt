@@ -1,3 +1,5 @@
+//! The verdict on a record: its game is replayed, and its margin is compared with the one that RE states. The
+//! functions that read an RE value are here too: nothing else calls them.
 ghost use Rattle.std.specs.Prelude.{◌≡◌, ◌≢◌, ◌-ℤ◌, Err, IfErr, IfOk, IfSome, bytes_eq, option_map, pos};
 ghost use Rattle.go_board.specs.Komi.{IsKomi};
 ghost use Rattle.go_record.specs.declared.error.RecordError.TheVariants.{Memory};

@@ -1,3 +1,5 @@
+//! A record's main line replayed, into a new game or into one that exists. This file has the order of the
+//! steps: first the root's values, then node after node, then the end. `walk.rt` has what one node does.
 ghost use Rattle.std.specs.Prelude.{◌≡◌, ◌≢◌, Err, IfErr, IfOk, Ok, OnErr, OnOk, true};
 ghost use Rattle.go_record.specs.declared.error.RecordError.TheVariants.{Memory};
 ghost use Rattle.go_game.specs.Standings.{is_vacant_standing};

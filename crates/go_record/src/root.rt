@@ -1,3 +1,5 @@
+//! What the first node of a record says of the whole game: GM, SZ, KM and RE. One pass over the node finds
+//! the four values. Then the game, the size and the komi are checked, in this order.
 ghost use Rattle.std.specs.Prelude.{◌≡◌, ◌==◌, ◌<◌, Err, IfErr, IfOk, IfSome, IsTrue, ℕ, List, [], ◌∷◌, Option, length, position};
 ghost use Rattle.go_board.specs.Komi.{IsKomi};
 ghost use Rattle.go_record.specs.inner.Progress.{AreFoundOf, IsRootOf, Says, value_from};

@@ -1,3 +1,5 @@
+//! What one node does to a walk: its set-up comes first, then its moves. A node with at most one move is read
+//! once. A node with more is read again, for its moves.
 ghost use Rattle.std.specs.Prelude.{◌≡◌, ◌≢◌, ◌≤◌, ◌+◌, ◌++◌, ℕ, [], ◌∷◌, Err, IfErr, IfOk, List, Ok, OnOk, Some, false, length, true};
 ghost use Rattle.go_record.specs.declared.error.RecordError.{RecordError};
 ghost use Rattle.go_record.specs.declared.error.RecordError.TheVariants.{Memory};

@@ -1,3 +1,5 @@
+//! The record of a game, written: the size, the komi, the colour that moves first, the stones of the start
+//! and the moves. Each part goes to the pen at once, so no memory is taken.
 ghost use Rattle.std.specs.Prelude.{◌≡◌, ◌++◌, ◌∷◌, [], Some, if◌then◌else◌};
 ghost use Rattle.std.specs.List.{flat_map};
 ghost use Rattle.go_board.specs.Device.{Sent, failures_after};

@@ -1,3 +1,5 @@
+//! Values read as Text and as SimpleText, and a text written as a value. A value is read byte by byte: `Mode`
+//! keeps what the bytes before left open.
 ghost use Rattle.std.specs.Prelude.{◌≡◌, ◌++◌, IfOk, OnOk, option_to_list};
 ghost use Rattle.go_sgf.specs.Cooked.{cooked, cooked_simple, cooked_text, escaped, escaped_byte, is_line_break, cooked_alone, cooked_next, unblanked};
 ghost use Rattle.go_sgf.specs.declared.cooking.Mode.TheVariants.{Text};

@@ -1,3 +1,5 @@
+//! A list that holds one element in place and takes memory only from the second on, since most lists of a
+//! record have one element.
 ghost use Rattle.std.specs.Prelude.{◌≡◌, ◌∷◌, ◌++◌, [], IfOk, IfSome, OnOk};
 ghost use Rattle.go_sgf.specs.inner.Few.{items_in};
 

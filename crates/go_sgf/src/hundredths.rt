@@ -1,3 +1,5 @@
+//! Komi values, read as hundredths of a point. Unlike the numbers of `numbers.rt` they may have a minus sign
+//! and decimals.
 ghost use Rattle.std.specs.Prelude.{◌≡◌, ◌+◌, ◌-◌, ◌*◌, ◌<◌, ◌≤◌, ◌==◌, drop, length, min, option_map, position, IfSome, slice_index_or, true};
 ghost use Rattle.std.specs.Char.{is_ascii_digit};
 ghost use Rattle.std.specs.List.{list_all};

@@ -1,3 +1,5 @@
+//! A cursor along a record's main line, which takes the first child at each branch. It reads names and values
+//! from the source itself, so it builds no lists.
 ghost use Rattle.std.specs.Prelude.{◌≡◌, ◌<◌, ◌≤◌, ℕ, List, [], IfNone, IfSome, IsFalse, IsTrue, length, true};
 ghost use Rattle.go_sgf.specs.MainLine.{IsLeft, NextName, NextNode, NextValue, main_line};
 ghost use Rattle.go_sgf.specs.Record.{Property, Trees};

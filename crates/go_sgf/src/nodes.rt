@@ -1,3 +1,5 @@
+//! Properties, nodes, and the list of a tree's nodes. A property whose name has one or two letters, with one
+//! value, is held in place; any other is in a box.
 ghost use Rattle.std.specs.Prelude.{◌≡◌, ◌≢◌, [], IfOk, bytes_eq, filter};
 ghost use Rattle.go_sgf.specs.Record.{is_upper_byte, plain_property, values_of};
 ghost use Rattle.go_sgf.specs.inner.Held.{property_of};

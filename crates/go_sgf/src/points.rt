@@ -1,3 +1,4 @@
+//! Values read as points: the vertex of a move, and lists of points, in which a value may be a rectangle.
 ghost use Rattle.std.specs.Prelude.{◌≡◌, ◌<◌, ◌==◌, ◌++◌, All, IfOk, IfSome, OnOk, length, option_map, position};
 ghost use Rattle.go_board.specs.Points.{IsOn};
 ghost use Rattle.go_board.specs.Vertices.{IsOnBoard};

@@ -1,3 +1,6 @@
+//! The parser of records: one function for each part of the grammar, from the values of a property up to the
+//! trees. The same code serves `read`, which keeps what it reads, and `check`, which doesn't: a `Keep` makes
+//! the difference.
 ghost use Rattle.std.specs.Prelude.{◌≡◌, ◌≢◌, ◌≤◌, ◌<◌, ◌↔◌, ◌∷◌, ◌++◌, ℕ, List, [], Err, IfErr, IfOk, IfSome, IsErrOf, OnErr, OnOk, Some, false, is_some, length, option_map, true};
 ghost use Rattle.go_sgf.specs.inner.Held.{property_of, trees_in};
 ghost use Rattle.go_sgf.specs.inner.Outcome.{IsWithin, Meets, here, left_of, outcome, outcome_after, error_at};

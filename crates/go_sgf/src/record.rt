@@ -1,3 +1,5 @@
+//! The types of a whole record and of its trees. A record also keeps its source: an invariant says that the
+//! source spells the trees.
 ghost use Rattle.std.specs.Prelude.{◌≡◌, ◌≢◌, []};
 ghost use Rattle.go_sgf.specs.Spelling.{Spells};
 ghost use Rattle.go_sgf.specs.View.{tree_of, trees_of};

@@ -1,3 +1,5 @@
+//! The points that one value names, as a rectangle and its rows. No list of the points is made: a row is an
+//! iterator.
 ghost use Rattle.std.specs.Prelude.{◌≡◌, ◌<◌, ◌∷◌, ℕ, []};
 ghost use Rattle.std.specs.Iterator.{YieldsFirst, item_count};
 ghost use Rattle.go_board.specs.Points.{IsOn};

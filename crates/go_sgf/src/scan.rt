@@ -1,3 +1,5 @@
+//! What a text begins with: white space, letters, a name, a tree. The searches for `]` and `\` are here too.
+//! They test 16 bytes at once, and `memchr2` goes on where the text is longer.
 ghost use Rattle.std.specs.Prelude.{◌≡◌, ◌≢◌, ◌≤◌, ◌*◌, ◌∷◌, ◌++◌, ◌||◌, ◌==◌, ℕ, IfNone, IfSome, Some, false, length, map, min, take, true};
 ghost use Rattle.std.specs.List.{list_all, list_any};
 ghost use Rattle.std.specs.Simd.Lanes.{mask_l};

@@ -1,3 +1,5 @@
+//! One element that can be lent as a slice of one. Proofs must know that such a slice takes less than half of
+//! all memory. A generic type doesn't tell them, so the size is checked when the element is kept.
 ghost use Rattle.std.specs.Prelude.{◌≡◌, ◌<◌, ◌^◌, ◌∷◌, ℕ, [], IfOk};
 
 use std::alloc::AllocError;

@@ -1,3 +1,5 @@
+//! Where a value ends. A short search finds a `]` that is near. Where it finds none, a second function, which
+//! isn't inlined, reads a value of any length and with any escapes.
 ghost use Rattle.std.specs.Prelude.{◌≡◌, ◌∷◌, ◌++◌, ℕ, Err, IfNone, IfSome, take};
 ghost use Rattle.go_sgf.specs.inner.Reads.{HasNoEnd, IsBracketAt};
 ghost use Rattle.go_sgf.specs.declared.error.Fault.TheVariants.{End};

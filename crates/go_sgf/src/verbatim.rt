@@ -1,3 +1,4 @@
+//! A prefix of a tree's text that the canonical spelling has unchanged. `writer.rt` writes it in one piece.
 ghost use Rattle.std.specs.Prelude.{◌≡◌, ◌≢◌, ◌≤◌, ◌<◌, ◌+◌, ◌^◌, ◌++◌, ℕ, [], IfNone, IfSome, false, length};
 ghost use Rattle.go_sgf.specs.inner.Tidied.{Inside, Outside, StaysTo, behind_from, is_left_out_first, tidied_from};
 

@@ -1,3 +1,5 @@
+//! The canonical spelling of a record. It is written from the source, also where the record was read, so one
+//! function serves both and takes no memory.
 ghost use Rattle.std.specs.Prelude.{◌≡◌, ◌≤◌, ℕ, List, length};
 ghost use Rattle.go_board.specs.Device.{Sent, failures_after};
 ghost use Rattle.go_board.specs.Pens.{Writes};

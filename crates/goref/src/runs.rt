@@ -1,3 +1,5 @@
+//! Runs over the lines of a device or of a text. For each line, a run fetches the file that the line wants,
+//! writes the answer and flushes it.
 ghost use Rattle.std.specs.Prelude.{◌≡◌, ◌+◌, ◌⊎◌, ℕ, List, [], ◌∷◌, ◌++◌, Ok, Option, IfOk, IfSome, OnOk, IsErrOf, false, true};
 ghost use Rattle.go_board.specs.Device.{failures_after};
 ghost use Rattle.go_game.specs.Standings.{Standing};

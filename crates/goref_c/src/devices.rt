@@ -1,3 +1,4 @@
+//! Devices in memory: one reads from a caller's text, the other collects what is written in a list.
 ghost use Rattle.std.specs.Prelude.{◌≡◌, Some, []};
 
 use go_board::{Failed, Meter, Sink, Source};

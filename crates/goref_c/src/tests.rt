@@ -1,3 +1,5 @@
+//! Tests of the functions for C on records, on lines and on sessions: the status, the length and the text
+//! that each call gives.
 use crate::handle::Handle;
 use crate::{
     goref_answers, goref_close, goref_give, goref_judge, goref_open, goref_send, goref_take,

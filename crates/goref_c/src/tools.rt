@@ -1,3 +1,5 @@
+//! The tools for records, from a caller's bytes to a caller's room. The text of a fault goes into the same
+//! room.
 ghost use Rattle.std.specs.Prelude.{◌≡◌, ◌≢◌, ◌⊎◌};
 ghost use Rattle.goref_c.specs.Ends.{IsText, ShowsGameRefusal, ShowsNoMemory, ShowsRefusal, ShowsTidied, ShowsVerdict};
 ghost use Rattle.goref_tools.specs.Tools.{status_of, tool_error_text};

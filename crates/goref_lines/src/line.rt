@@ -1,3 +1,5 @@
+//! A line as its bytes come in: its words are kept, joined by single spaces. It drops comments, controls and
+//! what is past the limit, and notes that there was more.
 ghost use Rattle.std.specs.Prelude.{◌≡◌, ◌+◌, ◌<◌, ◌≤◌, ℕ, List, [], ◌∷◌, ◌++◌, length, take, false, true};
 ghost use Rattle.std.specs.List.{list_any, prefix_len};
 ghost use Rattle.goref_lines.specs.Kept.{Kept, kept, is_hash, printable};

@@ -1,3 +1,4 @@
+//! The words of a line as an id, a command's name and its arguments. A line that was cut still gives its id.
 ghost use Rattle.std.specs.Prelude.{◌≡◌, ◌<◌, IfSome, length, option_copied, position, slice_get};
 ghost use Rattle.goref_lines.specs.Words.{is_plain_space, words};
 ghost use Rattle.goref_lines.specs.Requests.{Asked, asked_by, id_before_space};

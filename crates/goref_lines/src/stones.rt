@@ -1,3 +1,5 @@
+//! The points that a list for a free handicap names, checked one word after another. A word that is no vertex
+//! is told before any other fault of the list.
 ghost use Rattle.std.specs.Prelude.{◌≡◌, ◌<◌, ◌*◌, ◌∷◌, ◌==◌, ℕ, [], List, Option, All, IfErr, IfOk, OnOk, length};
 ghost use Rattle.std.specs.List.{list_any};
 ghost use Rattle.go_board.specs.declared.vertex.Vertex.{Vertex};

@@ -1,3 +1,4 @@
+//! The words of a text, given one after another, each as a slice of that text.
 ghost use Rattle.std.specs.Prelude.{◌≡◌, ◌≤◌, ◌∷◌, [], IfNone, IfSome, length, not, option_copied, slice_get};
 ghost use Rattle.std.specs.List.{prefix_len};
 ghost use Rattle.goref_lines.specs.Words.{is_plain_space, words};

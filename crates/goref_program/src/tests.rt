@@ -1,3 +1,5 @@
+//! Tests of the whole program over streams in memory: its output, its errors and its exit status. Then tests
+//! of the files that it reads by their names.
 mod streams;
 mod words;
 

@@ -1,3 +1,5 @@
+//! The chains of a game, each with its stones and its liberties. A set of the stones already written tells
+//! which stone is the first of its chain.
 ghost use Rattle.std.specs.Prelude.{◌≡◌, ◌+◌, ◌∷◌, [], All, IsSome, if◌then◌else◌};
 ghost use Rattle.std.specs.List.{flat_map};
 ghost use Rattle.go_board.specs.Grids.{is_first_stone, stone_at};

@@ -1,3 +1,5 @@
+//! The diagram of a game. Its heading has the size, the komi, the prisoners, the number of moves and the
+//! colour to move.
 ghost use Rattle.std.specs.Prelude.{◌≡◌, ◌<◌, decimal};
 ghost use Rattle.std.specs.List.{flat_map};
 ghost use Rattle.go_board.specs.Pens.{Writes};

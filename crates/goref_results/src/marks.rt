@@ -1,3 +1,5 @@
+//! The set of points on which a play is legal. `plays.rt` fills it. It is a type of its own, and small,
+//! because a decision carries it.
 ghost use Rattle.std.specs.Prelude.{◌≡◌, ◌<◌, false, filter, map, replicate, slice_index_or, slice_set};
 ghost use Rattle.go_board.specs.Points.{point_at};
 ghost use Rattle.go_board.specs.Reaching.{points};

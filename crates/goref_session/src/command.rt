@@ -1,3 +1,4 @@
+//! The commands and the topics that a line can ask for, the list of their names, and the look-up by name.
 ghost use Rattle.std.specs.Prelude.{◌≡◌};
 ghost use Rattle.std.specs.Option.{option_and_then};
 ghost use Rattle.goref_session.specs.Commands.{command_of};

@@ -1,3 +1,4 @@
+//! The faults of the tools, with the text and the exit status of each.
 ghost use Rattle.std.specs.Prelude.{◌≡◌};
 ghost use Rattle.goref_tools.specs.Tools.{of_game, tool_error_of, status_of};
 ghost use Rattle.goref_tools.specs.declared.error.ToolError.TheVariants.{Memory};

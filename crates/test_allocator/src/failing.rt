@@ -1,3 +1,4 @@
+//! An allocator that refuses a single request, for tests of what one failed request leads to.
 use std::alloc::{AllocError, Allocator};
 use std::cell::Cell;
 

@@ -1,3 +1,4 @@
+//! An allocator with a budget of bytes, for tests of code that asks for too much in all.
 use std::alloc::{AllocError, Allocator};
 use std::cell::Cell;
 

@@ -1,3 +1,5 @@
+//! A writer that passes nothing on before a flush. It keeps the count of bytes passed on after each flush,
+//! and shares that count with a reader through a cell.
 ghost use Rattle.std.specs.Prelude.{◌≡◌, Some, []};
 
 use go_board::{Failed, Meter, Sink};

@@ -1,3 +1,5 @@
+//! A reader of a text in memory. A test chooses how much each pull gives and which pull fails. The reader
+//! counts its pulls, and how often it told its end.
 ghost use Rattle.std.specs.Prelude.{◌≡◌, ◌≤◌, ◌+◌, Some};
 
 use crate::calls::Calls;

@@ -1,3 +1,4 @@
+//! Tests of the devices themselves: pieces, chosen failures, counts, and bytes that are held back.
 use crate::{HoldingWriter, NotingReader, Reader, Writer};
 use go_board::{Failed, Sink, Source, send};
 use std::cell::Cell;

@@ -1,3 +1,5 @@
+//! A writer that keeps its bytes in memory. A test chooses how much each put takes, which put fails or takes
+//! nothing, and which flush fails. The writer counts its puts and flushes.
 ghost use Rattle.std.specs.Prelude.{◌≡◌, Some, []};
 
 use crate::calls::Calls;

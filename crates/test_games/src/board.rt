@@ -1,3 +1,5 @@
+//! Worked examples of sizes, vertices, neighbours, captures and areas. They use a grid and the plain
+//! functions on it, not the boards of `go_chains`.
 ghost use Rattle.go_board.specs.Points.{IsOn};
 
 use crate::games::size_of;

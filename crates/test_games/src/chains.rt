@@ -1,3 +1,5 @@
+//! Boards of `go_chains` compared with grids, after each drawn play and after each play that is taken back.
+//! In other runs each request for memory of a play is refused in turn.
 ghost use Rattle.std.specs.Prelude.{◌≡◌};
 ghost use Rattle.go_board.specs.Points.{IsOn};
 

@@ -1,3 +1,5 @@
+//! Which move a game chooses, and which moves it says are legal: worked examples, and runs in which each
+//! request for memory is refused in turn.
 use crate::games::{CAPTURE, Step, example, follow, grid_of, size_of};
 use crate::twins::{assert_same, assert_whole, plays};
 use go_board::{Colour, Move, Point, Taken, Vertex};

@@ -1,3 +1,5 @@
+//! Starts and moves that are drawn at random, and counts of what the moves came to. The counts tell whether
+//! the rare cases came up.
 use crate::plain_game::PlainGame;
 use go_board::{Colour, Grid, Move, Point, Size, Taken, Vertex, plain};
 use go_game::PlayError;

@@ -1,3 +1,5 @@
+//! Worked examples of games, of starts and of score texts. The steps in which they are written serve other
+//! files of the crate too.
 ghost use Rattle.std.specs.Prelude.{◌≡◌};
 
 use crate::turns::same_colours;

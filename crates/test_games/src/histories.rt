@@ -1,3 +1,5 @@
+//! What a history finds: what was noted, and not what was taken back. Some tests note more keys than are kept
+//! by their hashes, and some measure the memory that keys take.
 use go_board::{Colour, Grid, PACK_BYTES, Packed, Point, Size};
 use go_history::{History, Key};
 use std::alloc::{AllocError, Allocator, Global};

@@ -1,3 +1,5 @@
+//! Packs on boards of all sizes: equal grids have equal packs and hashes, and one changed point changes the
+//! pack.
 use go_board::{Colour, Grid, Packed, Point, Size};
 use std::hash::{BuildHasher, BuildHasherDefault, FoldHasher};
 

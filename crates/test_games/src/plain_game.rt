@@ -1,3 +1,5 @@
+//! The plain body of a game. It keeps the grid after each move, and finds a repetition by comparing the new
+//! grid with all of them.
 use go_board::{Colour, Grid, Move, Taken, Vertex, plain};
 use go_game::{PlayError, Superko};
 use std::alloc::{AllocError, Global};

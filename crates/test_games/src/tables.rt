@@ -1,3 +1,5 @@
+//! Worked examples of the boards of `go_chains`: what plays take, the stones and liberties of chains, and a
+//! suicide that is taken back.
 ghost use Rattle.std.specs.Prelude.{◌≡◌};
 ghost use Rattle.go_board.specs.Points.{IsOn};
 

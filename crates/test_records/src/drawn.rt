@@ -1,3 +1,4 @@
+//! Records drawn at random, each together with its canonical spelling. Both must be tidied to that spelling.
 use crate::records::is_tidied;
 use rand_core::Rng;
 use rand_pcg::Pcg32;

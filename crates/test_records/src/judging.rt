@@ -1,3 +1,5 @@
+//! The tool that judges a record: verdicts, why a record has none, and runs in which a device fails or memory
+//! is refused.
 use crate::tools::{Tool, told};
 use go_board::Point;
 use go_game::PlayError;

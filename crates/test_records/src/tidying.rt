@@ -1,3 +1,5 @@
+//! The tool that tidies a record: worked examples, refusals, records at the limit of length, and the texts
+//! and exit statuses of faults.
 use crate::tools::{Tool, told};
 use go_sgf::SgfError;
 use goref_tools::ToolError;

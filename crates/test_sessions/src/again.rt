@@ -1,3 +1,5 @@
+//! A long game that is taken back move by move: after each `undo` the diagram and the chains are those before
+//! the move.
 use crate::sessions::told;
 use go_board::Size;
 use goref::Session;

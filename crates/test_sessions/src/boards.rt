@@ -1,3 +1,4 @@
+//! Worked rows of diagrams, chains and scores, on boards from one point to the largest.
 use crate::loads::{Gift, answers_over};
 use crate::rows::{CAPTURE, Row};
 use crate::scripts::all_say;

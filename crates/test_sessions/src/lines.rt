@@ -1,3 +1,5 @@
+//! What is kept of a line: control characters, comments and needless blanks are left out, and at most 8,192
+//! bytes are kept. And what such lines are answered.
 use crate::sessions::{answers_line, begun};
 use goref::Line;
 use std::alloc::Global;

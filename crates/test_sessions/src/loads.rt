@@ -1,3 +1,5 @@
+//! `loadsgf` over a shelf that gives one file: names, prefixes of a record, records that are refused, and how
+//! often the file is asked for.
 use crate::rows::{LOAD, PRINTED, Row};
 use crate::sessions::{answers, begun};
 use go_board::Size;

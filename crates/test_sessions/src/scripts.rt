@@ -1,3 +1,5 @@
+//! Runs of whole scripts: their bytes come and go in pieces, devices fail, and reads are limited. The
+//! functions that check rows of other files are here too.
 use crate::rows::{KO, KO_AFTER_PASSES, Row};
 use crate::sessions::{answered, answers, fails_at};
 use go_board::Size;

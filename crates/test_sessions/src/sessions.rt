@@ -1,3 +1,4 @@
+//! Functions that give a session one line and check its answer, without a run and without a file.
 use go_board::{Size, WriteFault};
 use goref::{Fetched, Flow, Line, Session};
 use std::alloc::{AllocError, Global};

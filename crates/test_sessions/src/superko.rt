@@ -1,3 +1,5 @@
+//! Worked rows of `goref-superko`: where the two rules differ, when the rule can't be changed, and what keeps
+//! it.
 use crate::rows::Row;
 use crate::scripts::all_say;
 

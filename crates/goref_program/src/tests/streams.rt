@@ -1,3 +1,5 @@
+//! Tests of the devices over streams: how many writes an answer takes, and what failed or interrupted calls
+//! do.
 use go_board::{Failed, Sink, Source, send};
 use goref_streams::{Input, Output};
 use std::alloc::{AllocError, Global};

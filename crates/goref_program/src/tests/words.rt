@@ -1,3 +1,4 @@
+//! Tests of the command line: the task that words name, or the kind of their refusal and its text.
 use clap::error::ErrorKind;
 use go_board::Size;
 use goref::{Task, task_of};
