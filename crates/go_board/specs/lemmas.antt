@@ -1,4 +1,5 @@
 -- Lemmas for the proofs of the crates above.
+pub mod Crossing
 pub mod Writing
 pub mod Reading
 pub mod Numbers

@@ -1,13 +1,12 @@
 -- What may go to another thread: a board, and a log where its allocator may.
 use denote.RattleType.{RattleType}
 use denote.Builtin.{usize}
-use denote.Param.Send.{AllSend, Frees, IsSend, fixed_send, recorded_send, sendable, struct_send, view_send}
-use denote.Struct.Declared.{Declared, row, shape}
-use denote.Struct.Field.{rows}
+use denote.Param.Send.{Frees, IsSend, fixed_send, sendable, view_send}
 use Rattle.std.proofs.marker.PhantomData.TheSendSync as phantom
 use Rattle.std.proofs.vec.Vec.TheSendSync as vec
 use Rattle.std.specs.contracts.snapshot.Snapshot as snapshot
 use Rattle.std.specs.declared.alloc.Allocator.{Ghosts}
+use Rattle.go_board.specs.lemmas.Crossing.{fields_send}
 use Rattle.go_chains.specs.contracts.board.Board as board
 use Rattle.go_chains.specs.contracts.board.Board.TheInside as board_fields
 use Rattle.go_chains.specs.contracts.cells.Cells as cells
@@ -21,10 +20,6 @@ use Rattle.go_chains.specs.contracts.numbers.Numbers.TheInside as numbers_fields
 use Rattle.go_chains.specs.contracts.trace.Trace as trace
 use Rattle.go_chains.specs.contracts.trace.Trace.TheInside as trace_fields
 use Rattle.go_chains.specs.contracts.trace.Writes as writes
-
--- a struct goes where each of its fields does
-pub fields_send : (T : Declared) → AllSend (rows T.parts) → IsSend (row T)
-fields_send T sent = recorded_send _ _ _ T.to_one (struct_send (shape T) sent)
 
 -- a snapshot owns nothing
 pub snapshot_send : (R : RattleType) → IsSend (snapshot.the_row R)

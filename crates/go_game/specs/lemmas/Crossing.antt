@@ -10,8 +10,8 @@ use Rattle.go_board.specs.contracts.meter.Meter as meter
 use Rattle.go_board.specs.contracts.meter.Meter.TheInside as meter_fields
 use Rattle.go_board.specs.contracts.meter.Number as number
 use Rattle.go_board.specs.contracts.meter.Open as open_kind
+pub use Rattle.go_board.specs.lemmas.Crossing.{fields_send}
 use Rattle.go_chains.specs.lemmas.Crossing.{board_send, log_send, snapshot_send}
-pub use Rattle.go_chains.specs.lemmas.Crossing.{fields_send}
 use Rattle.go_history.specs.lemmas.Crossing.{history_send}
 use Rattle.go_game.specs.contracts.game.Game as game
 use Rattle.go_game.specs.contracts.game.Game.TheInside as game_fields

@@ -1,9 +1,7 @@
 -- What may go to another thread: a history, where its allocator may.
 use denote.RattleType.{RattleType}
 use denote.Builtin.{u8, usize}
-use denote.Param.Send.{AllSend, Frees, IsSend, recorded_send, sendable, struct_send, view_send}
-use denote.Struct.Declared.{Declared, row, shape}
-use denote.Struct.Field.{rows}
+use denote.Param.Send.{Frees, IsSend, sendable, view_send}
 use Rattle.std.proofs.collections.HashMap.TheSendSync as hash_map
 use Rattle.std.proofs.hash.BuildHasherDefault.TheSendSync.{the_send as hashers_send}
 use Rattle.std.proofs.hash.FoldHasher.TheSendSync.{the_send as hasher_send}
@@ -12,6 +10,7 @@ use Rattle.std.specs.contracts.hash.BuildHasherDefault as builder
 use Rattle.std.specs.contracts.hash.FoldHasher as hasher
 use Rattle.std.specs.contracts.prelude.FoldHasherHasher.TheImpl.{ghosts as hasher_ghosts}
 use Rattle.std.specs.declared.alloc.Allocator.{Ghosts}
+use Rattle.go_board.specs.lemmas.Crossing.{fields_send}
 use Rattle.go_history.specs.contracts.entries.Entries as entries
 use Rattle.go_history.specs.contracts.entries.Entries.TheInside as entries_fields
 use Rattle.go_history.specs.contracts.entries.Rest as rest
@@ -24,10 +23,6 @@ use Rattle.go_history.specs.contracts.key.KeyHash.TheImpl as key_hash
 use Rattle.go_history.specs.contracts.key.KeyPartialEq.TheImpl as key_eq
 use Rattle.go_history.specs.contracts.key_tree.KeyTree as tree
 use Rattle.go_history.specs.contracts.key_tree.KeyTree.TheInside as tree_fields
-
--- a struct goes where each of its fields does
-fields_send : (T : Declared) → AllSend (rows T.parts) → IsSend (row T)
-fields_send T sent = recorded_send _ _ _ T.to_one (struct_send (shape T) sent)
 
 key_send : IsSend key.the_row
 key_send = search sendable depth 20
