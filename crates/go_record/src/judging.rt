@@ -11,9 +11,10 @@ ghost use Rattle.go_sgf.specs.Record.{Trees};
 ghost use Rattle.go_sgf.specs.Spelling.{Spells};
 
 use crate::error::RecordError;
-use crate::replaying::replay_from;
-use crate::root::root_values;
+use crate::replaying::walk_on;
+use crate::root::{root_of, root_values};
 use crate::verdict::{Stated, Verdict};
+use go_game::Game;
 use go_sgf::{Collection, cook_simple, hundredths_of, trim};
 use std::alloc::{AllocError, Allocator};
 
@@ -41,7 +42,9 @@ pub fn judge_source<A: Allocator + Copy>(alloc: A, source: &[u8]) -> Result<Verd
 {
     let values = root_values(source);
     let stated = margin_stated(alloc, values.result)?;
-    let game = replay_from(alloc, &values, source, None)?;
+    let root = root_of(&values)?;
+    let mut game = Game::new(alloc, root.size);
+    walk_on(&mut game, &root, source, None)?;
     let margin = game.margin();
     Ok(Verdict {
         moves: game.move_count(),

@@ -5,13 +5,13 @@ ghost use Rattle.go_record.specs.declared.error.RecordError.TheVariants.{Memory}
 ghost use Rattle.go_game.specs.Standings.{is_vacant_standing};
 ghost use Rattle.go_record.specs.Games.{IsGameOf};
 ghost use Rattle.go_record.specs.MainLine.{events_from};
-ghost use Rattle.go_record.specs.inner.Progress.{IsRootOf, Says, Walked, left_by};
+ghost use Rattle.go_record.specs.inner.Progress.{Says, Walked, left_by};
 ghost use Rattle.go_sgf.specs.MainLine.{main_line};
 ghost use Rattle.go_sgf.specs.Record.{Trees};
 ghost use Rattle.go_sgf.specs.Spelling.{Spells};
 
 use crate::error::RecordError;
-use crate::root::{Root, RootValues, root_of, root_values};
+use crate::root::{Root, root_of, root_values};
 use crate::state::{Left, Walk};
 use crate::walk::next;
 use go_board::Grid;
@@ -48,22 +48,7 @@ pub fn replay_source<A: Allocator + Copy>(
     ensures err { (c : Trees) → Spells source.now c → IfErr result
         (λ e. e ≢ Memory → IsGameOf c number (Err e)) }
 {
-    replay_from(alloc, &root_values(source), source, number)
-}
-
-/// The game of the record that a source spells, whose root has these values.
-pub(crate) fn replay_from<A: Allocator + Copy>(
-    alloc: A,
-    values: &RootValues<'_>,
-    source: &[u8],
-    number: Option<u32>,
-) -> Result<Game<A>, RecordError>
-    ensures ok { (c : Trees) → Spells source.now c → IsRootOf values.now c → IfOk result
-        (λ game. IsGameOf c number (Ok game.standing)) }
-    ensures err { (c : Trees) → Spells source.now c → IsRootOf values.now c → IfErr result
-        (λ e. e ≢ Memory → IsGameOf c number (Err e)) }
-{
-    let root = root_of(values)?;
+    let root = root_of(&root_values(source))?;
     let mut game = Game::new(alloc, root.size);
     walk_on(&mut game, &root, source, number)?;
     Ok(game)
@@ -121,7 +106,7 @@ fn bring<A: Allocator + Copy>(
 }
 
 /// Walks along a record whose root says this.
-fn walk_on<A: Allocator + Copy>(
+pub(crate) fn walk_on<A: Allocator + Copy>(
     game: &mut Game<A>,
     root: &Root,
     source: &[u8],

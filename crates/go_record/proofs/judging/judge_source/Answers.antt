@@ -11,9 +11,9 @@ returns-clause-ok g c = λ t s.
     let root = c.root_values-values.ensures t s in
     let is : c.in_ok-stated.stated ≡ margin_by t = c.in_ok-stated.ensures ∙ ap (λ v. margin_spelled (trimmed (cooked_simple v))) root.result_said in
     record {
-      standing = c.in_ok-game.game.standing;
-      game = c.in_ok-game.ensures.ok t s root;
+      standing = c.walk_on.new.game.standing;
+      game = c.in_ok-walk_on.ensures.ok t s (c.in_ok-root.ensures.ok t root);
       moves = search rules;
       margin = search rules;
-      stated = subst (λ (o : Option ℤ). IsStated o (margin_of c.in_ok-game.game.standing) c.compared.result) is (search rules);
+      stated = subst (λ (o : Option ℤ). IsStated o (margin_of c.walk_on.new.game.standing) c.compared.result) is (search rules);
     }
