@@ -57,5 +57,5 @@ pub decided_load : (s t : Standing) (r : Asked) (content : Content) (o : Option 
     DecidesLoad t (load_of r.arguments) content d → Decides s r content d
 decided_load s t r content o d none named loads =
     let is : (option_and_then command_of r.name ≡ Some Loadsgf) × (t ≡ s) =
-        subst (λ (p : Option Decision). IfNone p ((option_and_then command_of r.name ≡ Some Loadsgf) × (t ≡ s))) none named in
+    subst (λ (p : Option Decision). IfNone p ((option_and_then command_of r.name ≡ Some Loadsgf) × (t ≡ s))) none named in
     rw is.0 (subst (λ (u : Standing). DecidesLoad u (load_of r.arguments) content d) is.1 loads)

@@ -30,10 +30,13 @@ returns-in-Some-clause-answered g c =
     c.of-request.ensures ∙ ap (λ (text : List ℕ). asked_by (words text)) c.text-text.ensures.value in
     answered_told c.args.self.now c.args.line.now (content_of c.args.fetched) d c.id.result c.tell-in-Some.result _ _
     (sym c.has_words.ensures ∙ c.if-not-has_words.false)
-    (inr (whole, subst (λ (r : Asked). Decides c.args.self.now r (content_of c.args.fetched) d) asked
-        (subst (λ (o : Option Decision). IfSome o (λ made. (content : Content) → Decides c.args.self.now c.of-request.result content
-            (record { decision = made; standing = c.decide-decided.new.self })))
-            c.in-Some.is c.decide-decided.ensures.decided (content_of c.args.fetched))))
+    (inr (
+      whole,
+      subst (λ (r : Asked). Decides c.args.self.now r (content_of c.args.fetched) d) asked
+          (subst (λ (o : Option Decision). IfSome o (λ made. (content : Content) → Decides c.args.self.now c.of-request.result content
+          (record { decision = made; standing = c.decide-decided.new.self })))
+          c.in-Some.is c.decide-decided.ensures.decided (content_of c.args.fetched)),
+    ))
     (c.id.ensures ∙ ap (λ (r : Asked). r.id) asked ∙ whole_id c.args.line.now whole) c.tell-in-Some.ensures.told
 
 pub returns-clause-answered : goal.returns-clause-answered
@@ -44,7 +47,10 @@ returns-clause-answered g c =
     c.of-request.ensures ∙ ap (λ (text : List ℕ). asked_by (words text)) c.text-text.ensures.value in
     answered_told c.args.self.now c.args.line.now (content_of c.args.fetched) d c.id-in-None.result c.tell-in-None.result _ _
     (sym c.has_words.ensures ∙ c.if-not-has_words.false)
-    (inr (whole, subst (λ (r : Asked). Decides c.args.self.now r (content_of c.args.fetched) d) asked
-        (decided_load c.args.self.now c.decide-decided.new.self c.of-request.result (content_of c.args.fetched) c.decide-decided.result d
-            c.in-None.is c.decide-decided.ensures.loads c.decide_load-decision.ensures)))
+    (inr (
+      whole,
+      subst (λ (r : Asked). Decides c.args.self.now r (content_of c.args.fetched) d) asked
+          (decided_load c.args.self.now c.decide-decided.new.self c.of-request.result (content_of c.args.fetched) c.decide-decided.result d
+          c.in-None.is c.decide-decided.ensures.loads c.decide_load-decision.ensures),
+    ))
     (c.id-in-None.ensures ∙ ap (λ (r : Asked). r.id) asked ∙ whole_id c.args.line.now whole) c.tell-in-None.ensures.told
