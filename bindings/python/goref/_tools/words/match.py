@@ -19,9 +19,9 @@ import os
 import shlex
 import signal
 import tempfile
-from typing import TYPE_CHECKING, Optional, Sequence
+from typing import TYPE_CHECKING, List, Optional, Sequence
 
-from goref._tools.faults import DONE, FAULT, REFUSED, WrongWords, fault_of, shown, tell
+from goref._tools.faults import DONE, FAULT, REFUSED, Fault, WrongWords, fault_of, shown
 
 if TYPE_CHECKING:
     from goref._tools.match_outcome import Outcome
@@ -73,8 +73,8 @@ def run(given: argparse.Namespace) -> int:
     settings = _settings(given)
     if given.records is not None:
         _try_folder(given.records)
-        if not _is_begun(given.log):
-            _refuse_records(given.records)
+        if given.log is None:
+            _refuse_records(given.records, given.games)
     log = Log(given.log, settings.as_logged()) if given.log is not None else None
     try:
         keeper = Keeper(settings, given.games, log, given.records)
@@ -123,26 +123,18 @@ def _try_folder(folder: str) -> None:
         raise fault_of(folder, why) from None
 
 
-def _is_begun(log: Optional[str]) -> bool:
-    """Whether a log has something of an earlier run."""
-    try:
-        return log is not None and os.path.getsize(log) > 0
-    except OSError:
-        return False
-
-
-def _refuse_records(folder: str) -> None:
+def _refuse_records(folder: str, games: int) -> None:
     """Refuses to write over records of another match. A log tells which are of this one."""
-    from goref._tools.match_run import is_record
+    from goref._tools.match_run import digits_of, record_path
 
-    there = sorted(filter(is_record, os.listdir(folder)))
-    if there:
-        path = shown(os.path.join(folder, there[0]))
-        raise WrongWords(f"{path} is there: name another folder, or go on by the log of its match")
+    first = record_path(folder, 1, digits_of(games))
+    if os.path.lexists(first):
+        raise WrongWords(f"{shown(first)} is there: name another folder, or go on by --log")
 
 
 def _closing(keeper: "Keeper", settings: "Settings", stopped: Optional[int]) -> int:
     """Tells the table, and gives the status."""
+    from goref._tools.match_output import tell
     from goref._tools.match_table import table_of
 
     outcomes: "Sequence[Outcome]" = [keeper.outcomes[number] for number in sorted(keeper.outcomes)]

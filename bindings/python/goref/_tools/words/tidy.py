@@ -65,8 +65,7 @@ def run(given: argparse.Namespace) -> int:
     library()
     places = list(_places(given))
     ends = Ends()
-    # Where the spellings go to the standard output a bar would stand among them.
-    progress = Progress(len(places) if given.in_place or given.to else None, "files")
+    progress = Progress(len(places) if given.in_place or given.to else 0, "files")
     try:
         for place in places:
             told = _told(place, given, ends)
