@@ -12,7 +12,7 @@ ghost use Rattle.goref_session.specs.declared.command.Command.{Command};
 ghost use Rattle.goref_session.specs.declared.flow.Flow.{Flow};
 ghost use Rattle.goref_session.specs.inner.Refusing.{after_load};
 ghost use Rattle.goref_session.specs.Answered.{Answered, flow_of};
-ghost use Rattle.goref_session.specs.inner.Told.{IsTold};
+ghost use Rattle.goref_session.specs.inner.Told.{IsTold, TellsOf};
 ghost use Rattle.goref_session.specs.Starts.{begun};
 ghost use Rattle.goref_session.specs.Table.{Decides};
 ghost use Rattle.goref_lines.specs.Words.{has_bytes};
@@ -91,51 +91,37 @@ impl<A: Allocator + Copy> Session<A> {
         let text = line.text();
         if line.is_long() {
             let refused = Decision::Refused(Refusal::LineTooLong);
-            return self.tell(id_of_cut(text), &refused, writer);
+            return tell(self.game(), id_of_cut(text), &refused, writer);
         }
         let request = Request::of(text);
-        // It is told where it stands, since it has room for all points.
-        let decided = self.decide(&request);
-        match &decided {
-            Some(decision) => self.tell(request.id(), decision, writer),
+        match self.answer_command(&request, writer) {
+            Some(told) => told,
             None => {
                 let decision = self.decide_load(&request, &fetched);
-                self.tell(request.id(), &decision, writer)
+                drop(fetched);
+                tell(self.game(), request.id(), &decision, writer)
             }
         }
     }
 
-    /// Tells what was decided on a line with this id, and whether the session goes on.
-    fn tell<W: Sink>(
-        &self,
-        id: Option<u32>,
-        decision: &Decision,
+    /// Answers the command that is asked for; none where that is `loadsgf`.
+    fn answer_command<W: Sink>(
+        &mut self,
+        request: &Request,
         writer: &mut W,
-    ) -> Result<Flow, WriteFault>
-        ensures told { IsTold result id
-            (record { decision = decision.now; standing = self.now })
-            (W.taken writer.old) (W.taken writer.new) }
-        ensures failures { W.failures writer.new ≡ failures_after result (W.failures writer.old) }
-    {
-        match write_answer(self.game(), id, decision, writer) {
-            Ok(()) => Ok(flow_after(decision)),
-            Err(WriteFault) => Err(WriteFault),
-        }
-    }
-
-    /// Decides on the command that is asked for; none where that is `loadsgf`.
-    fn decide(&mut self, request: &Request) -> Option<Decision>
-        ensures decided { IfSome result (λ decision. (content : Content) →
-            Decides self.old request.now content
-            (record { decision = decision; standing = self.new })) }
+    ) -> Option<Result<Flow, WriteFault>>
+        ensures told { IfSome result (λ told. TellsOf self.old self.new request.now told
+            (W.taken writer.old) (W.taken writer.new)) }
+        ensures failures { IfSome result (λ told.
+            W.failures writer.new ≡ failures_after told (W.failures writer.old)) }
         ensures loads { IfNone result
             ((option_and_then command_of request.now.name ≡ Some Command.Loadsgf)
-            × (self.new ≡ self.old)) }
+            × (self.new ≡ self.old) × (writer.new ≡ writer.old)) }
     {
         let alloc = self.alloc;
         match &mut self.second {
-            Some(second) if second.is_played => decide_on(&mut second.game, alloc, request),
-            _ => decide_on(&mut self.first, alloc, request),
+            Some(second) if second.is_played => answer_on(&mut second.game, alloc, request, writer),
+            _ => answer_on(&mut self.first, alloc, request, writer),
         }
     }
 
@@ -171,6 +157,47 @@ impl<A: Allocator + Copy> Session<A> {
                 loaded
             }
         }
+    }
+}
+
+/// Answers the command that is asked for over the game that is played; none where that is `loadsgf`.
+/// A decision has room for all points, so none leaves this function.
+fn answer_on<A: Allocator + Copy, W: Sink>(
+    game: &mut Game<A>,
+    alloc: A,
+    request: &Request,
+    writer: &mut W,
+) -> Option<Result<Flow, WriteFault>>
+    ensures told { IfSome result (λ told. TellsOf game.old.standing game.new.standing request.now told
+        (W.taken writer.old) (W.taken writer.new)) }
+    ensures failures { IfSome result (λ told.
+        W.failures writer.new ≡ failures_after told (W.failures writer.old)) }
+    ensures loads { IfNone result
+        ((option_and_then command_of request.now.name ≡ Some Command.Loadsgf)
+        × (game.new.standing ≡ game.old.standing) × (writer.new ≡ writer.old)) }
+{
+    let decided = decide_on(game, alloc, request);
+    match &decided {
+        Some(decision) => Some(tell(game, request.id(), decision, writer)),
+        None => None,
+    }
+}
+
+/// Tells what was decided on a line with this id, and whether the session goes on.
+fn tell<A: Allocator + Copy, W: Sink>(
+    game: &Game<A>,
+    id: Option<u32>,
+    decision: &Decision,
+    writer: &mut W,
+) -> Result<Flow, WriteFault>
+    ensures told { IsTold result id
+        (record { decision = decision.now; standing = game.now.standing })
+        (W.taken writer.old) (W.taken writer.new) }
+    ensures failures { W.failures writer.new ≡ failures_after result (W.failures writer.old) }
+{
+    match write_answer(game, id, decision, writer) {
+        Ok(()) => Ok(flow_after(decision)),
+        Err(WriteFault) => Err(WriteFault),
     }
 }
 
