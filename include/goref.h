@@ -30,7 +30,7 @@ extern "C" {
  * is the reason, without a line end: what follows `goref: ` where the program says it, as `no game
  * tree`; with 3 that is `out of memory`. */
 
-/* The answers to lines of the Go Text Protocol version 2, on a new board that has so many lines at
+/* The answers to lines of the Go Text Protocol version 2, on a new board that has `lines` lines at
  * first, 1 to 25. A last line without a line end is answered too, and nothing after `quit`; a line
  * that wants a file gets `? cannot load file`. 0, also where a line was answered `? out of memory`
  * and changed nothing; 2 for another number of lines, with no text; 3 where there was no memory for
@@ -58,7 +58,8 @@ uint8_t goref_tidy(const uint8_t *source, size_t size,
  * that `goref_judge(source + *begin, *end - *begin, ...)` judges it alone. 1 where no tree begins
  * from there on: both places become `size`. 2 where the tree that begins at `*begin` isn't whole:
  * `*end` becomes the place where it stops to be one, which is after `*begin`. Then `goref_tidy` of
- * the bytes from `*begin` on says why, with places counted from `*begin`.
+ * the bytes from `*begin` on, if a record may have as many, says why, with places counted from
+ * `*begin`.
  *
  * Begin with 0 and go on with `*end`, also after 2, until the status is 1: that goes over the
  * archive once, and ends. After 2 the next tree may be a part of the broken one. An archive may have
@@ -91,7 +92,7 @@ typedef struct goref_session {
 
 #define GOREF_NO_SESSION { 0 }
 
-/* A new session on a board that has so many lines, 1 to 25. A session that the handle held is closed.
+/* A new session on a board that has `lines` lines, 1 to 25. A session that the handle held is closed.
  * 0; 2 for another number of lines; 3 where there was no memory. With 2 and 3 the handle stays as it
  * was. */
 uint8_t goref_open(uint8_t lines, goref_session *handle);

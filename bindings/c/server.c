@@ -9,10 +9,13 @@
  * directory, by names without `/`. It ends with 1 at a line without a number, with 2 where the words
  * are wrong, and with 3 where a stream or memory fails. */
 #define _POSIX_C_SOURCE 200809L
+#include <fcntl.h>
 #include <goref.h>
 #include <stdio.h>
 #include <stdlib.h>
 #include <string.h>
+#include <sys/stat.h>
+#include <unistd.h>
 
 enum { MOST = 16777216 };
 
@@ -22,10 +25,26 @@ static int end(int status, const char *why)
     return status;
 }
 
+/* The file of a name, if it is a regular one: to open a pipe may wait for ever. */
+static FILE *regular(const char *name)
+{
+    struct stat about;
+    FILE *file = NULL;
+    int number = strchr(name, '/') == NULL ? open(name, O_RDONLY | O_NONBLOCK | O_CLOEXEC) : -1;
+
+    if (number < 0)
+        return NULL;
+    if (fstat(number, &about) == 0 && S_ISREG(about.st_mode))
+        file = fdopen(number, "rb");
+    if (file == NULL)
+        close(number);
+    return file;
+}
+
 /* The bytes of a file, one more than a record may have at most; NULL where it can't be read. */
 static uint8_t *contents(const char *name, size_t *size)
 {
-    FILE *file = strchr(name, '/') == NULL ? fopen(name, "rb") : NULL;
+    FILE *file = regular(name);
     uint8_t *bytes = NULL;
 
     *size = 0;

@@ -10,6 +10,7 @@ words are wrong, and with 3 where a stream or memory fails.
 """
 
 import os
+import re
 import sys
 from typing import Dict, Iterable
 
@@ -31,7 +32,8 @@ def serve(count: int, lines: Iterable[bytes]) -> None:
     games: Dict[int, goref.Session] = {}
     for line in lines:
         digits = line[: len(line) - len(line.lstrip(b"0123456789"))]
-        if not digits or int(digits) >= count:
+        # No game has a number of more digits than their count.
+        if not digits or len(digits.lstrip(b"0")) > len(str(count)) or int(digits) >= count:
             raise Stop(1, "a line begins with no number of a game")
         number = int(digits)
         game = games.get(number) or games.setdefault(number, goref.Session())
@@ -45,7 +47,7 @@ def serve(count: int, lines: Iterable[bytes]) -> None:
 
 def main() -> int:
     words = sys.argv[1:] or ["1000"]
-    if len(words) > 1 or not words[0].isdigit() or int(words[0]) == 0:
+    if len(words) > 1 or not re.fullmatch("0*[1-9][0-9]{0,8}", words[0]):
         print("server.py: usage: server.py [GAMES]", file=sys.stderr)
         return 2
     try:

@@ -8,7 +8,7 @@ from goref._types import Bytes, Game, GorefError, OutOfMemory, Refused, Verdict,
 
 
 def _text(function: Any, place: int, source: bytes, *first: int) -> bytes:
-    """What a call puts into a room that has so many bytes at first."""
+    """What a call puts into a room, which has `place` bytes at first."""
     status, text = text_in_room(place, function, *first, source, len(source))
     if status == 0:
         return text
@@ -23,8 +23,8 @@ def _text(function: Any, place: int, source: bytes, *first: int) -> bytes:
 def answers(lines: Bytes, size: int = 19) -> bytes:
     """The answers to lines of GTP, from an empty board of `size` lines on, up to `quit` or the last line.
 
-    There are no files: `loadsgf` is answered by `? cannot load file`. Raises `BadSize` where no board has so many
-    lines, and `OutOfMemory`.
+    There are no files: `loadsgf` is answered by `? cannot load file`. Raises `BadSize` where no board has `size` lines,
+    and `OutOfMemory`.
     """
     size = lines_of_board(size)
     source = bytes_of("lines", lines)

@@ -2,9 +2,10 @@
 
 import ctypes
 import os
+import stat
 import threading
 from types import TracebackType
-from typing import Callable, List, Mapping, Optional, Type, Union
+from typing import Callable, List, Mapping, Optional, Sequence, Type, Union
 
 from goref._library import Handle, library, text_in_room
 from goref._types import Bytes, GorefError, OutOfMemory, Refused, SessionOver, bytes_of, lines_of_board
@@ -16,12 +17,16 @@ Files = Union[
 
 _MOST = 16_777_216
 
+# goref removes these from each line before it looks for words.
+_CONTROLS = bytes(byte for byte in [*range(32), 127] if byte not in b"\t\n")
+
 
 class Session:
     """A game that is played by lines of GTP, on a board that has `size` lines at first.
 
     It is a context manager, and `close` ends it. Several threads may use one session: each call waits for the one
-    before it, but for calls that a function for files makes itself: their lines are answered first. A session takes 72 kB at first; after 250 moves on 19 lines some 160 kB of it are in memory.
+    before it, but for calls that a function for files makes itself: their lines are answered first. A session takes
+    72 kB at first; after 250 moves on 19 lines some 160 kB of it are in memory.
     """
 
     def __init__(self, size: int = 19) -> None:
@@ -66,12 +71,12 @@ class Session:
         """
         text = bytes_of("lines", lines)
         with self._lock:
-            if files is None or b"loadsgf" not in text:
+            if files is None or b"loadsgf" not in text.translate(None, _CONTROLS):
                 return self._answers(self._send(text), len(text))
             told: List[bytes] = []
             for line in text.split(b"\n"):
                 status = self._send_with(line, files)
-                told.append(self._answers(status, 256, b"".join(told)))
+                told.append(self._answers(status, 256, told))
                 if status == 1:
                     break
             return b"".join(told)
@@ -81,9 +86,10 @@ class Session:
         line = command.encode("utf-8") if isinstance(command, str) else bytes_of("command", command)
         if b"\n" in line.rstrip(b"\n"):
             raise ValueError("command has several lines: send answers those")
-        if self._is_over:
-            raise SessionOver("the session is over")
-        answer = self.send(line, files).decode("utf-8", "replace").strip()
+        with self._lock:
+            if self._is_over:
+                raise SessionOver("the session is over")
+            answer = self.send(line, files).decode("utf-8", "replace").strip()
         if answer.startswith("?"):
             raise Refused(answer.partition(" ")[2])
         return answer[1:].lstrip("0123456789").strip()
@@ -105,13 +111,13 @@ class Session:
         status, name = text_in_room(256, self._library.goref_wants, line, len(line))
         return self._send(line, _file(files, name) if status == 0 else None)
 
-    def _answers(self, status: int, place: int, before: bytes = b"") -> bytes:
+    def _answers(self, status: int, place: int, before: Sequence[bytes] = ()) -> bytes:
         """The answers to what was sent last."""
         if status == 4:
             raise SessionOver("the session was closed")
         taken, text = text_in_room(64 + place, self._library.goref_take, ctypes.byref(self._handle))
         if status == 3:
-            raise OutOfMemory("out of memory", before + text)
+            raise OutOfMemory("out of memory", b"".join(before) + text)
         if taken != 0 or status not in (0, 1):
             raise GorefError(f"libgoref answered with the status {taken or status}")
         return text
@@ -139,7 +145,8 @@ def _file_in(folder: bytes, name: bytes) -> Optional[bytes]:
         path = os.path.realpath(os.path.join(top, name))
         if os.path.commonpath([top, path]) != top:
             return None
-        with open(path, "rb") as file:
-            return file.read(_MOST + 1)
+        # To open a pipe may wait for ever, and all other calls with it.
+        with open(os.open(path, os.O_RDONLY | os.O_NONBLOCK | os.O_CLOEXEC), "rb") as file:
+            return file.read(_MOST + 1) if stat.S_ISREG(os.fstat(file.fileno()).st_mode) else None
     except (OSError, ValueError):
         return None

@@ -5,7 +5,6 @@ import xml.etree.ElementTree as ElementTree
 import pytest
 from hypothesis import given, settings, strategies as some
 
-import goref
 from goref._tools.boards import boards_back, played, playing, point_of, position, stars_of
 from goref._tools.svg import clean, numbers_on, picture
 from rules import game, record, vertex

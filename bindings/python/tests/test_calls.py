@@ -7,6 +7,7 @@ import sys
 import pytest
 
 import goref
+from goref import _calls, _library
 
 RECORD = b"(;SZ[5]KM[0.5]RE[B+24.5];B[cc])"
 
@@ -69,9 +70,19 @@ def test_a_broken_game_is_refused_by_its_bytes():
     assert goref.judge(whole.text).moves == 0
 
 
-def test_games_are_found_as_they_are_asked_for():
+def test_games_are_found_as_they_are_asked_for(monkeypatch):
+    class Counted:
+        calls = 0
+
+        def __getattr__(self, name):
+            self.calls += name == "goref_next_game"
+            return getattr(_library.library(), name)
+
+    counted = Counted()
+    monkeypatch.setattr(_calls, "library", lambda: counted)
     found = goref.games(b"(;)" * 1000 + b"(")
-    assert next(found).end == 3 and next(found).begin == 3
+    assert (next(found).end, counted.calls) == (3, 1)
+    assert (next(found).begin, counted.calls) == (3, 2)
 
 
 @pytest.mark.parametrize(

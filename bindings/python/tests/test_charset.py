@@ -86,9 +86,9 @@ def test_a_guess_is_told():
 
 def test_what_a_guess_leaves_open_has_other_readings():
     data = record("許功蓋").encode("big5")
-    assert b"as it is" in [name.encode() for name, _ in readings(data, converted(data))]
+    assert b"byte for byte" in [name.encode() for name, _ in readings(data, converted(data))]
     latin = record("André").encode("cp1252")
-    assert [name for name, _ in readings(latin, converted(latin))] == ["as it is"]
+    assert [name for name, _ in readings(latin, converted(latin))] == ["byte for byte"]
     stated = record("許功蓋", "big5").encode("big5")
     assert list(readings(stated, converted(stated))) == []
 
@@ -150,9 +150,9 @@ def test_a_second_byte_that_hides_an_end_is_no_latin_letter():
 
 
 def test_a_long_value_is_guessed_at_once():
-    begun = time.monotonic()
+    begun = time.process_time()
     assert converted(b"(;GM[1]C[" + b"a " * 1_000_000 + b"];B[aa]C[caf\xe9])").how == "guessed"
-    assert time.monotonic() - begun < 5
+    assert time.process_time() - begun < 5
 
 
 @pytest.mark.parametrize("before", ["", "x"])

@@ -9,6 +9,7 @@ import pytest
 
 from goref._tools import engine as module
 from goref._tools.engine import Engine, EngineFailed, EngineLate
+from running import is_gone
 
 WORDS = [sys.executable, "-I", "-S", os.path.join(os.path.dirname(os.path.abspath(__file__)), "engines.py")]
 
@@ -37,15 +38,6 @@ def why(words, line="genmove b"):
     (failed,) = asked(words, line)
     assert isinstance(failed, EngineFailed)
     return str(failed)
-
-
-def is_gone(number):
-    """Whether a process has ended, or is about to."""
-    try:
-        with open(f"/proc/{number}/stat") as file:
-            return file.read().rpartition(")")[2].split()[0] in "ZX"
-    except (FileNotFoundError, ProcessLookupError):
-        return True
 
 
 def all_gone(numbers):

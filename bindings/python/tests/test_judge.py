@@ -11,6 +11,7 @@ import time
 
 import pytest
 
+from running import is_group_gone
 from test_main import HERE, tools
 
 GOOD = b"(;SZ[5]KM[0.5]RE[B+24.5];B[cc];W[])"
@@ -199,6 +200,18 @@ def test_an_endless_file_is_told():
     assert end.stderr.startswith(b"goref-tools: /dev/zero: longer than 268,435,456 bytes\n")
 
 
+def test_a_broken_game_of_two_charsets(tmp_path):
+    """Its place is told in each reading, also where the file isn't all of that charset."""
+    name = "Иванов"
+    data = b"(;CA[KOI8-R]PB[" + name.encode("koi8-r") + b"];B[aa]7)(;CA[UTF-8]PB[" + name.encode("utf-8") + b"];B[aa])"
+    (tmp_path / "a.sgf").write_bytes(data)
+    (tmp_path / "b.sgf").write_bytes(GOOD)
+    end = tools("judge", str(tmp_path))
+    rows = end.stdout.decode().splitlines()
+    assert end.returncode == 1 and b"fault" not in end.stderr
+    assert len(rows) == 3 and f"byte at {data.index(b'7)')}" in rows[0] and "B+24.5" in rows[2]
+
+
 def test_a_record_that_is_too_long():
     end = tools("judge", "-", input=b"(;C[" + b"x" * 16_777_216 + b"])")
     assert (end.returncode, end.stdout) == (1, b"-:1: record too long\n")
@@ -216,15 +229,7 @@ def test_an_interrupt_ends_each_process(tmp_path, number, status, told):
     os.kill(process.pid, number)
     output, errors = process.communicate(timeout=20)
     assert process.returncode == status and errors == b"goref-tools: " + told + b"\n"
-    # No process of the group is left.
-    for _ in range(50):
-        try:
-            os.killpg(process.pid, 0)
-        except ProcessLookupError:
-            break
-        time.sleep(0.1)
-    else:
-        pytest.fail("a process is left")
+    assert is_group_gone(process.pid, 5)
 
 
 def test_an_interrupt_while_processes_start(tmp_path):
@@ -255,10 +260,4 @@ def test_processes_end_with_the_first_one(tmp_path):
     time.sleep(1.5)
     process.kill()
     process.wait()
-    for _ in range(100):
-        try:
-            os.killpg(process.pid, 0)
-        except ProcessLookupError:
-            return
-        time.sleep(0.1)
-    pytest.fail("a process is left")
+    assert is_group_gone(process.pid, 10)

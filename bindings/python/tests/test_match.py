@@ -22,6 +22,7 @@ from goref._tools.match_outcome import Outcome, Times
 from goref._tools.match_record import Differs, record_of
 from goref._tools.match_settings import Settings
 from goref._tools.spelling import main_line, simple_text_of
+from running import is_gone
 
 HERE = os.path.dirname(os.path.abspath(__file__))
 
@@ -199,6 +200,7 @@ def test_the_superko_rule(match):
     assert match.results == ["W+F"]
     assert match.reasons[0].endswith(") played A1: move 1 repeats the position after 0 moves")
     match.log.unlink()
+    (match.records / "game-0001.sgf").unlink()
     match("--superko", "situational", one, one, size=1)
     assert match.results == ["B+F"] and match.reasons[0].endswith(") played A1: illegal move")
     assert b"RU[Tromp-Taylor, situational superko]" in match.record() and b";B[aa])" in match.record()
@@ -289,14 +291,6 @@ def test_engines_are_told_the_time(match):
 def numbers_in(path):
     """The numbers of the processes that noted lines, in the order in which they first did."""
     return list(dict.fromkeys(int(line.split()[0]) for line in path.read_text().splitlines()))
-
-
-def is_gone(number):
-    try:
-        with open(f"/proc/{number}/stat") as file:
-            return file.read().rpartition(")")[2].split()[0] in "ZX"
-    except (FileNotFoundError, ProcessLookupError):
-        return True
 
 
 def wait_for(done, seconds=20):
@@ -460,6 +454,9 @@ def test_records_of_another_match_stay(match):
     before = match.record(1)
     arguments = ["match", "--size", "5", "--records", match.records, PASS, PASS]
     assert main([str(one) for one in arguments]) == 2 and match.record(1) == before
+    assert match(PASS, PASS).status == 2 and match.record(1) == before and not match.log.exists()
+    (match.records / "game-0001.sgf").rename(match.records / "game-0002.sgf")
+    assert main([str(one) for one in arguments]) == 2 and os.listdir(match.records) == ["game-0002.sgf"]
 
 
 @pytest.mark.parametrize("old, new", [('"black": "', '"black": "other '), ('"game": 2', '"game": 1'), ('"game": 1', '"game": 2')])

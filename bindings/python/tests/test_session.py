@@ -1,6 +1,7 @@
 """Sessions."""
 
 import gc
+import os
 import threading
 
 import pytest
@@ -63,6 +64,17 @@ def test_files_are_a_mapping_a_folder_or_a_function(tmp_path):
         assert game.send(b"loadsgf a\n", {"a": b"(;C[" + b"x" * 16_777_216 + b"])"}) == b"? cannot load file\n\n"
 
 
+def test_a_pipe_is_no_file(tmp_path):
+    os.mkfifo(tmp_path / "pipe")
+    with goref.Session() as game:
+        assert game.send(b"loadsgf pipe\n", tmp_path) == b"? cannot load file\n\n"
+
+
+def test_controls_are_no_part_of_a_name(tmp_path):
+    with goref.Session() as game:
+        assert game.send(b"load\x07sgf a\n", {b"a": RECORD}) == b"=\n\n"
+
+
 @pytest.mark.parametrize("call, told", [(lambda game: game.send(b"boardsize 3\n"), b"=\n\n"), (lambda game: game.close(), None)])
 def test_a_function_for_files_may_use_the_session(call, told):
     game = goref.Session(5)
@@ -105,7 +117,9 @@ def test_a_session_is_used_by_threads():
         assert game.ask("showboard").splitlines()[0].endswith("moves 0 next B")
 
 
-def test_a_session_that_is_let_go_is_closed():
-    for _ in range(3000):
-        goref.Session()
+def test_a_session_that_is_let_go_is_closed(monkeypatch):
+    closed = []
+    monkeypatch.setattr(goref.Session, "close", lambda game: closed.append(game))
+    goref.Session()
     gc.collect()
+    assert len(closed) == 1

@@ -214,6 +214,15 @@ def test_a_bad_size_and_a_bad_komi(why):
 # ---- What is no legal game.
 
 
+AFTER_A3 = [
+    "size 3 komi 0 prisoners B 0 W 0 moves 1 next W",
+    " 3 X . .",
+    " 2 . . .",
+    " 1 . . .",
+    "   A B C",
+]
+
+
 def test_a_bad_value(why):
     told = why(b"(;SZ[3];B[aa]C[Hi];W[dd]N[x]PL[q][W];B[cc])")
     assert told == [
@@ -224,11 +233,7 @@ def test_a_bad_value(why):
         "PL[q] is malformed: a colour is B or W.",
         "",
         "The board before node 2:",
-        "size 3 komi 0 prisoners B 0 W 0 moves 1 next W",
-        " 3 X . .",
-        " 2 . . .",
-        " 1 . . .",
-        "   A B C",
+        *AFTER_A3,
     ]
 
 
@@ -248,11 +253,7 @@ def test_set_up_after_a_move(why):
         "goref sets stones up before the first move alone.",
         "",
         "The board before node 2:",
-        "size 3 komi 0 prisoners B 0 W 0 moves 1 next W",
-        " 3 X . .",
-        " 2 . . .",
-        " 1 . . .",
-        "   A B C",
+        *AFTER_A3,
     ]
 
 

@@ -71,6 +71,6 @@ def test_a_verdict_that_depends_on_the_charset_is_told(word, tmp_path):
     told = "--charset settles it"
     # Byte for byte the last character of the name has a `\`, and the value ends only after the move of Black.
     assert b"guessed" in end.stderr and told in (end.stdout + end.stderr).decode()
-    assert "it is `moves 1 score W+87.5 stated none` as it is" in (end.stdout + end.stderr).decode()
+    assert "it is `moves 1 score W+87.5 stated none` byte for byte" in (end.stdout + end.stderr).decode()
     end = tools(word, str(tmp_path / "game.sgf"), "--charset", "big5")
     assert end.returncode == 0 and told not in (end.stdout + end.stderr).decode()

@@ -8,7 +8,7 @@ from typing import Callable, Dict, List, NamedTuple, Optional, Sequence, Tuple, 
 from goref._tools.charset import Converted, WrongCharset, converted, readings
 from goref._tools.faults import Fault, shown
 from goref._tools.files import contents
-from goref._tools.records import Found, found_in
+from goref._tools.records import Found, found_in, in_words
 
 
 class Row(NamedTuple):
@@ -111,7 +111,7 @@ def _filled(rows: List[Row], most: int) -> List[Optional[Row]]:
 def _depending(row: Row, text: Converted, other: Optional[Row], name: str) -> Row:
     if row.reason is not None and row.reason.startswith("depends on the charset"):
         return row
-    reading = f"in {text.charset}" if text.charset else "as it is"
+    reading = f"in {text.charset}" if text.charset else "byte for byte"
     reason = f"depends on the charset: {_said(row)} {reading}, {_said(other)} {name}"
     return Row(row.file, row.game, None, None, None, reason, *_how(text))
 
@@ -125,7 +125,7 @@ def _said(row: Optional[Row]) -> str:
     """A verdict in words."""
     if row is None or (row.reason is None and row.moves is None):
         return "no game"
-    return row.reason or f"moves {row.moves} score {row.score} stated {row.stated}"
+    return row.reason or in_words(row.moves, row.score, row.stated)
 
 
 def _counts(rows: List[Row], files: int, faults: int) -> Counts:

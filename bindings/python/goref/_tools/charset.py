@@ -72,6 +72,8 @@ class Converted:
     """The bytes of the file."""
     others: Tuple[str, ...] = ()
     """Charsets that the file may be in as well: other games name them, or its bytes are UTF-8 against what it names."""
+    errors: str = "strict"
+    """What became of bytes that aren't of the charset, as `bytes.decode` names it."""
     verdicts: Any = field(default=None, compare=False, repr=False)
     """What the games come to in other readings, once somebody asked for that."""
     _last: Tuple[int, int, Any] = field(default=(0, 0, None), compare=False, repr=False)
@@ -84,7 +86,7 @@ class Converted:
             return len(self.data)
         # Places are mostly asked for one after another, so a walk goes on from the last one.
         before, at, state = self._last if self._last[0] <= place else (0, 0, None)
-        walk = _Walk(self.data, self.charset, at, state)
+        walk = _Walk(self.data, self.charset, self.errors, at, state)
         at = walk.after(len(self.utf8[before:place].decode("utf-8", "ignore")))
         self._last = (place, at, walk.state)
         return at
@@ -139,12 +141,12 @@ def readings(data: bytes, text: Converted) -> Iterator[Tuple[str, Converted]]:
     """What else a text may be whose charset was guessed, each with its name: a verdict that differs depends on it."""
     for codec in text.others:
         # Not all of the file need be in it.
-        grown = _GROWN.get(codec, (codec,))[0]
-        yield f"in {codec}", Converted(_encoded(data.decode(grown, "replace")), grown, "CA", data)
+        grown = _grown(codec)
+        yield f"in {codec}", Converted(_encoded(data.decode(grown, "replace")), grown, "CA", data, errors="replace")
     if text.how not in ("guessed", "unknown"):
         return
     if text.charset is not None:
-        yield "as it is", Converted(data, data=data)
+        yield "byte for byte", Converted(data, data=data)
     if not _is_latin(data):
         for codec in _TWO_BYTES:
             other = _decoded(data, (codec,), "guessed") if codec != text.charset else None
@@ -194,11 +196,27 @@ def _stated(data: bytes) -> Optional[Converted]:
             continue
         text = _utf8(data) if codec in _UTF8 else _decoded(data, _GROWN.get(codec, (codec,)), "CA")
         if text is not None and (codec in _UTF8 or _names(text.utf8, name)):
-            text.others = tuple(other for _, other in named if other is not None and other != codec and codec != "ascii")
-            if text.charset is not None and _utf8(data) is not None:
-                text.others += ("utf-8",)
+            text.others = _others(data, codec, [other for _, other in named if other is not None])
             return text
     return None
+
+
+def _others(data: bytes, codec: str, named: List[str]) -> Tuple[str, ...]:
+    """The charsets that a file names beside its own and that aren't read as that is. ASCII is a part of each."""
+    if codec == "ascii":
+        return ()
+    seen = {_grown(codec), "ascii"}
+    others = []
+    for other in [*named, *(["utf-8"] if codec not in _UTF8 and _utf8(data) is not None else [])]:
+        if _grown(other) not in seen:
+            seen.add(_grown(other))
+            others.append(other)
+    return tuple(others)
+
+
+def _grown(codec: str) -> str:
+    """The codec by which a charset is read first."""
+    return _GROWN.get(codec, (codec,))[0]
 
 
 def _names(utf8: bytes, name: bytes) -> bool:
@@ -229,14 +247,13 @@ def _guessed(data: bytes) -> Converted:
         return unknown
     pieces = _pieces(data)
     wanted = _LATIN_GUESSES if _is_latin(data) else _GUESSES
-    best = None
+    codec = None
     # A long piece may be cut within a character.
     for end in (len(pieces), len(pieces) - 1):
-        found = from_bytes(pieces[:end], cp_isolation=list(wanted), threshold=0.5)
-        best = best or _likely(found)
-    if best is None:
-        return unknown
-    codec = codec_of(best)
+        best = _likely(from_bytes(pieces[:end], cp_isolation=list(wanted), threshold=0.5))
+        if best is not None:
+            codec = codec_of(best)
+            break
     if codec is None or codec in ("ascii", "utf-8"):
         return unknown
     return _decoded(data, _GROWN.get(codec, (codec,)), "guessed") or unknown
@@ -271,9 +288,9 @@ def _is_latin(data: bytes) -> bool:
 class _Walk:
     """A walk along the characters of a file."""
 
-    def __init__(self, data: bytes, charset: str, at: int, state: Any) -> None:
+    def __init__(self, data: bytes, charset: str, errors: str, at: int, state: Any) -> None:
         self._data = data
-        self._decoder = codecs.getincrementaldecoder(charset)()
+        self._decoder = codecs.getincrementaldecoder(charset)(errors)
         self._at = at
         self._left = 0
         if state is not None:
@@ -289,7 +306,7 @@ class _Walk:
         return self._decoder.getstate()
 
     def after(self, count: int) -> int:
-        """The place after so many characters more."""
+        """The place after `count` characters more."""
         self._left += count
         # Blocks first, and then byte for byte within the block in which the text ends.
         for step in (4096, 1):

@@ -4,7 +4,7 @@ from typing import Optional, Union
 
 import goref
 from goref._tools.charset import readings
-from goref._tools.records import Found, found_in
+from goref._tools.records import Found, found_in, in_words
 
 
 def doubt_of(found: Found) -> Optional[str]:
@@ -13,6 +13,8 @@ def doubt_of(found: Found) -> Optional[str]:
     if text.verdicts is None:
         others = [(name, found_in(found.path, other)) for name, other in readings(text.data, text)]
         text.verdicts = [(name, [one.verdict() for one in games]) for name, games in others]
+    if not text.verdicts:
+        return None
     said = found.verdict()
     for name, verdicts in text.verdicts:
         verdict = verdicts[found.number - 1] if found.number <= len(verdicts) else "no game"
@@ -24,4 +26,4 @@ def doubt_of(found: Found) -> Optional[str]:
 def _words(verdict: Union[goref.Verdict, str]) -> str:
     if isinstance(verdict, str):
         return verdict
-    return f"moves {verdict.moves} score {verdict.score} stated {verdict.stated}"
+    return in_words(*verdict)

@@ -17,7 +17,7 @@ def printable(text: str) -> str:
 
 
 def shortened(text: str, most: int) -> str:
-    """A text of at most so many characters, and how many more there are."""
+    """The first characters of a text, and how many more there are."""
     return text if len(text) <= most else f"{text[:most]}{more(len(text) - most, 'character')}"
 
 

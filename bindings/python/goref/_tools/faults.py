@@ -2,6 +2,7 @@
 
 import os
 import re
+import sys
 
 # These would move the cursor, or turn the line.
 _CONTROL = re.compile("[\0-\x1f\x7f-\x9f\u2028-\u202e\u2066-\u2069]")
@@ -24,8 +25,28 @@ class Fault(Exception):
     """A file or a stream that fails. Its text is the line that is told."""
 
 
+class RefusedFile(Exception):
+    """A file that is refused as a whole. Its text is the line that is told."""
+
+
 class WrongWords(Exception):
     """Words of the command line that don't go together. Its text says why."""
+
+
+def tell(line: str) -> None:
+    """Tells a line on the standard error, where that is open."""
+    try:
+        print(f"goref-tools: {line}", file=sys.stderr, flush=True)
+    except (OSError, ValueError, AttributeError):
+        pass
+
+
+def leave_output() -> None:
+    """Lets the end of the process not complain about an output that nobody reads."""
+    try:
+        os.dup2(os.open(os.devnull, os.O_WRONLY), sys.stdout.fileno())
+    except (OSError, ValueError, AttributeError):
+        pass
 
 
 def fault_of(name: str, why: OSError) -> Fault:

@@ -118,7 +118,7 @@ def replacing(path: str) -> Iterator[IO[bytes]]:
             os.fsync(number)
         os.replace(str(made), target)
         made = None
-        _sync(folder)
+        sync_names(folder)
     except OSError as why:
         raise fault_of(path, why) from None
     finally:
@@ -135,7 +135,8 @@ def _keep(number: int, target: str) -> None:
         old = os.stat(target)
     except FileNotFoundError:
         return
-    if (old.st_uid, old.st_gid) != (os.geteuid(), os.getegid()):
+    new = os.fstat(number)
+    if (old.st_uid, old.st_gid) != (new.st_uid, new.st_gid):
         try:
             os.fchown(number, old.st_uid, old.st_gid)
         except PermissionError:
@@ -143,9 +144,12 @@ def _keep(number: int, target: str) -> None:
     os.fchmod(number, stat.S_IMODE(old.st_mode))
 
 
-def _sync(folder: str) -> None:
-    """Has the disk keep the names of a folder."""
-    number = os.open(folder, os.O_RDONLY)
+def sync_names(folder: str) -> None:
+    """Has the disk keep the names of a folder, where that may be read."""
+    try:
+        number = os.open(folder, os.O_RDONLY)
+    except PermissionError:
+        return
     try:
         os.fsync(number)
     finally:

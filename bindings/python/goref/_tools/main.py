@@ -1,6 +1,7 @@
 """The command goref-tools, which is also `python3 -m goref`."""
 
 import argparse
+import errno
 import io
 import os
 import signal
@@ -9,7 +10,9 @@ import threading
 from importlib import import_module
 from typing import List, Optional, Sequence
 
-from goref._tools.faults import DONE, ENDED, FAULT, INTERRUPTED, WRONG_WORDS, Ended, Fault, WrongWords, shown
+from goref._tools.faults import (
+    DONE, ENDED, FAULT, INTERRUPTED, REFUSED, WRONG_WORDS, Ended, Fault, RefusedFile, WrongWords, leave_output, shown, tell,
+)
 
 WORDS = {
     "judge": "judge each game of records and of folders of records",
@@ -21,6 +24,10 @@ WORDS = {
 }
 
 
+# Faults without a name that no write meets: no process, file or memory more.
+_OF_THE_SYSTEM = (errno.EAGAIN, errno.EMFILE, errno.ENFILE, errno.ENOMEM)
+
+
 def main(arguments: Optional[Sequence[str]] = None) -> int:
     """Runs a word, and gives the status."""
     words = list(sys.argv[1:] if arguments is None else arguments)
@@ -30,22 +37,29 @@ def main(arguments: Optional[Sequence[str]] = None) -> int:
         sys.stdout.flush()
         return status
     except WrongWords as why:
-        return _told(f"goref-tools: {why}", WRONG_WORDS)
-    except Fault as why:
-        return _told(f"goref-tools: {why}", FAULT)
+        return _told(str(why), WRONG_WORDS)
+    except RefusedFile as why:
+        return _told(str(why), REFUSED)
+    except (Fault, ImportError) as why:
+        return _told(str(why), FAULT)
     except MemoryError:
-        return _told("goref-tools: out of memory", FAULT)
-    except ImportError as why:
-        return _told(f"goref-tools: {why}", FAULT)
+        return _told("out of memory", FAULT)
     except OSError as why:
-        name = "standard output" if why.filename is None else shown(os.fsdecode(why.filename))
-        return _told(f"goref-tools: {name}: {why.strerror or why}", _closed(FAULT))
+        leave_output()
+        return _told(_name_of(why) + str(why.strerror or why), FAULT)
     except Ended:
-        return _told("goref-tools: ended", ENDED)
+        return _told("ended", ENDED)
     except KeyboardInterrupt:
-        return _told("goref-tools: interrupted", INTERRUPTED)
+        return _told("interrupted", INTERRUPTED)
     except Exception as why:
-        return _told(f"goref-tools: a fault of its own: {_placed(why)}", FAULT)
+        return _told(f"a fault of its own: {_placed(why)}", FAULT)
+
+
+def _name_of(why: OSError) -> str:
+    """What a fault is of: a file, the standard output, or the system, which has no name."""
+    if why.filename is not None:
+        return shown(os.fsdecode(why.filename)) + ": "
+    return "" if why.errno in _OF_THE_SYSTEM else "standard output: "
 
 
 def _placed(why: Exception) -> str:
@@ -114,20 +128,8 @@ def _end(number: int, frame: object) -> None:
 
 
 def _told(line: str, status: int) -> int:
-    """Tells a line on the standard error, where that is open."""
-    try:
-        print(line, file=sys.stderr, flush=True)
-    except (OSError, ValueError, AttributeError):
-        pass
-    return status
-
-
-def _closed(status: int) -> int:
-    """Lets the end of the process not complain about an output that nobody reads."""
-    try:
-        os.dup2(os.open(os.devnull, os.O_WRONLY), sys.stdout.fileno())
-    except (OSError, ValueError, AttributeError):
-        pass
+    """Tells a line, and gives the status."""
+    tell(line)
     return status
 
 

@@ -6,14 +6,15 @@ import re
 from typing import Awaitable, Callable, Dict, List, NamedTuple, Optional, Set
 
 import goref
+from goref._tools.asking import asked
 from goref._tools.engine import Engine, EngineFailed, EngineLate
 from goref._tools.faults import shown
 from goref._tools.match_outcome import Outcome, Times
-from goref._tools.match_settings import BLACK, NAMES, WHITE, Settings, asked, other, session_of
+from goref._tools.match_settings import BLACK, NAMES, WHITE, Settings, other, session_of
 from goref._tools.responses import Response, in_short
+from goref._tools.spelling import COLUMNS
 
 _WORD = re.compile("[A-Za-z0-9]+")
-_COLUMNS = "ABCDEFGHJKLMNOPQRSTUVWXYZ"
 
 
 class Patience(NamedTuple):
@@ -207,7 +208,7 @@ class Game:
 
 def _value_of(vertex: str, size: int) -> Optional[str]:
     """The value that a record has for a vertex, if that is on the board."""
-    column, row = _COLUMNS.find(vertex[:1]), vertex[1:]
+    column, row = COLUMNS.find(vertex[:1]), vertex[1:]
     if not 0 <= column < size or not row.isdigit() or not 1 <= int(row) <= size:
         return None
     return chr(97 + column) + chr(97 + size - int(row))

@@ -7,6 +7,7 @@ import stat
 from typing import Any, Dict, List, Tuple
 
 from goref._tools.faults import Fault, WrongWords, fault_of, shown
+from goref._tools.files import sync_names
 from goref._tools.match_outcome import Outcome, line_of, outcome_of
 from goref._tools.match_settings import BLACK, WHITE
 
@@ -26,7 +27,7 @@ class Log:
         try:
             self._begin(settings)
             if is_new:
-                _sync_folder_of(path)
+                sync_names(os.path.dirname(os.path.abspath(path)))
         except OSError as why:
             self.close()
             raise fault_of(path, why) from None
@@ -124,12 +125,3 @@ def _whole_lines(path: str) -> Tuple[List[bytes], int]:
 def _head(path: str) -> bytes:
     with open(path, "rb") as file:
         return file.read(1_000_000)
-
-
-def _sync_folder_of(path: str) -> None:
-    """Has the disk keep the file's name."""
-    number = os.open(os.path.dirname(os.path.abspath(path)), os.O_RDONLY)
-    try:
-        os.fsync(number)
-    finally:
-        os.close(number)

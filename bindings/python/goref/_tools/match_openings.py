@@ -4,10 +4,11 @@ import os
 from typing import List, Tuple
 
 import goref
+from goref._tools.asking import asked
 from goref._tools.doubts import doubt_of
 from goref._tools.faults import Fault, shown
 from goref._tools.files import records_in
-from goref._tools.match_settings import BLACK, WHITE, Opening, asked
+from goref._tools.match_settings import BLACK, WHITE, Opening
 from goref._tools.records import games_in
 from goref._tools.spelling import main_line, vertex_of
 

@@ -1,17 +1,8 @@
 """Where a match tells its results and its faults."""
 
-import os
 import sys
 
-from goref._tools.faults import Fault, fault_of
-
-
-def tell(line: str) -> None:
-    """Tells a line on the standard error, where that is open."""
-    try:
-        print(f"goref-tools: {line}", file=sys.stderr, flush=True)
-    except (OSError, ValueError, AttributeError):
-        pass
+from goref._tools.faults import Fault, fault_of, leave_output, tell
 
 
 class Output:
@@ -37,7 +28,4 @@ class Output:
         """Tells the fault, once, and leaves nothing that the end of the process would try to write again."""
         self.has_failed = True
         tell(str(fault_of("standard output", why) if isinstance(why, OSError) else Fault(f"standard output: {why}")))
-        try:
-            os.dup2(os.open(os.devnull, os.O_WRONLY), sys.stdout.fileno())
-        except (OSError, ValueError, AttributeError):
-            pass
+        leave_output()

@@ -2,6 +2,7 @@
 
 import asyncio
 import os
+import re
 import shlex
 import signal
 from concurrent.futures import ThreadPoolExecutor
@@ -9,12 +10,12 @@ from contextlib import contextmanager
 from typing import Callable, Dict, Iterator, List, Optional, Sequence, Set
 
 from goref._tools.engine import Engine, EngineFailed
-from goref._tools.faults import Fault, shown
+from goref._tools.faults import Fault, shown, tell
 from goref._tools.files import replacing
 from goref._tools.match_game import Game, Patience, Played
 from goref._tools.match_log import Log
 from goref._tools.match_outcome import Outcome
-from goref._tools.match_output import Output, tell
+from goref._tools.match_output import Output
 from goref._tools.match_record import Differs, record_of
 from goref._tools.match_settings import BLACK, WHITE, Settings
 
@@ -82,6 +83,11 @@ def digits_of(games: int) -> int:
 def record_path(folder: str, number: int, digits: int) -> str:
     """The file for the record of a game."""
     return os.path.join(folder, f"game-{number:0{digits}}.sgf")
+
+
+def is_record(name: str) -> bool:
+    """Whether a file has the name of such a record."""
+    return re.fullmatch(r"game-[0-9]{4,}\.sgf", name) is not None
 
 
 def line_told(outcome: Outcome) -> str:

@@ -5,7 +5,8 @@ import math
 import re
 from typing import Any, Dict, List, NamedTuple, Optional, Sequence, Tuple
 
-from goref import BadSize, Files, Refused, Session
+from goref import BadSize, Refused, Session
+from goref._tools.asking import asked
 from goref._tools.faults import WrongWords
 
 BLACK, WHITE = "b", "w"
@@ -72,16 +73,6 @@ class Settings(NamedTuple):
             "seconds": self.seconds,
             "openings": [[opening.name, opening.sum()] for opening in self.openings],
         }
-
-
-def asked(session: Session, line: str, files: Files = None) -> str:
-    """The result of a line. Raises Refused, and MemoryError where it is memory that goref lacks."""
-    try:
-        return session.ask(line, files)
-    except Refused as why:
-        if str(why) == "out of memory":
-            raise MemoryError from None
-        raise
 
 
 def session_of(settings: Settings) -> Session:

@@ -63,7 +63,7 @@ function drawLetters(svg, width) {
   }
 }
 
-// The stones after so many moves: goref told what each move changed.
+// The stones after the first moves: goref told what each move changed.
 function stonesAfter(moves) {
   const stones = Array.from(game.start);
   for (const step of game.steps.slice(0, moves)) {

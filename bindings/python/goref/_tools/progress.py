@@ -7,8 +7,10 @@ from typing import Any, Optional
 class Progress:
     """How far a run is, with its rate and the time that is left."""
 
-    def __init__(self, total: int, unit: str) -> None:
-        self._bar: Optional[Any] = _bar(total, unit) if sys.stderr is not None and sys.stderr.isatty() else None
+    def __init__(self, total: Optional[int], unit: str) -> None:
+        """Without a total there is no bar."""
+        is_shown = total is not None and sys.stderr is not None and sys.stderr.isatty()
+        self._bar: Optional[Any] = _bar(total, unit) if is_shown else None
 
     def write(self, text: str, is_fault: bool = False) -> None:
         """Writes a text that ends with a line end, above the bar."""
@@ -29,7 +31,7 @@ class Progress:
             self._bar.close()
 
 
-def _bar(total: int, unit: str) -> Optional[Any]:
+def _bar(total: Optional[int], unit: str) -> Optional[Any]:
     try:
         from tqdm import tqdm
     except ImportError:

@@ -6,7 +6,7 @@ from typing import Iterator, NamedTuple, Optional, Union
 
 import goref
 from goref._tools.charset import Converted, WrongCharset, converted
-from goref._tools.faults import Fault, WrongWords, shown
+from goref._tools.faults import RefusedFile, WrongWords, shown
 from goref._tools.files import contents
 
 _BYTE = re.compile(r"(?<=byte at )[0-9]+|(?<=at byte )[0-9]+")
@@ -44,12 +44,12 @@ def found_in(path: str, text: Converted) -> Iterator[Found]:
 
 
 def games_in(path: str, charset: Optional[str] = None) -> Iterator[Found]:
-    """The games of a file. Raises a Fault where it can't be read, or isn't of the charset."""
+    """The games of a file. Raises a Fault where it can't be read, and RefusedFile where it isn't of the charset."""
     data = contents(path)
     try:
         text = converted(data, charset)
     except WrongCharset as why:
-        raise Fault(f"{shown(path)}: {why}") from None
+        raise RefusedFile(f"{shown(path)}: {why}") from None
     return found_in(path, text)
 
 
@@ -61,6 +61,11 @@ def game_in(path: str, number: int, charset: Optional[str] = None) -> Found:
             return found
         last = found.number
     raise WrongWords(f"{shown(path)}: there is no game {number}, and {last} in all")
+
+
+def in_words(moves: Optional[int], score: Optional[str], stated: Optional[str]) -> str:
+    """A verdict on one line."""
+    return f"moves {moves} score {score} stated {stated}"
 
 
 def say_conversion(found: Found) -> None:

@@ -10,7 +10,7 @@ from typing import Iterator, List, NamedTuple, Optional, Tuple
 _NAME = re.compile(rb"[A-Z]+")
 _STOP = re.compile(rb"\\.|\]", re.S)
 _PART = re.compile("\\\\(\r\n|\n\r|.)|(\r\n|\n\r|\r|\n)|[\t\v\f]", re.S)
-_LETTERS = "ABCDEFGHJKLMNOPQRSTUVWXYZ"
+COLUMNS = "ABCDEFGHJKLMNOPQRSTUVWXYZ"
 
 
 class Property(NamedTuple):
@@ -88,7 +88,7 @@ def _end_of_value(spelling: bytes, place: int) -> int:
 
 
 def text_of(value: bytes) -> str:
-    """What a value says as Text: line breaks stay, those behind a `\\` vanish, and other white space is a space."""
+    """What a value says as Text: line breaks stay, those after a `\\` vanish, and other white space is a space."""
     return _plain(value, "\n").rstrip()
 
 
@@ -113,5 +113,5 @@ def vertex_of(value: bytes, size: int) -> str:
     if letters == b"" or (letters == b"tt" and size <= 19):
         return "pass"
     if len(letters) == 2 and all(97 <= letter < 97 + size for letter in letters):
-        return f"{_LETTERS[letters[0] - 97]}{size - (letters[1] - 97)}"
+        return f"{COLUMNS[letters[0] - 97]}{size - (letters[1] - 97)}"
     raise ValueError(f"no point on {size} lines: {letters!r}")

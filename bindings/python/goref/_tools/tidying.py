@@ -38,11 +38,15 @@ def tidied(data: bytes, charset: Optional[str]) -> Tidied:
     spelled = [_spelled(found) for found in games]
     for name, other in readings(data, text):
         if _shape(b"".join(spelled)) != _shape_of(other):
-            raise Untidy(f"depends on the charset: {text.charset or 'as it is'} and {name} are two records; say --charset")
+            raise Untidy(f"depends on the charset: {_reading(text)} and {name} it is two records; say --charset")
     is_known = text.how not in ("", "unknown") and not data.removeprefix(codecs.BOM_UTF8).isascii()
     if text.charset is not None or is_known:
         spelled = [_in_utf8(one) for one in spelled]
     return Tidied(b"".join(spelled), text, _dropped(games))
+
+
+def _reading(text: Converted) -> str:
+    return f"in {text.charset}" if text.charset else "byte for byte"
 
 
 def _spelled(found: Found) -> bytes:

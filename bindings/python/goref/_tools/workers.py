@@ -74,7 +74,7 @@ def _results(
     most: int,
     is_here: Callable[[Item], bool],
 ) -> Generator[Result, None, None]:
-    """The results in order, with so many batches under way at most."""
+    """The results in order, while at most `most` batches are under way."""
     waiting: Deque[Callable[[], Result]] = deque()
     for batch in batches:
         if any(map(is_here, batch)):

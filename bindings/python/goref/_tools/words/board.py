@@ -29,7 +29,7 @@ status: 0 the board was shown, 1 goref refuses the game before that board, 2 the
 def add_arguments(parser: argparse.ArgumentParser) -> None:
     parser.add_argument("file", metavar="FILE", help="the record, or - for the standard input")
     parser.add_argument("--game", metavar="N", type=natural, default=1, help="the number of the game in the file (1)")
-    parser.add_argument("--move", metavar="N", type=number, help="the board after so many moves (all)")
+    parser.add_argument("--move", metavar="N", type=number, help="the board after the first N moves (all)")
     parser.add_argument("--svg", action="store_true", help="write a picture in SVG")
     parser.add_argument("--numbers", metavar="K", type=number, default=0, help="in SVG number the last K moves (none)")
     add_charset(parser)
@@ -78,7 +78,7 @@ def told(board: Board, last: Optional[Move]) -> str:
 
 
 def _board_in(found: Found, moves: Optional[int]) -> Union[Tuple[Board, List[Move]], str]:
-    """The board after so many moves, and these; or goref's reason why there is none."""
+    """The board after the first moves, and these; or goref's reason why there is none."""
     verdict = found.verdict()
     if isinstance(verdict, str):
         return (None if moves is None else _board_before(found, verdict, moves)) or verdict
@@ -88,7 +88,7 @@ def _board_in(found: Found, moves: Optional[int]) -> Union[Tuple[Board, List[Mov
 
 
 def _board_before(found: Found, reason: str, moves: int) -> Optional[Tuple[Board, List[Move]]]:
-    """The board after so many moves of a refused game, where these come before the refusal."""
+    """The board after the first moves of a refused game, where these come before the refusal."""
     try:
         spelling = goref.tidy(found.game.text)
         before = playable(refusal_of(reason), spelling, main_line(spelling))

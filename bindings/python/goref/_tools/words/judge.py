@@ -16,10 +16,11 @@ A line has the file, the number of the game in it and the verdict, as
   archive/b.sgf:2: move 17 is on a stone
   archive/c.sgf:1: moves 80 score W+3.5 stated agrees (converted from big5, CA)
 
-Where the charset was guessed and the verdict on the bytes as they are is another one, the line says
+Where the charset is in doubt, and a verdict differs from one charset to another, the line says
 `depends on the charset`, and --charset settles it.
 
-status: 0 all games have a verdict, 1 one was refused, 2 wrong words, 3 a file or a stream failed"""
+status: 0 all games have a verdict, 1 one was refused or depends on the charset, 2 wrong words,
+3 a file, a stream or memory failed, or the library is missing"""
 
 
 def add_arguments(parser: argparse.ArgumentParser) -> None:

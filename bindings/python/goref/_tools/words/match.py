@@ -6,11 +6,12 @@ even ones. goref judges each move by the rules of Tromp-Taylor, and scores by ar
 An engine loses by forfeit where it ends, answers no line within a minute or no `genmove` within an hour (unless
 --seconds sets another time), answers by more than 1,000,000 bytes, or plays what isn't legal. A game has no result
 where an engine can't be started, refuses or fails to set its board up, or refuses a legal move of its opponent, and
-where it has more than four moves for each point of the board. An engine that failed is started anew for the next game.
+where it isn't over after four moves for each point of the board. An engine that failed is started anew for the next game.
 
 A line for each game and a table at the end go to the standard output. What engines write to their standard error goes
 to that of the match. The status is 0 where each game has a result, 1 where one has none, 2 where the words are wrong,
-3 where a file or a stream failed, and 130 after an interrupt.
+3 where a file, a stream or memory failed or the library is missing, and after a signal 128 and its number: 130 after an
+interrupt.
 """
 
 import argparse
@@ -19,9 +20,9 @@ import os
 import shlex
 import signal
 import tempfile
-from typing import TYPE_CHECKING, List, Optional, Sequence
+from typing import TYPE_CHECKING, Optional, Sequence
 
-from goref._tools.faults import DONE, FAULT, REFUSED, Fault, WrongWords, fault_of, shown
+from goref._tools.faults import DONE, FAULT, REFUSED, WrongWords, fault_of, shown, tell
 
 if TYPE_CHECKING:
     from goref._tools.match_outcome import Outcome
@@ -73,8 +74,8 @@ def run(given: argparse.Namespace) -> int:
     settings = _settings(given)
     if given.records is not None:
         _try_folder(given.records)
-        if given.log is None:
-            _refuse_records(given.records, given.games)
+        if not _is_begun(given.log):
+            _refuse_records(given.records)
     log = Log(given.log, settings.as_logged()) if given.log is not None else None
     try:
         keeper = Keeper(settings, given.games, log, given.records)
@@ -123,18 +124,26 @@ def _try_folder(folder: str) -> None:
         raise fault_of(folder, why) from None
 
 
-def _refuse_records(folder: str, games: int) -> None:
-    """Refuses to write over records of another match. A log tells which are of this one."""
-    from goref._tools.match_run import digits_of, record_path
+def _is_begun(log: Optional[str]) -> bool:
+    """Whether a log has something of an earlier run."""
+    try:
+        return log is not None and os.path.getsize(log) > 0
+    except OSError:
+        return False
 
-    first = record_path(folder, 1, digits_of(games))
-    if os.path.lexists(first):
-        raise WrongWords(f"{shown(first)} is there: name another folder, or go on by --log")
+
+def _refuse_records(folder: str) -> None:
+    """Refuses to write over records of another match. A log tells which are of this one."""
+    from goref._tools.match_run import is_record
+
+    there = sorted(filter(is_record, os.listdir(folder)))
+    if there:
+        path = shown(os.path.join(folder, there[0]))
+        raise WrongWords(f"{path} is there: name another folder, or go on by the log of its match")
 
 
 def _closing(keeper: "Keeper", settings: "Settings", stopped: Optional[int]) -> int:
     """Tells the table, and gives the status."""
-    from goref._tools.match_output import tell
     from goref._tools.match_table import table_of
 
     outcomes: "Sequence[Outcome]" = [keeper.outcomes[number] for number in sorted(keeper.outcomes)]

@@ -1,9 +1,10 @@
 """Writes the canonical spelling of all games of each file: to the standard output, over the files, or to a folder.
 Folders are searched for files named *.sgf. A file that goref refuses is told and left as it is.
 
-A file that is converted to UTF-8 gets CA[UTF-8]. With --in-place a file is left as it is where its charset is a guess,
-unless --charset says it, and where bytes stand outside of its games, which have no place in the spelling, unless --drop is
-given. A byte-order mark goes without a word."""
+A file that is converted to UTF-8 gets CA[UTF-8]. A file whose spelling depends on its charset is refused until --charset
+says it. With --in-place a file is left as it is where its charset is a guess, unless --charset says it, and where bytes
+stand outside of its games, which have no place in the spelling, unless --drop is given. A byte-order mark goes without a
+word."""
 
 import argparse
 import os
@@ -21,7 +22,8 @@ EXAMPLE = """example:
 With --in-place a new file is written beside the old one, and takes its place when it is on the disk: at any moment the
 name has the old record or the new one, whole. The mode stays.
 
-status: 0 all files are written, 1 one was refused, 2 wrong words, 3 a file or a stream failed"""
+status: 0 all files are written, 1 one was refused or left, 2 wrong words,
+3 a file, a stream or memory failed, or the library is missing"""
 
 
 def add_arguments(parser: argparse.ArgumentParser) -> None:
@@ -65,7 +67,8 @@ def run(given: argparse.Namespace) -> int:
     library()
     places = list(_places(given))
     ends = Ends()
-    progress = Progress(len(places) if given.in_place or given.to else 0, "files")
+    # Where the spellings go to the standard output a bar would stand among them.
+    progress = Progress(len(places) if given.in_place or given.to else None, "files")
     try:
         for place in places:
             told = _told(place, given, ends)

@@ -8,6 +8,7 @@ is no record is a guess, and begins with `Perhaps`. Without --game it tells of t
 import argparse
 from typing import List, Optional
 
+import goref
 from goref._tools.charset import add_charset
 from goref._tools.doubts import doubt_of
 from goref._tools.explain import explained
@@ -19,7 +20,8 @@ EXAMPLE = """example:
   goref-tools why game.sgf
   goref-tools why archive.sgf --game 12
 
-status: 0 nothing is refused, 1 a game is refused, 2 the words are wrong, 3 a file, a stream or memory failed"""
+status: 0 nothing is refused, 1 a game is refused or its verdict depends on the charset, 2 the words are wrong,
+3 a file, a stream or memory failed"""
 
 _STATED = {
     "agrees": "the record states that score",
@@ -44,7 +46,7 @@ def run(given: argparse.Namespace) -> int:
         return DONE
     verdict, doubt = found.verdict(), doubt_of(found)
     if not isinstance(verdict, str):
-        print(_fine(found))
+        print(_fine(found, verdict))
     else:
         print(f"{shown(found.path)}: game {found.number} is refused: {verdict}")
         for line in explained(found):
@@ -60,16 +62,15 @@ def _first_refused(path: str, charset: Optional[str]) -> Optional[Found]:
     for found in games_in(path, charset):
         if found.number == 1:
             say_conversion(found)
-        if isinstance(found.verdict(), str) or doubt_of(found):
+        verdict = found.verdict()
+        if isinstance(verdict, str) or doubt_of(found):
             return found
-        fine.append(_fine(found))
+        fine.append(_fine(found, verdict))
     print("\n".join(fine))
     return None
 
 
-def _fine(found: Found) -> str:
-    verdict = found.verdict()
-    assert not isinstance(verdict, str)
+def _fine(found: Found, verdict: goref.Verdict) -> str:
     moves = "1 move" if verdict.moves == 1 else f"{verdict.moves} moves"
     stated = _STATED[verdict.stated]
     return f"{shown(found.path)}: game {found.number} is fine: {moves}, score {verdict.score}, {stated}"
