@@ -1,12 +1,14 @@
 /* Tries sessions of libgoref where memory fails and where threads pass them on.
  *
  *     handles memory      each request for memory of a session fails in turn, and none is lost
+ *     handles alive       what begins a game anew, and the end of a session, give memory back
  *     handles threads     two threads take sessions from one queue, and all end as they are to
  *
  * It is linked with `-Wl,--wrap=malloc,--wrap=realloc,--wrap=free`. It ends with 1 where something isn't
  * as it is to be, and says what. */
 #define _POSIX_C_SOURCE 200809L
 #include <goref.h>
+#include <malloc.h>
 #include <pthread.h>
 #include <stdio.h>
 #include <stdlib.h>
@@ -16,29 +18,39 @@ void *__real_malloc(size_t size);
 void *__real_realloc(void *old, size_t size);
 void __real_free(void *old);
 
-/* The request that fails, counted from 1, or 0; how many came so far; and blocks that weren't freed. */
-static long fails_at, requests, blocks;
+/* The request that fails, counted from 1, or 0; how many came so far; blocks that weren't freed, and their bytes. */
+static long fails_at, requests, blocks, alive;
+
+static void count(void *block, long sign)
+{
+    if (block != NULL) {
+        __atomic_fetch_add(&blocks, sign, __ATOMIC_SEQ_CST);
+        __atomic_fetch_add(&alive, sign * (long)malloc_usable_size(block), __ATOMIC_SEQ_CST);
+    }
+}
 
 void *__wrap_malloc(size_t size)
 {
     void *block = fails_at != 0 && ++requests == fails_at ? NULL : __real_malloc(size);
-    if (block != NULL)
-        __atomic_fetch_add(&blocks, 1, __ATOMIC_SEQ_CST);
+    count(block, 1);
     return block;
 }
 
 void *__wrap_realloc(void *old, size_t size)
 {
-    void *block = fails_at != 0 && ++requests == fails_at ? NULL : __real_realloc(old, size);
-    if (block != NULL && old == NULL)
-        __atomic_fetch_add(&blocks, 1, __ATOMIC_SEQ_CST);
+    void *block;
+
+    if (fails_at != 0 && ++requests == fails_at)
+        return NULL;
+    count(old, -1);
+    block = __real_realloc(old, size);
+    count(block != NULL ? block : old, 1);
     return block;
 }
 
 void __wrap_free(void *old)
 {
-    if (old != NULL)
-        __atomic_fetch_sub(&blocks, 1, __ATOMIC_SEQ_CST);
+    count(old, -1);
     __real_free(old);
 }
 
@@ -106,13 +118,88 @@ static void memory(void)
     printf("%ld requests failed in turn\n", number - 1);
 }
 
+/* Lines of plays on drawn points, of which many are refused, and no answer's text. */
+enum { PLAYS = 12000 };
+static char drawn[PLAYS * 12];
+
+static void draw(void)
+{
+    unsigned state = 1;
+    size_t end = 0;
+
+    for (int i = 0; i < PLAYS; i++) {
+        state = state * 1103515245u + 12345u;
+        unsigned at = state >> 16;
+        end += (size_t)sprintf(drawn + end, "play %c %c%u\n", at % 2 ? 'b' : 'w', "ABCDEFGHJ"[at / 2 % 9], at / 18 % 9 + 1);
+    }
+}
+
+/* What is alive after some lines. */
+static long after(goref_session *game, const char *text)
+{
+    size_t length = 0;
+
+    see(give(game, text, &length) == 0, "a session that doesn't go on", (long)length);
+    return alive;
+}
+
+/* What a session's room for the answers to the drawn plays takes: as many bytes are refused lines answered. */
+static long answered(void)
+{
+    static char unknown[PLAYS * 12];
+    goref_session game = GOREF_NO_SESSION;
+    size_t length = 0, end = 0;
+    long begun;
+
+    see(goref_open(9, &game) == 0 && give(&game, drawn, &length) == 0, "no session", 0);
+    goref_close(&game);
+    for (size_t bytes = 0; bytes < length; bytes += strlen("? unknown command\n\n"))
+        end += (size_t)sprintf(unknown + end, "x\n");
+    see(goref_open(9, &game) == 0, "no session", 1);
+    begun = alive;
+    begun = after(&game, unknown) - begun;
+    goref_close(&game);
+    return begun;
+}
+
+static void living(void)
+{
+    static const char *const ANEW[] = {"clear_board\n", "boardsize 9\n", "boardsize 19\n", "fixed_handicap 4\nclear_board\n"};
+    static const char MADE[] = "play b b1\nplay w a1\nplay b a2\nplay w e5\nplay b pass\nplay w e6\n";
+    goref_session game = GOREF_NO_SESSION;
+    long begun, played, loaded;
+
+    draw();
+    long room = answered();
+    see(goref_open(9, &game) == 0, "no session", 0);
+    begun = alive;
+    loaded = after(&game, "loadsgf a\n") - begun;
+    goref_close(&game);
+
+    see(goref_open(9, &game) == 0, "no session", 1);
+    for (size_t i = 0; i < sizeof ANEW / sizeof *ANEW; i++) {
+        after(&game, "boardsize 9\n");
+        see(after(&game, drawn) > begun + room + 500000, "a long game that takes nothing", (long)i);
+        see(after(&game, ANEW[i]) <= begun + room + 64, "a long game that isn't given back", (long)i);
+    }
+    played = after(&game, MADE);
+    see(after(&game, "undo\nundo\nundo\nundo\nundo\nundo\n") == played, "an undo that gives memory back", played);
+    see(after(&game, MADE) == played, "moves that want what an undo kept", played);
+
+    after(&game, "boardsize 9\n");
+    after(&game, drawn);
+    see(after(&game, "loadsgf a\n") <= begun + loaded + room + 64, "a record that keeps the game before", loaded);
+    goref_close(&game);
+    see(alive == 0 && blocks == 0, "memory that isn't given back", alive);
+}
+
 enum { GAMES = 200, MOVES = 120, THREADS = 2 };
 
 static struct entry {
     goref_session game;
     int moves;
 } queue[GAMES];
-static int waiting[GAMES], first, count;
+static int waiting[GAMES], first, waiters;
 static pthread_mutex_t lock = PTHREAD_MUTEX_INITIALIZER;
 
 /* The game that waits longest, or -1 where none does. */
@@ -120,10 +207,10 @@ static int taken(void)
 {
     int game = -1;
     pthread_mutex_lock(&lock);
-    if (count > 0) {
+    if (waiters > 0) {
         game = waiting[first];
         first = (first + 1) % GAMES;
-        count--;
+        waiters--;
     }
     pthread_mutex_unlock(&lock);
     return game;
@@ -132,7 +219,7 @@ static int taken(void)
 static void handed_on(int game)
 {
     pthread_mutex_lock(&lock);
-    waiting[(first + count++) % GAMES] = game;
+    waiting[(first + waiters++) % GAMES] = game;
     pthread_mutex_unlock(&lock);
 }
 
@@ -176,6 +263,8 @@ int main(int words, char **word)
 {
     if (words == 2 && strcmp(word[1], "memory") == 0)
         memory();
+    else if (words == 2 && strcmp(word[1], "alive") == 0)
+        living();
     else if (words == 2 && strcmp(word[1], "threads") == 0)
         threads();
     else
