@@ -4,7 +4,7 @@
 For each word of a contract, as go_sgf.specs.Spelling.Spells, it follows the words that its
 definition cites, and prints how many definitions there are in all, how many lines they have, and
 the files that have them, with the lines in each. Without a word it does so for the claims of
-reading.md. Definitions of the kit, as those of lists, and the types of the sources aren't counted.
+proofs.md. Definitions of the kit, as those of lists, and the types of the sources aren't counted.
 """
 
 import re
@@ -135,6 +135,8 @@ def closure(crate, path, word):
 
 
 def report(claim, word):
+    if word.count(".") < 2:
+        sys.exit(f"{word}: a word is a crate, a module and a name, as go_sgf.specs.Spelling.Spells")
     crate, rest = word.split(".", 1)
     path, name = rest.rsplit(".", 1)
     found = closure(crate, path, name)

@@ -21,7 +21,7 @@ for name in names:
 
 
 def least(work):
-    """The least time of so many rounds, in microseconds a record."""
+    """The least time of the rounds, in microseconds a record."""
     best = None
     for _ in range(int(rounds)):
         start = time.process_time()

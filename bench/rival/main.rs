@@ -1,5 +1,5 @@
-//! A small engine that is written for speed, to compare `goref gtp` with: see README.md. `rival script LINES GAMES
-//! SEED` writes the plays of drawn games. Nothing of it is proved.
+//! A small engine that is written for speed, to compare `goref gtp` with: see bench/README.md. `rival script LINES
+//! GAMES SEED` writes the plays of drawn games. Nothing of it is proved.
 
 mod board;
 mod cells;

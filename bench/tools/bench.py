@@ -1,4 +1,4 @@
-"""Times goref-tools: bench.py FOLDER-OF-JUDGE FOLDER-OF-RECORDS ROUNDS. See README.md."""
+"""Times goref-tools: bench.py FOLDER-OF-JUDGE FOLDER-OF-RECORDS ROUNDS. See bench/README.md."""
 
 import os
 import resource
@@ -29,7 +29,7 @@ def medians(runs, rounds):
 
 
 def counted(processes):
-    """How long so many processes take by the clock that do nothing but count, all at once."""
+    """How long some processes take by the clock that do nothing but count, all at once."""
     words = [sys.executable, "-c", "for _ in range(20_000_000): pass"]
     start = time.perf_counter()
     running = [subprocess.Popen(words) for _ in range(processes)]
