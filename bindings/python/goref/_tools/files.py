@@ -39,7 +39,8 @@ def _walk(top: str) -> Iterator[Union[str, Fault]]:
             except OSError as why:
                 yield fault_of(os.fspath(entry), why)
         elif entry.name.lower().endswith(".sgf"):
-            yield from _record(entry.path)
+            # What the folder itself tells to be a file is not asked for once more.
+            yield from (entry.path,) if entry.is_file(follow_symlinks=False) else _record(entry.path)
 
 
 def _inside(folder: str) -> "List[os.DirEntry[str]]":

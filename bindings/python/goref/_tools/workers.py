@@ -17,8 +17,8 @@ Item = TypeVar("Item")
 Result = TypeVar("Result")
 
 _SIGNALS = (signal.SIGINT, signal.SIGTERM)
-_AT_ONCE = 32
-"""How many items a process is given together."""
+_AT_ONCE = range(32, 129)
+"""How many items a process is given together, at least and at most."""
 
 
 def processors() -> int:
@@ -36,8 +36,9 @@ def in_order(
 
     When the caller goes on to nothing more, the processes are ended.
     """
-    batches = _batches(items)
-    if jobs == 1 or len(items) <= _AT_ONCE:
+    at_once = min(max(len(items) // (8 * jobs), _AT_ONCE[0]), _AT_ONCE[-1])
+    batches = _batches(items, at_once)
+    if jobs == 1 or len(items) <= at_once:
         yield from map(work, batches)
     else:
         yield from _by_processes(work, batches, jobs, is_here)
@@ -98,12 +99,12 @@ def _submitted(
         signal.pthread_sigmask(signal.SIG_SETMASK, held)
 
 
-def _batches(items: Iterable[Item]) -> Iterator[List[Item]]:
+def _batches(items: Iterable[Item], at_once: int) -> Iterator[List[Item]]:
     left = iter(items)
-    batch = list(islice(left, _AT_ONCE))
+    batch = list(islice(left, at_once))
     while batch:
         yield batch
-        batch = list(islice(left, _AT_ONCE))
+        batch = list(islice(left, at_once))
 
 
 def _begin() -> None:
