@@ -125,7 +125,9 @@ impl<A: Allocator + Copy> Session<A> {
         }
     }
 
-    /// Decides on `loadsgf`, which both games are for.
+    /// Decides on `loadsgf`, which both games are for. It has a frame of its own, since the second game
+    /// is made in it: each line would pay for that.
+    #[inline(never)]
     fn decide_load(&mut self, request: &Request, fetched: &Fetched<A>) -> Decision
         ensures { DecidesLoad self.old (load_of request.now.arguments) (content_of fetched.now)
             (record { decision = result; standing = self.new }) }
