@@ -17,8 +17,8 @@ Item = TypeVar("Item")
 Result = TypeVar("Result")
 
 _SIGNALS = (signal.SIGINT, signal.SIGTERM)
-_AT_ONCE = range(32, 129)
-"""How many items a process is given together, at least and at most."""
+_LEAST_AT_ONCE, _MOST_AT_ONCE = 32, 128
+"""How many items a process is given together."""
 
 
 def processors() -> int:
@@ -36,7 +36,7 @@ def in_order(
 
     When the caller goes on to nothing more, the processes are ended.
     """
-    at_once = min(max(len(items) // (8 * jobs), _AT_ONCE[0]), _AT_ONCE[-1])
+    at_once = min(max(len(items) // (8 * jobs), _LEAST_AT_ONCE), _MOST_AT_ONCE)
     batches = _batches(items, at_once)
     if jobs == 1 or len(items) <= at_once:
         yield from map(work, batches)
