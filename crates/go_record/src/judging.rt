@@ -7,15 +7,15 @@ ghost use Rattle.go_record.specs.Games.{IsGameOf};
 ghost use Rattle.go_record.specs.Verdicts.{IsStated, IsVerdict, is_number_first, margin_spelled, size_spelled};
 ghost use Rattle.go_sgf.specs.Cooked.{cooked_simple};
 ghost use Rattle.go_sgf.specs.Numbers.{trimmed};
-ghost use Rattle.go_sgf.specs.Record.{Trees};
-ghost use Rattle.go_sgf.specs.Spelling.{Spells};
+ghost use Rattle.go_sgf.specs.Spelling.{OfRecord};
 
 use crate::error::RecordError;
 use crate::replaying::walk_on;
 use crate::root::{root_of, root_values};
 use crate::verdict::{Stated, Verdict};
 use go_game::Game;
-use go_sgf::{Collection, cook_simple, hundredths_of, trim};
+use go_sgf::laws::one_record;
+use go_sgf::{Checked, Collection, cook_simple, hundredths_of, trim};
 use std::alloc::{AllocError, Allocator};
 
 /// The verdict on a record: its game's moves and margin, and whether that is the margin that its RE
@@ -30,15 +30,18 @@ pub fn judge<A: Allocator + Copy>(
     ensures err { IfErr result
         (λ e. e ≢ Memory → IsGameOf collection.now None (Err e)) }
 {
-    judge_source(alloc, collection.source())
+    one_record();
+    judge_source(alloc, &collection.checked())
 }
 
 /// The verdict on the record that a source spells, as [`judge`] gives it, without lists of its parts.
-/// Of a source that spells no record nothing is said.
-pub fn judge_source<A: Allocator + Copy>(alloc: A, source: &[u8]) -> Result<Verdict, RecordError>
-    ensures ok { (c : Trees) → Spells source.now c → IfOk result (IsVerdict c) }
-    ensures err { (c : Trees) → Spells source.now c
-        → IfErr result (λ e. e ≢ Memory → IsGameOf c None (Err e)) }
+pub fn judge_source<A: Allocator + Copy>(
+    alloc: A,
+    source: &Checked<'_>,
+) -> Result<Verdict, RecordError>
+    ensures ok { OfRecord source.now (λ c. IfOk result (IsVerdict c)) }
+    ensures err { OfRecord source.now (λ c. IfErr result
+        (λ e. e ≢ Memory → IsGameOf c None (Err e))) }
 {
     let values = root_values(source);
     let stated = margin_stated(alloc, values.result)?;

@@ -8,7 +8,7 @@ ghost use Rattle.go_record.specs.MainLine.{events_from};
 ghost use Rattle.go_record.specs.inner.Progress.{Says, Walked, left_by};
 ghost use Rattle.go_sgf.specs.MainLine.{main_line};
 ghost use Rattle.go_sgf.specs.Record.{Trees};
-ghost use Rattle.go_sgf.specs.Spelling.{Spells};
+ghost use Rattle.go_sgf.specs.Spelling.{OfRecord, Spells};
 
 use crate::error::RecordError;
 use crate::root::{Root, root_of, root_values};
@@ -16,7 +16,8 @@ use crate::state::{Left, Walk};
 use crate::walk::next;
 use go_board::Grid;
 use go_game::Game;
-use go_sgf::{Collection, MainLine};
+use go_sgf::laws::one_record;
+use go_sgf::{Checked, Collection, MainLine};
 use std::alloc::Allocator;
 
 /// The game of a record: that of the main line of its first tree, with the size, komi and start
@@ -33,20 +34,20 @@ pub fn replay<A: Allocator + Copy>(
     ensures err { IfErr result
         (λ e. e ≢ Memory → IsGameOf collection.now number (Err e)) }
 {
-    replay_source(alloc, collection.source(), number)
+    one_record();
+    replay_source(alloc, &collection.checked(), number)
 }
 
 /// The game of the record that a source spells, as [`replay`] gives it, without lists of its parts.
-/// Of a source that spells no record nothing is said.
 pub fn replay_source<A: Allocator + Copy>(
     alloc: A,
-    source: &[u8],
+    source: &Checked<'_>,
     number: Option<u32>,
 ) -> Result<Game<A>, RecordError>
-    ensures ok { (c : Trees) → Spells source.now c → IfOk result
-        (λ game. IsGameOf c number (Ok game.standing)) }
-    ensures err { (c : Trees) → Spells source.now c → IfErr result
-        (λ e. e ≢ Memory → IsGameOf c number (Err e)) }
+    ensures ok { OfRecord source.now (λ c. IfOk result
+        (λ game. IsGameOf c number (Ok game.standing))) }
+    ensures err { OfRecord source.now (λ c. IfErr result
+        (λ e. e ≢ Memory → IsGameOf c number (Err e))) }
 {
     let root = root_of(&root_values(source))?;
     let mut game = Game::new(alloc, root.size);
@@ -66,19 +67,20 @@ pub fn replay_on<A: Allocator + Copy>(
         (λ e. e ≢ Memory → IsGameOf collection.now number (Err e)) }
     ensures vacant { OnErr result (is_vacant_standing game.new.standing ≡ true) }
 {
-    replay_source_on(game, collection.source(), number)
+    one_record();
+    replay_source_on(game, &collection.checked(), number)
 }
 
 /// Brings a game to where [`replay_source`] does, in place. Where that refuses, the game is vacant.
 pub fn replay_source_on<A: Allocator + Copy>(
     game: &mut Game<A>,
-    source: &[u8],
+    source: &Checked<'_>,
     number: Option<u32>,
 ) -> Result<(), RecordError>
-    ensures ok { (c : Trees) → Spells source.now c → OnOk result
-        (IsGameOf c number (Ok game.new.standing)) }
-    ensures err { (c : Trees) → Spells source.now c → IfErr result
-        (λ e. e ≢ Memory → IsGameOf c number (Err e)) }
+    ensures ok { OfRecord source.now (λ c. OnOk result
+        (IsGameOf c number (Ok game.new.standing))) }
+    ensures err { OfRecord source.now (λ c. IfErr result
+        (λ e. e ≢ Memory → IsGameOf c number (Err e))) }
     ensures vacant { OnErr result (is_vacant_standing game.new.standing ≡ true) }
 {
     match bring(game, source, number) {
@@ -93,13 +95,13 @@ pub fn replay_source_on<A: Allocator + Copy>(
 /// Brings a game to where a record's game stands, or to where the walk along it was refused.
 fn bring<A: Allocator + Copy>(
     game: &mut Game<A>,
-    source: &[u8],
+    source: &Checked<'_>,
     number: Option<u32>,
 ) -> Result<(), RecordError>
-    ensures ok { (c : Trees) → Spells source.now c → OnOk result
-        (IsGameOf c number (Ok game.new.standing)) }
-    ensures err { (c : Trees) → Spells source.now c → IfErr result
-        (λ e. e ≢ Memory → IsGameOf c number (Err e)) }
+    ensures ok { OfRecord source.now (λ c. OnOk result
+        (IsGameOf c number (Ok game.new.standing))) }
+    ensures err { OfRecord source.now (λ c. IfErr result
+        (λ e. e ≢ Memory → IsGameOf c number (Err e))) }
 {
     let root = root_of(&root_values(source))?;
     walk_on(game, &root, source, number)
@@ -109,7 +111,7 @@ fn bring<A: Allocator + Copy>(
 pub(crate) fn walk_on<A: Allocator + Copy>(
     game: &mut Game<A>,
     root: &Root,
-    source: &[u8],
+    source: &Checked<'_>,
     number: Option<u32>,
 ) -> Result<(), RecordError>
     ensures ok { (c : Trees) → Spells source.now c → Says c root.now.size root.now.komi
@@ -139,15 +141,16 @@ fn left_of(number: Option<u32>) -> Left
     }
 }
 
-/// Passes the main line of the record that a source spells, as far as it is looked at.
+/// Passes the main line of a record, as far as it is looked at.
 fn pass_line<A: Allocator + Copy>(
     walk: &mut Walk,
     game: &mut Game<A>,
-    source: &[u8],
+    source: &Checked<'_>,
 ) -> Result<(), RecordError>
     ensures { (c : Trees) → Spells source.now c → Walked result (walk.old, game.old)
         (events_from 0 (main_line c)) (walk.new, game.new) }
 {
+    one_record();
     let mut line = MainLine::of(source);
     let mut count = 0;
     while line.next_node() {

@@ -6,12 +6,12 @@ ghost use Rattle.go_record.specs.inner.Progress.{AreFoundOf, IsRootOf, Says, val
 ghost use Rattle.go_record.specs.Games.{IsGameOf, first_node, is_blank_value, is_go_value, is_number_one, komi_in, lines_in, number_by, number_of_both};
 ghost use Rattle.go_record.specs.MainLine.{leading_value};
 ghost use Rattle.go_sgf.specs.Record.{Property, Trees};
-ghost use Rattle.go_sgf.specs.Spelling.{Spells};
+ghost use Rattle.go_sgf.specs.Spelling.{OfRecord};
 
 use crate::error::RecordError;
-use crate::values::{first_value, skip_values};
+use crate::values::first_value;
 use go_board::Size;
-use go_sgf::{MainLine, hundredths_of, is_named, number_of};
+use go_sgf::{Checked, MainLine, hundredths_of, is_named, number_of};
 
 /// The lines of a board whose record says nothing of them.
 pub const USUAL_LINES: u8 = 19;
@@ -30,11 +30,10 @@ pub(crate) struct RootValues<'a> {
     pub(crate) result: &'a [u8],
 }
 
-/// The values at the root of the record that a source spells. It stays out of what calls it, as
-/// `margin_stated` does.
+/// The values at the root of a record. It stays out of what calls it, as `margin_stated` does.
 #[inline(never)]
-pub(crate) fn root_values(source: &[u8]) -> RootValues<'_>
-    ensures { (c : Trees) → Spells source.now c → IsRootOf result c }
+pub(crate) fn root_values<'a>(source: &Checked<'a>) -> RootValues<'a>
+    ensures { OfRecord source.now (IsRootOf result) }
 {
     let mut line = MainLine::of(source);
     let mut found = Found::nothing();
@@ -47,7 +46,6 @@ pub(crate) fn root_values(source: &[u8]) -> RootValues<'_>
         if found.is_whole() {
             return found.values();
         }
-        skip_values(&mut line);
     }
     found.values()
 }

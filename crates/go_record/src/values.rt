@@ -19,12 +19,3 @@ pub(crate) fn first_value<'a>(line: &mut MainLine<'a>) -> &'a [u8]
         None => b"",
     }
 }
-
-/// Passes the values of a property that are left.
-pub(crate) fn skip_values(line: &mut MainLine<'_>)
-    ensures line { (later : List Property) (nodes : List (List Property))
-        → IsAmongValues line.old later nodes → IsLeft line.new [] later nodes }
-    ensures onward { length line.new ≤ length line.old }
-{
-    while let Some(_) = line.next_value() {}
-}

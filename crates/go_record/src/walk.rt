@@ -17,7 +17,7 @@ use crate::kind::{Kind, kind_of};
 use crate::moves::MovesMet;
 use crate::start::{colour_of, first_mover, set_points};
 use crate::state::{Left, Walk};
-use crate::values::{first_value, skip_values};
+use crate::values::first_value;
 use go_board::{Colour, Grid, Move, Vertex};
 use go_game::{Game, PlayError, SetupError};
 use go_sgf::{MainLine, point_of};
@@ -67,7 +67,6 @@ impl Walk {
         let mut moves = MovesMet::NoMove;
         while let Some(name) = line.next_name() {
             self.pass_setup(kind_of(name), line, node, &mut moves)?;
-            skip_values(line);
         }
         Ok(moves)
     }
@@ -116,7 +115,6 @@ impl Walk {
     {
         while let Some(name) = line.next_name() {
             self.pass_move(game, kind_of(name), line, node)?;
-            skip_values(line);
         }
         Ok(())
     }

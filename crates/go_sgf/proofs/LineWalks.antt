@@ -335,3 +335,8 @@ node_missing (Some x) b e h = tt
 pub name_some : (name behind : List ℕ) → is_letter_first (name ++ behind) ≡ true → is_letter_first behind ≡ false → 1 ≤ length name
 name_some [] behind e f = absurd (true≢false (sym e ∙ f))
 name_some (c ∷ cs) behind e f = omega arith
+
+-- what is left after white space begins with none
+pub none_again : (r : Option (Bor (List ℕ))) (b here : List ℕ) → IfNone r (here ≡ without_space b) → IfNone r (here ≡ without_space here)
+none_again None b here h = h ∙ sym (ap without_space h ∙ after_space-again b)
+none_again (Some x) b here h = tt

@@ -30,7 +30,7 @@ pub record IsLeft (text : List ℕ) (values : List (List ℕ)) (properties : Lis
 abbrev pub NextNode : Bool → List (List Property) → List ℕ → Type 0
 NextNode true nodes text = (properties : List Property) × (later : List (List Property))
     × (nodes ≡ properties ∷ later) × IsLeft text [] properties later
-NextNode false nodes text = nodes ≡ []
+NextNode false nodes text = (nodes ≡ []) × IsLeft text [] [] []
 
 -- a property's name was read, or none is left in the node
 abbrev pub NextName : Option (Bor (List ℕ)) → List Property → List (List Property) → List ℕ → Type 0

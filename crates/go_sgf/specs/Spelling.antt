@@ -67,6 +67,10 @@ pub record Spells (b : List ℕ) (c : Trees) : Type 0 where
   pub spelling : SpellsParts (tree_in b) (parts c) rest
   pub ended : is_tree_first rest ≡ false
 
+-- the source spells a record, of which this holds
+abbrev pub OfRecord : List ℕ → (Trees → Type 0) → Type 0
+OfRecord b P = (c : Trees) × Spells b c × P c
+
 -- the text of parts with nothing between them
 abbrev pub text_of_parts : List Part → List ℕ
 text_of_parts ps = flat_map text ps

@@ -1,7 +1,8 @@
 //! Records of games in the Smart Game Format: read, written, and the values in them.
 //!
 //! - [`read`], [`SgfError`]: a record from its bytes, or why they are none, and at which byte.
-//! - [`check`]: the same answer, with nothing kept and no memory taken.
+//! - [`check`], [`Checked`]: the same answer, with nothing kept and no memory taken; what goes over a
+//!   source itself takes one that was checked.
 //! - [`next_tree`], [`TreeSpan`], [`tree_begin`]: where the game trees of a source stand, one after
 //!   another, with anything between them.
 //! - [`Collection`], [`Tree`], [`Node`], [`Property`]: the parts of a record, as lists of the parts
@@ -19,7 +20,7 @@
 //! write(&collection, &mut writer)?;
 //! ```
 //!
-//! What is promised is in the clauses of `reader.rt`, `writer.rt`, `game_trees.rt`, `record.rt`,
+//! What is promised is in the clauses of `reader.rt`, `checked.rt`, `writer.rt`, `game_trees.rt`, `record.rt`,
 //! `nodes.rt`, `main_line.rt` and the files of values: `numbers.rt`, `hundredths.rt`, `points.rt`,
 //! `rectangle.rt` and `cooking.rt`. Their words are in `specs/`: `Spelling` says which bytes spell a
 //! record, `Record` what it is as plain data, `View` which of that the types stand for, `MainLine`
@@ -29,6 +30,7 @@
 //! What `specs/inner/` defines serves private functions alone.
 #![tactic(auto)]
 
+mod checked;
 mod cooking;
 mod error;
 mod few;
@@ -50,6 +52,7 @@ mod values;
 mod verbatim;
 mod writer;
 
+pub use checked::Checked;
 pub use cooking::{cook_simple, cook_text, escape};
 pub use error::SgfError;
 pub use game_trees::{TreeSpan, next_tree, tree_begin};

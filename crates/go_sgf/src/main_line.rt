@@ -1,17 +1,18 @@
 //! A cursor along a record's main line, which takes the first child at each branch. It reads names and values
-//! from the source itself, so it builds no lists.
+//! from the source itself, so it builds no lists. Each step passes what is left before it, so no order of steps
+//! leads astray.
 ghost use Rattle.std.specs.Prelude.{◌≡◌, ◌<◌, ◌≤◌, ℕ, List, [], IfNone, IfSome, IsFalse, IsTrue, length, true};
 ghost use Rattle.go_sgf.specs.MainLine.{IsLeft, NextName, NextNode, NextValue, main_line};
-ghost use Rattle.go_sgf.specs.Record.{Property, Trees};
-ghost use Rattle.go_sgf.specs.Spelling.{Spells, without_space};
+ghost use Rattle.go_sgf.specs.Record.{Property};
+ghost use Rattle.go_sgf.specs.Spelling.{OfRecord, without_space};
 
+use crate::checked::Checked;
 use crate::scan::{after_space, begins_letter, from_tree, name_at, strip};
 use crate::values::value;
 use std::marker::Model;
 
 /// A walk along the main line of a record, from node to node, in a node from property to property,
-/// and in a property from value to value. It goes over the source itself, so it takes no memory. Of
-/// a source that spells no record nothing is said.
+/// and in a property from value to value. It goes over the source itself, so it takes no memory.
 #[derive(Drop)]
 pub struct MainLine<'a> {
     rest: &'a [u8],
@@ -26,11 +27,11 @@ impl<'a> Model for MainLine<'a> {
 }
 
 impl<'a> MainLine<'a> {
-    /// The walk along the main line of the record that a source spells, before its first node.
-    pub fn of(source: &'a [u8]) -> MainLine<'a>
-        ensures { (c : Trees) → Spells source.now c → IsLeft result [] [] (main_line c) }
+    /// The walk along the main line of a record, before its first node.
+    pub fn of(source: &Checked<'a>) -> MainLine<'a>
+        ensures { OfRecord source.now (λ c. IsLeft result [] [] (main_line c)) }
     {
-        match strip(from_tree(source), b'(') {
+        match strip(from_tree(source.source()), b'(') {
             Some(rest) => MainLine { rest },
             None => MainLine { rest: &[] },
         }
@@ -43,14 +44,16 @@ impl<'a> MainLine<'a> {
         MainLine { rest: self.rest }
     }
 
-    /// Enters the next node, from behind the last property of the one before. False where the line
-    /// has no more of them.
+    /// Enters the next node, past what is left of the one before. False where the line has no more
+    /// of them.
     pub fn next_node(&mut self) -> bool
-        ensures next { (nodes : List (List Property)) → IsLeft self.old [] [] nodes
+        ensures next { (values : List (List ℕ)) (properties : List Property)
+            (nodes : List (List Property)) → IsLeft self.old values properties nodes
             → NextNode result nodes self.new }
         ensures shorter { IsTrue result → length self.new < length self.old }
-        ensures same { IsFalse result → self.new ≡ self.old }
+        ensures onward { length self.new ≤ length self.old }
     {
+        self.pass_properties();
         match to_node(self.rest) {
             Some(inside) => {
                 self.rest = inside;
@@ -60,24 +63,19 @@ impl<'a> MainLine<'a> {
         }
     }
 
-    /// The name of the node's next property, as it is written, from behind the last value of the
+    /// The name of the node's next property, as it is written, past the values that are left of the
     /// one before. None where the node has no more of them, and then the white space before what
     /// comes next is passed.
     pub fn next_name(&mut self) -> Option<&'a [u8]>
-        ensures next { (properties : List Property) (nodes : List (List Property))
-            → IsLeft self.old [] properties nodes → NextName result properties nodes self.new }
+        ensures next { (values : List (List ℕ)) (properties : List Property)
+            (nodes : List (List Property)) → IsLeft self.old values properties nodes
+            → NextName result properties nodes self.new }
         ensures shorter { IfSome result (λ _. length self.new < length self.old) }
-        ensures none { IfNone result (self.new ≡ without_space self.old) }
+        ensures none { IfNone result (self.new ≡ without_space self.new) }
         ensures onward { length self.new ≤ length self.old }
     {
-        let here = after_space(self.rest);
-        if !begins_letter(here) {
-            self.rest = here;
-            return None;
-        }
-        let (name, behind, _) = name_at(here);
-        self.rest = behind;
-        Some(name)
+        self.pass_values();
+        self.name_here()
     }
 
     /// The property's next value, without its brackets. None where it has no more of them, and then
@@ -96,6 +94,44 @@ impl<'a> MainLine<'a> {
         let (value, behind) = value(inside)?;
         self.rest = behind;
         Some(value)
+    }
+
+    /// Passes the values of the property that are left.
+    fn pass_values(&mut self)
+        ensures line { (values : List (List ℕ)) (properties : List Property)
+            (nodes : List (List Property)) → IsLeft self.old values properties nodes
+            → IsLeft self.new [] properties nodes }
+        ensures onward { length self.new ≤ length self.old }
+    {
+        while let Some(_) = self.next_value() {}
+    }
+
+    /// Passes the properties of the node that are left.
+    fn pass_properties(&mut self)
+        ensures line { (values : List (List ℕ)) (properties : List Property)
+            (nodes : List (List Property)) → IsLeft self.old values properties nodes
+            → IsLeft self.new [] [] nodes }
+        ensures onward { length self.new ≤ length self.old }
+    {
+        while let Some(_) = self.next_name() {}
+    }
+
+    /// The name of the next property, where no value of the one before is left.
+    fn name_here(&mut self) -> Option<&'a [u8]>
+        ensures next { (properties : List Property) (nodes : List (List Property))
+            → IsLeft self.old [] properties nodes → NextName result properties nodes self.new }
+        ensures shorter { IfSome result (λ _. length self.new < length self.old) }
+        ensures none { IfNone result (self.new ≡ without_space self.old) }
+        ensures onward { length self.new ≤ length self.old }
+    {
+        let here = after_space(self.rest);
+        if !begins_letter(here) {
+            self.rest = here;
+            return None;
+        }
+        let (name, behind, _) = name_at(here);
+        self.rest = behind;
+        Some(name)
     }
 }
 

@@ -11,6 +11,7 @@ ghost use Rattle.go_sgf.specs.Spelling.{Spells, without_space};
 ghost use Rattle.go_sgf.specs.Stands.{closed, in_node, named, opened};
 ghost use Rattle.go_sgf.specs.View.{chain, trees_of};
 
+use crate::checked::Checked;
 use crate::error::{Fault, SgfError};
 use crate::few::Few;
 use crate::keep::{Keep, Lists, Nothing};
@@ -331,14 +332,15 @@ pub fn read<'a, A: Allocator + Copy>(
     Ok(Collection { source, trees })
 }
 
-/// Whether a source spells a record. It is read as by [`read`], with the same errors but `Memory`:
+/// A source that spells a record. It is read as by [`read`], with the same errors but `Memory`:
 /// nothing of it is kept, and no memory is taken.
-pub fn check(source: &[u8]) -> Result<(), SgfError>
+pub fn check(source: &[u8]) -> Result<Checked<'_>, SgfError>
     ensures too_long { (result ≡ Err SgfError.TooLong) ↔ (MAX_RECORD < length source.now) }
+    ensures source { IfOk result (λ checked. checked ≡ source.now) }
     ensures read { OnOk result ((c : Trees) × Spells source.now c) }
     ensures refused { IfErr result (IsRefusal source.now) }
     ensures no_memory { IsErrOf result SgfError.Memory → ⊥ }
 {
     trees(Nothing, source)?;
-    Ok(())
+    Ok(Checked { source })
 }

@@ -4,6 +4,7 @@ ghost use Rattle.std.specs.Prelude.{◌≡◌, ◌≢◌, []};
 ghost use Rattle.go_sgf.specs.Spelling.{Spells};
 ghost use Rattle.go_sgf.specs.View.{tree_of, trees_of};
 
+use crate::checked::Checked;
 use crate::nodes::{Node, Sequence};
 use std::alloc::Allocator;
 use std::marker::Model;
@@ -43,6 +44,15 @@ impl<'a, A: Allocator + Copy> Collection<'a, A> {
         ensures { Spells result.now self.now }
     {
         self.source
+    }
+
+    /// The source, as one that was checked.
+    pub fn checked(&self) -> Checked<'a>
+        ensures { Spells result self.now }
+    {
+        Checked {
+            source: self.source,
+        }
     }
 
     /// The trees, in the source's order. There is at least one.

@@ -5,8 +5,10 @@ ghost use Rattle.go_board.specs.Device.{Sent, failures_after};
 ghost use Rattle.go_board.specs.Pens.{Writes};
 ghost use Rattle.go_sgf.specs.inner.Tidied.{Outside, behind_from, tidied_from};
 ghost use Rattle.go_sgf.specs.Record.{Trees};
-ghost use Rattle.go_sgf.specs.Spelling.{Spells, canonical, without_space};
+ghost use Rattle.go_sgf.specs.Spelling.{OfRecord, Spells, canonical, without_space};
 
+use crate::checked::Checked;
+use crate::laws::one_record;
 use crate::record::Collection;
 use crate::scan::{after_space, behind_left_out, from_tree, strip_tree};
 use crate::verbatim::verbatim;
@@ -23,20 +25,20 @@ pub fn write<A: Allocator + Copy, W: Sink>(
         (canonical collection.now) }
     ensures failures { W.failures writer.new ≡ failures_after result (W.failures writer.old) }
 {
-    tidy(collection.source, writer)
+    one_record();
+    tidy(&collection.checked(), writer)
 }
 
 /// Writes the canonical spelling of the record that a source spells: each tree and LF, names by
 /// their upper-case letters alone, values as they are, and no other byte. On a fault the device
-/// took a front of that text. It takes no memory. What is written of a source that spells no record
-/// isn't said.
-pub fn tidy<W: Sink>(source: &[u8], writer: &mut W) -> Result<(), WriteFault>
-    ensures sent { (c : Trees) → Spells source.now c
-        → Sent result (W.taken writer.old) (W.taken writer.new) (canonical c) }
+/// took a front of that text. It takes no memory.
+pub fn tidy<W: Sink>(source: &Checked<'_>, writer: &mut W) -> Result<(), WriteFault>
+    ensures sent { OfRecord source.now (λ c.
+        Sent result (W.taken writer.old) (W.taken writer.new) (canonical c)) }
     ensures failures { W.failures writer.new ≡ failures_after result (W.failures writer.old) }
 {
     let mut pen = Pen::new(writer);
-    put_trees(source, &mut pen);
+    put_trees(source.source(), &mut pen);
     pen.finish()
 }
 

@@ -22,11 +22,12 @@ pub(crate) fn tidy<A: Allocator + Copy>(
     ensures fault { result ≢ 0 → result ≢ 1
         → (result ≡ 3) × ShowsNoMemory room.old room.new length.new }
 {
-    if let Err(why) = go_sgf::check(source) {
-        return tell(alloc, ToolError::Sgf(why), room, length);
-    }
+    let source = match go_sgf::check(source) {
+        Ok(source) => source,
+        Err(why) => return tell(alloc, ToolError::Sgf(why), room, length),
+    };
     let mut text = TextWriter::new(alloc);
-    match go_sgf::tidy(source, &mut text) {
+    match go_sgf::tidy(&source, &mut text) {
         Ok(()) => {
             show(text.bytes(), room, length);
             0

@@ -39,9 +39,9 @@ pub fn judge_run<A: Allocator + Copy, R: Source, W: Sink>(
         (λ input. BeginsToJudge input (W.taken writer.old) (W.taken writer.new)) }
     ensures devices { UsesDevices R.Source W.Sink result reader.old reader.new writer.old writer.new }
 {
-    let source = read_input(alloc, reader)?;
-    check(source.as_slice())?;
-    let verdict = judge_source(alloc, source.as_slice())?;
+    let text = read_input(alloc, reader)?;
+    let source = check(text.as_slice())?;
+    let verdict = judge_source(alloc, &source)?;
     match write_verdict(verdict, writer) {
         Ok(()) => passed_on(writer),
         Err(WriteFault) => Err(ToolError::Write),

@@ -35,9 +35,9 @@ pub fn tidy_run<A: Allocator + Copy, R: Source, W: Sink>(
         (λ input. BeginsToTidy input (W.taken writer.old) (W.taken writer.new)) }
     ensures devices { UsesDevices R.Source W.Sink result reader.old reader.new writer.old writer.new }
 {
-    let source = read_input(alloc, reader)?;
-    check(source.as_slice())?;
-    match tidy(source.as_slice(), writer) {
+    let text = read_input(alloc, reader)?;
+    let source = check(text.as_slice())?;
+    match tidy(&source, writer) {
         Ok(()) => passed_on(writer),
         Err(WriteFault) => Err(ToolError::Write),
     }

@@ -28,8 +28,8 @@ const MANY: u32 = 66_000;
 
 /// What is judged of a text that spells a record.
 fn judged(rt: &impl Abort, alloc: Global, text: &[u8]) -> Result<Verdict, RecordError> {
-    assert!(rt; check(text) == Ok(()));
-    judge_source(alloc, text)
+    let source = check(text).expect(rt, "a record");
+    judge_source(alloc, &source)
 }
 
 /// How many moves are replayed of a text that spells a record.
@@ -39,8 +39,8 @@ fn replayed(
     text: &[u8],
     number: Option<u32>,
 ) -> Result<usize, RecordError> {
-    assert!(rt; check(text) == Ok(()));
-    Ok(replay_source(alloc, text, number)?.move_count())
+    let source = check(text).expect(rt, "a record");
+    Ok(replay_source(alloc, &source, number)?.move_count())
 }
 
 #[test]
@@ -121,7 +121,7 @@ fn a_record_that_is_cut_is_told_by_check(rt: HostRuntime) -> Result<(), Fail> {
         } else {
             SgfError::EndInside(end)
         };
-        assert_eq!(rt; check(front), Err(why), "{end} bytes");
+        assert_eq!(rt; check(front).err(), Some(why), "{end} bytes");
     }
     assert_eq!(rt; replayed(&rt, rt.alloc(), WHOLE, None), Ok(4));
     Ok(())
@@ -130,11 +130,10 @@ fn a_record_that_is_cut_is_told_by_check(rt: HostRuntime) -> Result<(), Fail> {
 #[test]
 fn a_refused_record_leaves_a_vacant_game(rt: HostRuntime) {
     let mut game = Game::new(rt.alloc(), nineteen(&rt));
-    let text = b"(;SZ[9];B[ee];W[ee])";
-    assert!(rt; check(text) == Ok(()));
-    let end = replay_source_on(&mut game, text, None);
+    let source = check(b"(;SZ[9];B[ee];W[ee])").expect(&rt, "a record");
+    let end = replay_source_on(&mut game, &source, None);
     let is_so = matches!(end, Err(RecordError::Illegal(2, _)));
     assert!(rt; is_so && game.is_vacant());
-    assert!(rt; replay_source_on(&mut game, text, Some(2)) == Ok(()));
+    assert!(rt; replay_source_on(&mut game, &source, Some(2)) == Ok(()));
     assert_eq!(rt; game.move_count(), 1);
 }

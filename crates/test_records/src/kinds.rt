@@ -78,7 +78,7 @@ fn is_taken(alloc: Global, letters: u32) -> Result<bool, AllocError> {
             return Ok(false);
         }
     }
-    Ok(read(alloc, source).is_ok() && check(source) == Ok(()))
+    Ok(read(alloc, source).is_ok() && check(source).is_ok())
 }
 
 /// The last is as long as a record may be: six of its bytes are no letters of the comment.

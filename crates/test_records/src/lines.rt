@@ -1,5 +1,5 @@
 //! Walks along main lines: records beside what is passed of each.
-use go_sgf::{MainLine, is_named, read};
+use go_sgf::{Checked, MainLine, check, is_named, read};
 use std::alloc::{AllocError, Global};
 use std::test::Fail;
 
@@ -52,7 +52,7 @@ fn put_properties(text: &mut Vec<u8, Global>, line: &mut MainLine<'_>) -> Result
 }
 
 /// What a walk along the main line of a source passes.
-fn passed(alloc: Global, source: &[u8]) -> Result<Vec<u8, Global>, AllocError> {
+fn passed(alloc: Global, source: &Checked<'_>) -> Result<Vec<u8, Global>, AllocError> {
     let mut text = Vec::new(alloc);
     let mut line = MainLine::of(source);
     for _ in 0..STEPS {
@@ -68,10 +68,12 @@ fn passed(alloc: Global, source: &[u8]) -> Result<Vec<u8, Global>, AllocError> {
 #[test]
 fn main_lines(rt: HostRuntime) -> Result<(), Fail> {
     for (row, (source, text)) in LINES.iter().enumerate() {
-        let told = passed(rt.alloc(), source)?;
+        let checked = check(source).expect(&rt, "a record");
+        let told = passed(rt.alloc(), &checked)?;
         assert!(rt; told.as_slice() == *text, "row {row}");
         let collection = read(rt.alloc(), source).expect(&rt, "a record");
-        let told = passed(rt.alloc(), collection.source())?;
+        assert!(rt; collection.source() == *source, "row {row}");
+        let told = passed(rt.alloc(), &collection.checked())?;
         assert!(rt; told.as_slice() == *text, "row {row}");
     }
     Ok(())
@@ -79,13 +81,33 @@ fn main_lines(rt: HostRuntime) -> Result<(), Fail> {
 
 #[test]
 fn a_walk_goes_on_by_itself(rt: HostRuntime) {
-    let mut line = MainLine::of(b"(;B[aa][bb]W[cc])");
+    let checked = check(b"(;B[aa][bb]W[cc])").expect(&rt, "a record");
+    let mut line = MainLine::of(&checked);
     assert!(rt; line.next_node() && line.next_name() == Some(b"B".as_slice()));
     let mut other = line.fork();
     assert!(rt; line.next_value() == Some(b"aa".as_slice()));
     assert!(rt; line.next_value() == Some(b"bb".as_slice()));
     assert!(rt; line.next_value().is_none() && line.next_name() == Some(b"W".as_slice()));
     assert!(rt; other.next_value() == Some(b"aa".as_slice()));
+}
+
+/// A step passes what is left before it: values, properties or both.
+#[test]
+fn a_step_passes_what_is_left(rt: HostRuntime) {
+    let checked = check(b"(;A[a][b]B[c] ;C[d][e](;D[f];)(;E[g]))").expect(&rt, "a record");
+    let mut nodes = MainLine::of(&checked);
+    for _ in 0..4 {
+        assert!(rt; nodes.next_node());
+    }
+    assert!(rt; !nodes.next_node() && !nodes.next_node() && nodes.next_name().is_none());
+    let mut names = MainLine::of(&checked);
+    assert!(rt; names.next_node() && names.next_name() == Some(b"A".as_slice()));
+    assert!(rt; names.next_name() == Some(b"B".as_slice()) && names.next_name().is_none());
+    assert!(rt; names.next_name().is_none() && names.next_node());
+    assert!(rt; names.next_name() == Some(b"C".as_slice()));
+    assert!(rt; names.next_value() == Some(b"d".as_slice()) && names.next_node());
+    assert!(rt; names.next_name() == Some(b"D".as_slice()) && names.next_node());
+    assert!(rt; names.next_name().is_none() && !names.next_node());
 }
 
 #[test]

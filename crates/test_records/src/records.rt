@@ -22,7 +22,7 @@ fn nine(rt: &impl Abort) -> Size
 
 /// Whether a source is refused with this.
 fn is_refused(alloc: Global, source: &[u8], why: SgfError) -> bool {
-    read(alloc, source).err() == Some(why) && check(source) == Err(why)
+    read(alloc, source).err() == Some(why) && check(source).err() == Some(why)
 }
 
 /// Writes the text of a record.
@@ -41,8 +41,11 @@ fn writes(alloc: Global, collection: &Collection<'_, Global>, most: usize, text:
 
 /// Whether the bytes of a source are written as this text, by so many bytes at most.
 fn tidies(alloc: Global, source: &[u8], most: usize, text: &[u8]) -> bool {
+    let Ok(checked) = check(source) else {
+        return false;
+    };
     let mut writer = Writer::new(alloc).in_pieces_of(most);
-    tidy(source, &mut writer) == Ok(()) && writer.bytes() == text
+    checked.source() == source && tidy(&checked, &mut writer) == Ok(()) && writer.bytes() == text
 }
 
 /// Whether a source is written as this text, from its trees and from its bytes alone, however the
@@ -56,7 +59,7 @@ pub(crate) fn is_tidied(alloc: Global, source: &[u8], text: &[u8]) -> bool {
             return false;
         }
     }
-    check(source) == Ok(())
+    true
 }
 
 /// So many copies of a piece, and a back.

@@ -69,8 +69,8 @@ fn replay_on<A: Allocator + Copy>(game: &mut Game<A>, source: &Record) -> Result
     ensures cannot { IsErrOf result LoadError.Cannot
         → LoadsNone source.now.bytes.now source.now.number }
 {
-    check(source.bytes)?;
-    replay_source_on(game, source.bytes, source.number)?;
+    let checked = check(source.bytes)?;
+    replay_source_on(game, &checked, source.number)?;
     Ok(())
 }
 

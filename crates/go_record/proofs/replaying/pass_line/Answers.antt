@@ -2,8 +2,8 @@ use Rattle.std.proofs.Common.{◌∙◌, ◌+◌, ◌++◌, [], List, ap, subst,
 use Rattle.std.specs.Prelude.{Err}
 use Rattle.std.proofs.lemmas.List.{append-nil}
 use Rattle.std.proofs.lemmas.Result.{err_from_is_err_and}
-use Rattle.go_sgf.specs.MainLine.{main_line}
-use Rattle.go_sgf.specs.Record.{Property}
+use Rattle.go_sgf.specs.MainLine.{IsLeft, main_line}
+use Rattle.go_sgf.specs.Record.{Property, Trees}
 use Rattle.go_record.specs.MainLine.{Event, events_from, events_of}
 use Rattle.go_record.specs.inner.Progress.{Passes, Stops, WalkedGame}
 use Rattle.go_record.proofs.Lines.{node_on}
@@ -11,12 +11,15 @@ use Rattle.go_record.proofs.Walking.{passes_nothing, passes_over, passes_passes,
 use Rattle.go_record.proofs.replaying.pass_line.Goals as goal
 
 pub loop-line-init : goal.loop-line-init
-loop-line-init g c = λ t s. (main_line t, c.of-line.ensures t s, [], refl, passes_nothing (c.args.walk.now, c.args.game.now))
+loop-line-init g c = λ t s.
+    let of = c.of-line.ensures in
+    let same = c.one_record.ensures c.args.source.now of.0 t of.1 s in
+    (main_line t, subst (λ (u : Trees). IsLeft c.of-line.result [] [] (main_line u)) same of.2, [], refl, passes_nothing (c.args.walk.now, c.args.game.now))
 
 pub loop-line-preserved : goal.loop-line-preserved
 loop-line-preserved g c = λ t s.
     let i = c.loop-line.invariant t s in
-    let next = c.loop-line-test.ensures.next i.0 i.1 in (
+    let next = c.loop-line-test.ensures.next [] [] i.0 i.1 in (
       next.1,
       c.in_ok-pass_node.ensures.line next.0 next.1 next.3,
       i.2 ++ events_of c.loop-line.count next.0,
@@ -27,7 +30,7 @@ loop-line-preserved g c = λ t s.
 pub returns : goal.returns
 returns g c = λ t s.
     let i = c.loop-line.invariant t s in
-    let none = c.loop-line-test.ensures.next i.0 i.1 in
+    let none = (c.loop-line-test.ensures.next [] [] i.0 i.1).0 in
     subst (λ (es : List Event). Passes (c.args.walk.now, c.args.game.now) es (c.loop-line.walk, c.loop-line.game))
     (sym (append-nil i.2) ∙ ap (λ (ns : List (List Property)). i.2 ++ events_from c.loop-line.count ns) (sym none) ∙ i.3) i.4
 
@@ -37,7 +40,7 @@ returns-in_err-pass_node g c = λ t s.
     let e = c.in_err-pass_node.field-0.0 in
     let count = c.loop-line.count in
     let i = c.loop-line.invariant t s in
-    let next = c.loop-line-test.ensures.next i.0 i.1 in
+    let next = c.loop-line-test.ensures.next [] [] i.0 i.1 in
     walked_stops c.from_residual.result e (c.args.walk.now, c.args.game.now) (c.pass_node.new.self, c.pass_node.new.game) _ (p.1 ∙ ap Err p.2)
     (subst (λ (es : List Event). Stops (c.args.walk.now, c.args.game.now) es e)
     (node_on count (count + 1) i.2 i.0 next.0 next.1 next.2 refl ∙ i.3)
@@ -47,7 +50,7 @@ pub returns-then-is_over : goal.returns-then-is_over
 returns-then-is_over g c = λ t s.
     let count = c.loop-line.count in
     let i = c.loop-line.invariant t s in
-    let next = c.loop-line-test.ensures.next i.0 i.1 in
+    let next = c.loop-line-test.ensures.next [] [] i.0 i.1 in
     let new : WalkedGame = (c.pass_node.new.self, c.pass_node.new.game) in
     subst (λ (es : List Event). Passes (c.args.walk.now, c.args.game.now) es new)
     (node_on count (count + 1) i.2 i.0 next.0 next.1 next.2 refl ∙ i.3)

@@ -5,54 +5,54 @@ use Rattle.goref_tools.proofs.Judged.{refuses_game}
 use Rattle.goref_tools.proofs.Whole.{all_front, not_read, of_whole, on_ok, refuses, same_error}
 use Rattle.goref_tools.proofs.judge.judge_run.Goals as goal
 
-pub returns-in_err-check-clause-refused : goal.returns-in_err-check-clause-refused
-returns-in_err-check-clause-refused g c = λ why h.
-    let p = err_from_is_err_and c.from_residual-in_err-check.result c.from_residual-in_err-check.ensures.1 in
-    refuses c.in_ok-source.source.items (g.R.Source.left c.args.reader.now) (g.R.Source.left c.read_input.new.reader) c.in_ok-source.ensures.input c.in_err-check.field-0.0
-    (rw c.as_slice.ensures.value at c.in_err-check.ensures.refused)
-    (λ long. let e = c.in_err-check.ensures.too_long.1 (rw c.as_slice.ensures.value long) in cc)
+pub returns-in_err-source-clause-refused : goal.returns-in_err-source-clause-refused
+returns-in_err-source-clause-refused g c = λ why h.
+    let p = err_from_is_err_and c.from_residual-in_err-source.result c.from_residual-in_err-source.ensures.1 in
+    refuses c.in_ok-text.text.items (g.R.Source.left c.args.reader.now) (g.R.Source.left c.read_input.new.reader) c.in_ok-text.ensures.input c.in_err-source.field-0.0
+    (rw c.as_slice.ensures.value at c.in_err-source.ensures.refused)
+    (λ long. let e = c.in_err-source.ensures.too_long.1 (rw c.as_slice.ensures.value long) in cc)
     why (same_error p.1 p.2 h)
 
 pub returns-in_err-verdict-clause-game_refused : goal.returns-in_err-verdict-clause-game_refused
 returns-in_err-verdict-clause-game_refused g c = λ why h.
-    let spelled = rw c.as_slice.ensures.value at c.in_ok-check.ensures.read in
+    let told = rw (c.in_ok-source.ensures.source, c.as_slice.ensures.value) at c.in_err-verdict.ensures.err in
     let p = err_from_is_err_and c.from_residual-in_err-verdict.result c.from_residual-in_err-verdict.ensures.1 in
-    refuses_game c.in_ok-source.source.items (g.R.Source.left c.args.reader.now) (g.R.Source.left c.read_input.new.reader) c.in_ok-source.ensures.input
-    (λ long. let e = c.in_ok-check.ensures.too_long.1 (rw c.as_slice.ensures.value long) in cc)
-    spelled.0 spelled.1 c.in_err-verdict.field-0.0 (c.in_err-verdict.ensures.err spelled.0 (rw c.as_slice-2.ensures.value spelled.1))
+    refuses_game c.in_ok-text.text.items (g.R.Source.left c.args.reader.now) (g.R.Source.left c.read_input.new.reader) c.in_ok-text.ensures.input
+    (λ long. let e = c.in_ok-source.ensures.too_long.1 (rw c.as_slice.ensures.value long) in cc)
+    told.0 told.1 c.in_err-verdict.field-0.0 told.2
     why (same_error p.1 p.2 h)
 
 pub returns-in-Ok-clause-ok : goal.returns-in-Ok-clause-ok
 returns-in-Ok-clause-ok g c =
-    let spelled = rw c.as_slice.ensures.value at c.in_ok-check.ensures.read in
+    let told = rw (c.in_ok-source.ensures.source, c.as_slice.ensures.value) at c.in_ok-verdict.ensures.ok in
     on_ok c.passed_on.result (of_whole (λ input. Judges input (g.W.Sink.taken c.args.writer.now) (g.W.Sink.taken c.passed_on.new.writer))
-    c.in_ok-source.source.items (g.R.Source.left c.read_input.new.reader) c.in_ok-source.ensures.input
-    (λ long. let e = c.in_ok-check.ensures.too_long.1 (rw c.as_slice.ensures.value long) in cc) (
-      spelled.0,
-      spelled.1,
-      (c.in_ok-verdict.verdict, c.in_ok-verdict.ensures.ok spelled.0 (rw c.as_slice-2.ensures.value spelled.1), c.passed_on.ensures.bytes ∙ c.in-Ok.ensures.sent),
+    c.in_ok-text.text.items (g.R.Source.left c.read_input.new.reader) c.in_ok-text.ensures.input
+    (λ long. let e = c.in_ok-source.ensures.too_long.1 (rw c.as_slice.ensures.value long) in cc) (
+      told.0,
+      told.1,
+      (c.in_ok-verdict.verdict, told.2, c.passed_on.ensures.bytes ∙ c.in-Ok.ensures.sent),
     ))
 
 pub returns-in-Ok-clause-write : goal.returns-in-Ok-clause-write
 returns-in-Ok-clause-write g c = λ h.
-    let spelled = rw c.as_slice.ensures.value at c.in_ok-check.ensures.read in
+    let told = rw (c.in_ok-source.ensures.source, c.as_slice.ensures.value) at c.in_ok-verdict.ensures.ok in
     of_whole (λ input. BeginsToJudge input (g.W.Sink.taken c.args.writer.now) (g.W.Sink.taken c.passed_on.new.writer))
-    c.in_ok-source.source.items (g.R.Source.left c.read_input.new.reader) c.in_ok-source.ensures.input
-    (λ long. let e = c.in_ok-check.ensures.too_long.1 (rw c.as_slice.ensures.value long) in cc) (
-      spelled.0,
-      spelled.1,
-      (c.in_ok-verdict.verdict, c.in_ok-verdict.ensures.ok spelled.0 (rw c.as_slice-2.ensures.value spelled.1), all_front (verdict_text c.in_ok-verdict.verdict) (c.passed_on.ensures.bytes ∙ c.in-Ok.ensures.sent)),
+    c.in_ok-text.text.items (g.R.Source.left c.read_input.new.reader) c.in_ok-text.ensures.input
+    (λ long. let e = c.in_ok-source.ensures.too_long.1 (rw c.as_slice.ensures.value long) in cc) (
+      told.0,
+      told.1,
+      (c.in_ok-verdict.verdict, told.2, all_front (verdict_text c.in_ok-verdict.verdict) (c.passed_on.ensures.bytes ∙ c.in-Ok.ensures.sent)),
     )
 
 pub returns-clause-write : goal.returns-clause-write
 returns-clause-write g c = λ h.
-    let spelled = rw c.as_slice.ensures.value at c.in_ok-check.ensures.read in
+    let told = rw (c.in_ok-source.ensures.source, c.as_slice.ensures.value) at c.in_ok-verdict.ensures.ok in
     of_whole (λ input. BeginsToJudge input (g.W.Sink.taken c.args.writer.now) (g.W.Sink.taken c.write_verdict.new.writer))
-    c.in_ok-source.source.items (g.R.Source.left c.read_input.new.reader) c.in_ok-source.ensures.input
-    (λ long. let e = c.in_ok-check.ensures.too_long.1 (rw c.as_slice.ensures.value long) in cc) (
-      spelled.0,
-      spelled.1,
-      (c.in_ok-verdict.verdict, c.in_ok-verdict.ensures.ok spelled.0 (rw c.as_slice-2.ensures.value spelled.1), c.in-Err.ensures.sent),
+    c.in_ok-text.text.items (g.R.Source.left c.read_input.new.reader) c.in_ok-text.ensures.input
+    (λ long. let e = c.in_ok-source.ensures.too_long.1 (rw c.as_slice.ensures.value long) in cc) (
+      told.0,
+      told.1,
+      (c.in_ok-verdict.verdict, told.2, c.in-Err.ensures.sent),
     )
 
 pub returns-in-Ok-clause-devices : goal.returns-in-Ok-clause-devices
@@ -60,7 +60,7 @@ returns-in-Ok-clause-devices g c = record {
   reads = search rules;
   pulls = search rules;
   one_end = search rules;
-  read_failures = c.in_ok-source.ensures.failures ∙ not_read c.passed_on.result _ c.passed_on.ensures.error;
+  read_failures = c.in_ok-text.ensures.failures ∙ not_read c.passed_on.result _ c.passed_on.ensures.error;
   write_failures = search rules;
   nothing_written = search rules;
   passed = search rules;

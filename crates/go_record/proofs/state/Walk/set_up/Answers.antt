@@ -12,7 +12,7 @@ use Rattle.go_record.proofs.state.Walk.set_up.Goals as goal
 pub loop-name-init : goal.loop-name-init
 loop-name-init c = record {
   onward = omega arith;
-  passed = λ properties nodes l. (properties, l, [], refl, λ game. passes_nothing (c.args.self.now, game), [], refl, refl);
+  passed = λ properties nodes l. (properties, ([], l), [], refl, λ game. passes_nothing (c.args.self.now, game), [], refl, refl);
 }
 
 pub returns-in_err-pass_setup-clause-walked : goal.returns-in_err-pass_setup-clause-walked
@@ -21,7 +21,7 @@ returns-in_err-pass_setup-clause-walked c = λ properties nodes l game.
     let e = c.in_err-pass_setup.field-0.0 in
     let f = setup_event c.args.node in
     let i = c.loop-name.invariant.passed properties nodes l in
-    let next = c.in-Some.ensures.next i.0 nodes i.1 in
+    let next = c.in-Some.ensures.next i.1.0 i.0 nodes i.1.1 in
     let kind_is = c.kind_of.ensures next.0 next.3 in
     walked_stops c.from_residual.result e (c.args.self.now, game) (c.pass_setup.new.self, game) _ (p.1 ∙ ap Err p.2)
     (subst (λ (es : List Event). Stops (c.args.self.now, game) es e)
@@ -30,14 +30,14 @@ returns-in_err-pass_setup-clause-walked c = λ properties nodes l game.
 
 pub loop-name-preserved : goal.loop-name-preserved
 loop-name-preserved c = record {
-  onward = omega (arith, c.loop-name.invariant.onward, c.in-Some.ensures.shorter, c.pass_setup.ensures.onward, c.skip_values.ensures.onward);
+  onward = omega (arith, c.loop-name.invariant.onward, c.in-Some.ensures.shorter, c.pass_setup.ensures.onward);
   passed = λ properties nodes l.
       let f = setup_event c.args.node in
       let i = c.loop-name.invariant.passed properties nodes l in
-      let next = c.in-Some.ensures.next i.0 nodes i.1 in
+      let next = c.in-Some.ensures.next i.1.0 i.0 nodes i.1.1 in
       let kind_is = c.kind_of.ensures next.0 next.3 in (
         next.1,
-        c.skip_values.ensures.line next.1 nodes (c.pass_setup.ensures.line next.1 nodes (next.0.values, next.4)),
+        c.pass_setup.ensures.line next.1 nodes (next.0.values, next.4),
         i.2 ++ f next.0,
         one_on f i.2 i.0 next.0 next.1 next.2 ∙ i.3,
         λ game. passes_passes (i.4 game) (c.in_ok-pass_setup.ensures.walked next.0 next.1 nodes kind_is next.4 game),
@@ -48,26 +48,26 @@ loop-name-preserved c = record {
 }
 
 pub loop-name-smaller : goal.loop-name-smaller
-loop-name-smaller c = omega (arith, c.in-Some.ensures.shorter, c.pass_setup.ensures.onward, c.skip_values.ensures.onward)
+loop-name-smaller c = omega (arith, c.in-Some.ensures.shorter, c.pass_setup.ensures.onward)
 
 pub returns-clause-walked : goal.returns-clause-walked
 returns-clause-walked c = λ properties nodes l game.
     let i = c.loop-name.invariant.passed properties nodes l in
-    let end = c.in_default.ensures.next i.0 nodes i.1 in
+    let end = c.in_default.ensures.next i.1.0 i.0 nodes i.1.1 in
     subst (λ (es : List Event). Passes (c.args.self.now, game) es (c.loop-name.self, game))
     (sym (append-nil i.2) ∙ ap (λ (ps : List Property). i.2 ++ flat_map (setup_event c.args.node) ps) (sym end.0) ∙ i.3) (i.4 game)
 
 pub returns-clause-moves : goal.returns-clause-moves
 returns-clause-moves c = λ properties nodes l.
     let i = c.loop-name.invariant.passed properties nodes l in
-    let end = c.in_default.ensures.next i.0 nodes i.1 in
+    let end = c.in_default.ensures.next i.1.0 i.0 nodes i.1.1 in
     subst (AreMoves c.args.node c.loop-name.moves)
     (sym (append-nil i.5) ∙ ap (λ (ps : List Property). i.5 ++ flat_map (move_event c.args.node) ps) (sym end.0) ∙ i.6) i.7
 
 pub returns-clause-line : goal.returns-clause-line
 returns-clause-line c = λ properties nodes l.
     let i = c.loop-name.invariant.passed properties nodes l in
-    (c.in_default.ensures.next i.0 nodes i.1).1
+    (c.in_default.ensures.next i.1.0 i.0 nodes i.1.1).1
 
 pub returns-clause-onward : goal.returns-clause-onward
 returns-clause-onward c = omega (arith, c.loop-name.invariant.onward, c.in_default.ensures.onward)

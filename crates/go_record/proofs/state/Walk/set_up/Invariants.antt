@@ -4,14 +4,14 @@ use Rattle.go_game.specs.Standings.{GameValue}
 use Rattle.go_sgf.specs.MainLine.{IsLeft}
 use Rattle.go_sgf.specs.Record.{Property}
 use Rattle.go_record.specs.MainLine.{Event, move_event, setup_event}
-use Rattle.go_record.specs.inner.Progress.{AreMoves, Passes}
+use Rattle.go_record.specs.inner.Progress.{AreMoves, IsAmongValues, Passes}
 use Rattle.go_record.proofs.state.Walk.set_up.Given as goal
 
 abbrev pub invariant-loop-name : goal.invariant-loop-name
 invariant-loop-name l = record {
   onward : length l.line ≤ length l.fn.line;
   passed : (properties : List Property) (nodes : List (List Property)) → IsLeft l.fn.line [] properties nodes →
-      (left : List Property) × IsLeft l.line [] left nodes
+      (left : List Property) × IsAmongValues l.line left nodes
       × (done : List Event) × (done ++ flat_map (setup_event l.node) left ≡ flat_map (setup_event l.node) properties)
       × ((game : GameValue) → Passes (l.fn.self, game) done (l.self, game))
       × (met : List Event) × (met ++ flat_map (move_event l.node) left ≡ flat_map (move_event l.node) properties) × AreMoves l.node l.moves met;
