@@ -1,18 +1,18 @@
 //! All tables of a board in one array of numbers, and where each table begins. A meter counts each read and
 //! each write. Each write is traced, and a write of a colour also changes the pack.
-ghost use Rattle.std.specs.Prelude.{◌≡◌, ◌≢◌, ◌<◌, ◌≤◌, ◌+◌, ◌*◌, ◌++◌, ◌∷◌, [], ℕ, slice_index, slice_set};
+ghost use Rattle.std.specs.Prelude.{◌≡◌, ◌<◌, ◌+◌, ◌*◌, ◌++◌, ◌∷◌, [], slice_index, slice_set};
 ghost use Rattle.go_board.specs.PackBytes.{bytes_of};
-ghost use Rattle.go_board.specs.Packs.{code_of, colour_coded, packed_of};
+ghost use Rattle.go_board.specs.Packs.{packed_of};
 ghost use Rattle.go_board.specs.declared.size.TheConstants.{MAX_LINES, MAX_POINTS};
 ghost use Rattle.go_chains.specs.declared.cells.TheConstants.{COUNT, LIBERTIES};
 ghost use Rattle.go_board.specs.declared.point_set.TheConstants.{WORDS};
 ghost use Rattle.go_chains.specs.Boards.{colouring_of};
-ghost use Rattle.go_chains.specs.inner.Codes.{code_in};
 
 use crate::numbers::Numbers;
+use crate::packed_colours::PackedColours;
 use crate::trace::Trace;
 use go_board::point_set::WORDS;
-use go_board::{Colour, MAX_POINTS, Meter, Open, Packed};
+use go_board::{MAX_POINTS, Meter, Open, Packed};
 use std::marker::Model;
 
 /// Where the labels begin, after the colours.
@@ -37,13 +37,12 @@ pub const COUNT: usize = LIBERTIES + WORDS * MAX_POINTS;
 #[derive(Drop)]
 pub struct Cells<K = Open> {
     numbers: Numbers<K>,
-    pack: Packed,
+    colours: PackedColours<K>,
     trace: Trace<K>,
 }
 
 impl<K> Model for Cells<K> {
     ghost use Rattle.std.specs.Prelude.{◌≡◌};
-    ghost use Rattle.go_board.specs.PackBytes.{bytes_of};
     ghost use Rattle.go_board.specs.Packs.{packed_of};
     ghost use Rattle.go_board.specs.declared.size.TheConstants.{MAX_LINES};
     ghost use Rattle.go_chains.specs.Cells.{CellsValue};
@@ -53,7 +52,7 @@ impl<K> Model for Cells<K> {
 
     ghost view = { λ c. record { numbers = c.numbers; trace = c.trace } };
 
-    ghost invariant = { λ c. bytes_of c.pack ≡ packed_of (colouring_of MAX_LINES c.numbers) };
+    ghost invariant = { λ c. c.colours ≡ packed_of (colouring_of MAX_LINES c.numbers) };
 }
 
 impl Cells<Open> {
@@ -68,7 +67,7 @@ impl Cells<Open> {
         let trace = Trace::new(&numbers);
         Cells {
             numbers,
-            pack: Packed::empty(),
+            colours: PackedColours::new(),
             trace,
         }
     }
@@ -78,7 +77,7 @@ impl Cells<Open> {
     pub fn pack(&self) -> &Packed
         ensures { bytes_of result.now ≡ packed_of (colouring_of MAX_LINES self.now.numbers) }
     {
-        &self.pack
+        self.colours.pack()
     }
 }
 
@@ -106,35 +105,9 @@ impl<K> Cells<K> {
         self.trace.add(place, &self.numbers);
         self.numbers.set(place, number, meter);
         if place < MAX_POINTS {
-            let byte = self.pack.byte(place / 4);
-            let code = colour_code(number);
-            self.pack.set(place / 4, with_code(byte, place % 4, code));
+            self.colours.put(place, number);
         }
     }
-}
-
-/// The code of the colour that a number stands for; a number of no colour stands for an empty
-/// point.
-fn colour_code(number: u64) -> u8
-    ensures value { result ≡ code_of (colour_coded number) }
-    ensures few { result ≤ 2 }
-{
-    match Colour::coded(number) {
-        None => 0,
-        Some(colour) => colour.code() as u8,
-    }
-}
-
-/// The byte of four codes with another code at one of its places.
-pub(crate) fn with_code(byte: u8, at: usize, code: u8) -> u8
-    requires at { at < 4 }
-    requires code { code ≤ 2 }
-    ensures code { code_in result at ≡ code }
-    ensures others { (k : ℕ) → k < 4 → k ≢ at → code_in result k ≡ code_in byte k }
-{
-    let shift = 2 * at;
-    let old = (byte >> shift) % 4;
-    byte - (old << shift) + (code << shift)
 }
 
 /// The cell of a word of a label's liberties.

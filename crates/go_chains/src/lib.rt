@@ -44,6 +44,7 @@ mod marks;
 mod masks;
 mod numbers;
 mod occupy;
+mod packed_colours;
 mod place;
 mod quiet;
 mod trace;

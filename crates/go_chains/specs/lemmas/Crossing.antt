@@ -17,6 +17,8 @@ use Rattle.go_chains.specs.contracts.log.Log as log
 use Rattle.go_chains.specs.contracts.log.Log.TheInside as log_fields
 use Rattle.go_chains.specs.contracts.numbers.Numbers as numbers
 use Rattle.go_chains.specs.contracts.numbers.Numbers.TheInside as numbers_fields
+use Rattle.go_chains.specs.contracts.packed_colours.PackedColours as colours
+use Rattle.go_chains.specs.contracts.packed_colours.PackedColours.TheInside as colours_fields
 use Rattle.go_chains.specs.contracts.trace.Trace as trace
 use Rattle.go_chains.specs.contracts.trace.Trace.TheInside as trace_fields
 use Rattle.go_chains.specs.contracts.trace.Writes as writes
@@ -34,6 +36,11 @@ module _ (K : RattleType) where
       view_send (numbers_fields.the_row K) _ _ _ _
       (fields_send (numbers_fields.the_type K) (search sendable, (phantom.the_field_send K, tt)))
 
+  colours_send : IsSend (colours.the_row K)
+  colours_send =
+      view_send (colours_fields.the_row K) _ _ _ _
+      (fields_send (colours_fields.the_type K) (search sendable, (phantom.the_field_send K, tt)))
+
   trace_send : IsSend (trace.the_row K)
   trace_send =
       view_send (trace_fields.the_row K) _ _ _ _
@@ -42,7 +49,7 @@ module _ (K : RattleType) where
   cells_send : IsSend (cells.the_row K)
   cells_send =
       view_send (cells_fields.the_row K) _ _ _ _
-      (fields_send (cells_fields.the_type K) (numbers_send, (search sendable, (trace_send, tt))))
+      (fields_send (cells_fields.the_type K) (numbers_send, (colours_send, (trace_send, tt))))
 
   pub board_send : IsSend (board.the_row K)
   board_send =

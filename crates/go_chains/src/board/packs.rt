@@ -8,7 +8,7 @@ ghost use Rattle.go_board.specs.declared.size.TheConstants.{MAX_LINES};
 ghost use Rattle.go_chains.specs.Boards.{colouring_of, grid_of};
 
 use super::Board;
-use crate::cells::with_code;
+use crate::packed_colours::with_code;
 use go_board::laws::{bytes_make_a_pack, points_by_number};
 use go_board::{Colour, Meter, Open, PACK_BYTES, Packed, Point, packed_byte};
 

@@ -6,4 +6,6 @@ use Rattle.go_chains.specs.Boards.{colouring_of}
 use Rattle.go_chains.proofs.cells.Cells+Open.pack.Goals as goal
 
 pub returns : goal.returns
-returns c = c.self.invariant ∙ ap (λ (v : CellsValue). packed_of (colouring_of MAX_LINES v.numbers)) c.self.view_is
+returns c =
+    c.pack.ensures ∙ c.self.invariant
+    ∙ ap (λ (v : CellsValue). packed_of (colouring_of MAX_LINES v.numbers)) c.self.view_is

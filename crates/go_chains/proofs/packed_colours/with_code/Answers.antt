@@ -1,6 +1,6 @@
 use Rattle.std.proofs.Common.{arith, ◌<◌}
 use Rattle.go_chains.proofs.answers.Codes.{put-at, put-fits, put-others}
-use Rattle.go_chains.proofs.cells.with_code.Goals as goal
+use Rattle.go_chains.proofs.packed_colours.with_code.Goals as goal
 
 pub overflow_add-result : goal.overflow_add-result
 overflow_add-result c =
