@@ -108,10 +108,11 @@ undone-length cells (x ∷ changes) =
     let last : List Change = record { place = x.place; old = slice_index (rewound cells changes) x.place } ∷ [] in
     omega (arith, length-append (undone cells changes) last, undone-length cells changes)
 
--- what a play wrote that was taken back at once
-pub twice : (before then after : BoardValue) (log log' log'' : List (List Change)) (most ticks ticks' : ℕ) (logged : PlayLogged before then log log' most)
-    → IsRewound then after log'' log logged.changes ticks ticks' → length after.trace ≤ length before.trace + 2 * most
-twice before then after log log' log'' most ticks ticks' logged back =
+-- a play that was taken back at once wrote each of its changes twice
+pub each_twice : (before then after : BoardValue) (log log' log'' : List (List Change)) (most ticks ticks' : ℕ)
+    (logged : PlayLogged before then log log' most) → IsRewound then after log'' log logged.changes ticks ticks' →
+    length after.trace ≤ length before.trace + 2 * length logged.changes
+each_twice before then after log log' log'' most ticks ticks' logged back =
     omega (
       arith,
       ap length logged.traced,
@@ -119,7 +120,6 @@ twice before then after log log' log'' most ticks ticks' logged back =
       length-append before.trace logged.changes,
       length-append then.trace (undone then.cells logged.changes),
       undone-length then.cells logged.changes,
-      logged.few,
     )
 
 -- what a play did after cells were read
@@ -152,6 +152,17 @@ module _ (old mid new : GameValue) (m : Move) (most : ℕ) (played : mid.standin
     cells = back.cells ∙ ap (rewound mid.cells) own_is.1 ∙ logged.back;
     changes = own_is.0;
     onward = omega (arith, logged.ticked, back.count);
+    counted = omega (
+      arith,
+      logged.ticked,
+      back.count,
+      ap length own_is.1,
+      ap length logged.traced,
+      length-append old.trace logged.own,
+      ap length back.traced,
+      length-append mid.trace (undone mid.cells back.own),
+      undone-length mid.cells back.own,
+    );
   }
 
   pub back_count : new.count ≤ mid.count + most
@@ -164,6 +175,7 @@ again_as_before old mid new first second = record {
   cells = second.cells ∙ first.cells;
   changes = second.changes ∙ first.changes;
   onward = omega (arith, first.onward, second.onward);
+  counted = omega (arith, first.counted, second.counted);
 }
 
 -- any moves and as many taken back

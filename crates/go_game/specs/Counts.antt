@@ -35,12 +35,13 @@ stones_in g = count_by (λ p. not (has_colour g.colours p None)) (points g.lines
 abbrev pub most_to_fill : GridValue → ℕ
 most_to_fill g = stones_in g * (128 + 8 * stones_in g)
 
--- the game is as it was, and the count at least
+-- the game is as it was, the count at least, and each write to the cells was counted
 pub record IsAsBefore (old new : GameValue) : Type 0 where
   pub standing : new.standing ≡ old.standing
   pub cells : new.cells ≡ old.cells
   pub changes : new.changes ≡ old.changes
   pub onward : old.count ≤ new.count
+  pub counted : old.count + length new.trace ≤ new.count + length old.trace
 
 -- a turn's changes came behind those of the earlier moves: at most so many, each of them counted, they are all
 -- writes to the cells, and put back they give the cells before it
@@ -58,8 +59,9 @@ spare_for Pass = 0
 spare_for (At p) = reads_around
 
 -- What a turn does to a game beside what it stands for: refused it leaves the game as it was, and made it is logged.
--- The cells that are read and written are counted, at most three times the most changes, and four times where a play
--- was taken back; off the board, and where a stone stands, nothing is read or written.
+-- The reads and writes of the play are counted, at most three times the most changes, and four times where it was taken
+-- back. The look whether the point is empty isn't, nor are those that make the key of the board after it. Off the board,
+-- and where a stone stands, nothing is counted or written.
 pub record TurnCosts {A : Type 0} (made : Move) (result : Result A PlayError) (old new : GameValue) : Type 0 where
   pub err : OnErr result (IsAsBefore old new)
   pub logged : OnOk result (IsLogged old new (most_for old.standing made.colour made.vertex))

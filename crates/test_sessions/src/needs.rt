@@ -12,7 +12,7 @@ use test_devices::{Reader, Writer};
 /// What the lines of a row may ask for in all. A log of plays needs some 182 kilobytes to begin
 /// with, and twice that when it grows. A row begins two of them at most, for two games or for the
 /// stones of a record and its moves, and one of the two grows. The second game of a session, which
-/// the first record needs, has 73 kilobytes. The rest is for moves and records.
+/// the first record needs, has 72 kilobytes. The rest is for moves and records.
 const ROW: u64 = 880_000;
 
 /// Asserts what a row is answered by a session that may ask for little memory.

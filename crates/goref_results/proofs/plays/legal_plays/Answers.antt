@@ -24,6 +24,7 @@ loop-number-preserved g c =
         cells = c.in_ok-legal.ensures.same.cells ∙ c.loop-number.invariant.same.cells;
         changes = c.in_ok-legal.ensures.same.changes ∙ c.loop-number.invariant.same.changes;
         onward = omega (arith, c.loop-number.invariant.same.onward, c.in_ok-legal.ensures.same.onward);
+        counted = omega (arith, c.loop-number.invariant.same.counted, c.in_ok-legal.ensures.same.counted);
       };
     }
 

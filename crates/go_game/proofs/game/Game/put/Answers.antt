@@ -10,7 +10,7 @@ use Rattle.go_game.specs.inner.Placed.{AreOfPlaced}
 use Rattle.go_game.specs.Prisoners.{stones_taken}
 use Rattle.go_game.specs.declared.step.Step.{Step}
 use Rattle.go_game.specs.Standings.{GameValue, IsLegal, IsRepeat, board, board_of, mover_by, stood}
-use Rattle.go_game.proofs.Counting.{logged_put, seen, twice}
+use Rattle.go_game.proofs.Counting.{each_twice, logged_put, seen}
 use Rattle.go_game.proofs.Placing.{placed_more, placed_now, placed_put}
 use Rattle.go_game.proofs.Played.{made_push, room_held}
 use Rattle.go_game.proofs.Puts.{legal_put, most_is, no_stone, occupied_stone, played_put, repeats_put, same_error, taken_put}
@@ -170,12 +170,20 @@ returns-in-Err-clause-costs g c =
     let few = logged.few in
     let put = c.rewind.ensures.rewound c.self.inside.log logged.changes logged.gained in
     let back = put.count in
-    let written = twice c.self.inside.board c.play.new.self c.rewind.new.self c.self.inside.log c.play.new.log c.rewind.new.log _ _ _ logged put in
+    let written = each_twice c.self.inside.board c.play.new.self c.rewind.new.self c.self.inside.log c.play.new.log
+    c.rewind.new.log _ _ _ logged put in
+    let ticked = c.play.ensures.costs.ticked logged.changes logged.gained in
     record {
-      err = search rules;
+      err = record {
+        standing = search rules;
+        cells = search rules;
+        changes = search rules;
+        onward = search rules;
+        counted = omega (arith, before, long, written, ticked, back);
+      };
       logged = search rules;
       count = search rules;
       refused = omega (arith, most, before, ticks, few, back);
-      writes = omega (arith, most, long, written);
+      writes = omega (arith, most, long, written, few);
       idle = search rules;
     }
