@@ -1,6 +1,6 @@
 -- Changes of cells, put back from the last to the first, and lists of plays made of them.
 use Rattle.std.specs.Prelude.{ℕ, List, [], ◌∷◌, ◌++◌, ◌≡◌, ◌≤◌, ◌<◌, ◌+◌, length, slice_index, slice_set, take, drop, All}
-use Rattle.go_chains.specs.declared.cells.TheConstants.{COUNT}
+use Rattle.go_chains.specs.declared.cells.TheConstants.{CELLS}
 use Rattle.go_chains.specs.declared.change.Change.{Change}
 use Rattle.go_chains.specs.Boards.{BoardValue}
 
@@ -52,7 +52,7 @@ pub record PlayLogged (old new : BoardValue) (before after : List (List Change))
   pub traced : new.trace ≡ old.trace ++ changes
   pub back : rewound new.cells changes ≡ old.cells
   pub few : length changes ≤ most
-  pub names : NamesCells COUNT changes
+  pub names : NamesCells CELLS changes
 
 -- the last play of a log is put back on a board: its cells stand as before that play, nothing else was written to
 -- them, the log has lost that play alone, and each change was counted

@@ -6,7 +6,7 @@ ghost use Rattle.go_board.specs.Reaching.{area};
 ghost use Rattle.go_board.specs.Rows.{AreStones};
 ghost use Rattle.go_board.specs.declared.colour.Colour.{Colour};
 ghost use Rattle.go_board.specs.declared.size.TheConstants.{MAX_POINTS};
-ghost use Rattle.go_chains.specs.declared.cells.TheConstants.{COUNT};
+ghost use Rattle.go_chains.specs.declared.cells.TheConstants.{CELLS};
 ghost use Rattle.go_chains.specs.Cells.{code_at};
 ghost use Rattle.go_chains.specs.Sound.{IsKept};
 ghost use Rattle.go_chains.specs.Boards.{grid_of, shown};
@@ -65,7 +65,7 @@ impl Board<Open> {
     pub fn new(size: Size) -> Board<Open>
         ensures lines { result.lines ≡ size }
         ensures colours { grid_of result ≡ replicate (size * size) None }
-        ensures cells { result.cells ≡ replicate COUNT 0 }
+        ensures cells { result.cells ≡ replicate CELLS 0 }
         ensures trace { result.trace ≡ [] }
         ensures kept { IsKept result.lines result.cells }
     {

@@ -4,7 +4,7 @@ ghost use Rattle.std.specs.Prelude.{◌≡◌, ◌<◌, ◌+◌, ◌*◌, ◌++�
 ghost use Rattle.go_board.specs.PackBytes.{bytes_of};
 ghost use Rattle.go_board.specs.Packs.{packed_of};
 ghost use Rattle.go_board.specs.declared.size.TheConstants.{MAX_LINES, MAX_POINTS};
-ghost use Rattle.go_chains.specs.declared.cells.TheConstants.{COUNT, LIBERTIES};
+ghost use Rattle.go_chains.specs.declared.cells.TheConstants.{CELLS, LIBERTIES};
 ghost use Rattle.go_board.specs.declared.point_set.TheConstants.{WORDS};
 ghost use Rattle.go_chains.specs.Boards.{colouring_of};
 
@@ -28,7 +28,7 @@ pub const SIZES: usize = LINKS + MAX_POINTS;
 pub const LIBERTIES: usize = SIZES + MAX_POINTS;
 
 /// How many cells a board has, whatever its size.
-pub const COUNT: usize = LIBERTIES + WORDS * MAX_POINTS;
+pub const CELLS: usize = LIBERTIES + WORDS * MAX_POINTS;
 
 /// The cells of a board: the colour, the label and the ring link of each point, and the size and
 /// the words of liberties of each label. Nothing else reads or writes them, each write is in their
@@ -60,7 +60,7 @@ impl Cells<Open> {
 
     /// Cells that are all 0.
     pub fn new() -> Cells<Open>
-        ensures numbers { result.numbers ≡ replicate COUNT 0 }
+        ensures numbers { result.numbers ≡ replicate CELLS 0 }
         ensures trace { result.trace ≡ [] }
     {
         let numbers = Numbers::new();
@@ -86,7 +86,7 @@ impl<K> Cells<K> {
 
     /// The number in a cell.
     pub fn get(&self, place: usize, meter: &mut Meter<K>) -> u64
-        requires { place < COUNT }
+        requires { place < CELLS }
         ensures value { result ≡ slice_index self.now.numbers place }
         ensures count { meter.new ≡ meter.old + 1 }
     {
@@ -95,7 +95,7 @@ impl<K> Cells<K> {
 
     /// Writes a number into a cell.
     pub fn set(&mut self, place: usize, number: u64, meter: &mut Meter<K>)
-        requires { place < COUNT }
+        requires { place < CELLS }
         ensures value { self.new.numbers ≡ slice_set self.old.numbers place number }
         ensures written { IsWritten self.old.numbers self.new.numbers place number }
         ensures traced { self.new.trace ≡ self.old.trace
@@ -115,7 +115,7 @@ pub fn word_place(label: usize, word: usize) -> usize
     requires label { label < MAX_POINTS }
     requires word { word < WORDS }
     ensures value { result ≡ LIBERTIES + WORDS * label + word }
-    ensures bound { result < COUNT }
+    ensures bound { result < CELLS }
 {
     LIBERTIES + WORDS * label + word
 }

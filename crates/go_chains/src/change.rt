@@ -1,6 +1,6 @@
 //! A write to a cell as it can be undone, and the ten bytes in which a log keeps it.
 ghost use Rattle.std.specs.Prelude.{◌≡◌, ◌<◌};
-ghost use Rattle.go_chains.specs.declared.cells.TheConstants.{COUNT};
+ghost use Rattle.go_chains.specs.declared.cells.TheConstants.{CELLS};
 
 use std::marker::Model;
 use std::mem;
@@ -42,7 +42,7 @@ impl Model for LoggedChange {
 impl LoggedChange {
     /// A change of a cell, as a log keeps it.
     pub fn of(change: Change) -> LoggedChange
-        requires { change.place < COUNT }
+        requires { change.place < CELLS }
         ensures { result ≡ change }
     {
         LoggedChange {

@@ -1,6 +1,6 @@
 //! Writes to the cells of a board that are logged.
 ghost use Rattle.std.specs.Prelude.{◌≡◌, ◌<◌, slice_index, vec_capacity, vec_len};
-ghost use Rattle.go_chains.specs.declared.cells.TheConstants.{COUNT};
+ghost use Rattle.go_chains.specs.declared.cells.TheConstants.{CELLS};
 ghost use Rattle.go_chains.specs.inner.Writes.{IsWritten};
 ghost use Rattle.go_chains.specs.inner.Edits.{Edited};
 
@@ -18,7 +18,7 @@ pub(crate) fn replace<K, A: Allocator + Copy>(
     old: u64,
     number: u64,
 )
-    requires place { place < COUNT }
+    requires place { place < CELLS }
     requires old { old ≡ slice_index cells.old.numbers place }
     requires room { vec_len changes.old < vec_capacity changes.old }
     ensures written { IsWritten cells.old.numbers cells.new.numbers place number }
@@ -41,7 +41,7 @@ pub(crate) fn put<K, A: Allocator + Copy>(
     place: usize,
     number: u64,
 )
-    requires place { place < COUNT }
+    requires place { place < CELLS }
     requires room { vec_len changes.old < vec_capacity changes.old }
     ensures written { IsWritten cells.old.numbers cells.new.numbers place number }
     ensures edited { Edited cells.old cells.new changes.old changes.new meter.old meter.new 1 2 }

@@ -6,7 +6,7 @@
 //! - [`Log`]: the changes of the plays, from which [`Board::rewind`] takes the last play back.
 //! - [`Taken`], [`PlaceError`]: what a play took, and why a stone can't be placed.
 //! - [`ChainPoints`]: the stones of a chain, or its liberties, one after another.
-//! - [`Change`] and [`COUNT`]: a write to a cell and the number of cells, of which contracts speak.
+//! - [`Change`] and [`CELLS`]: a write to a cell and the number of cells, of which contracts speak.
 //!
 //! A play and its way back, on a board of 9 lines:
 //!
@@ -50,9 +50,12 @@ mod quiet;
 mod trace;
 
 pub use board::Board;
-pub use cells::COUNT;
+pub use cells::CELLS;
 pub use chain_points::ChainPoints;
 pub use change::Change;
 pub use error::PlaceError;
 pub use go_board::Taken;
 pub use log::Log;
+
+/// The earlier name of [`CELLS`].
+pub const COUNT: usize = CELLS;

@@ -1,7 +1,7 @@
 //! The writes of each play, from which the last play is taken back. Room for all writes of a play is reserved
 //! before the first, so no write of a play can fail for want of memory.
 ghost use Rattle.std.specs.Prelude.{◌≡◌, ◌<◌, ◌≤◌, ◌+◌, ◌++◌, ◌∷◌, ◌⊎◌, [], List, OnErr, OnOk, length, vec_capacity, vec_len};
-ghost use Rattle.go_chains.specs.declared.cells.TheConstants.{COUNT};
+ghost use Rattle.go_chains.specs.declared.cells.TheConstants.{CELLS};
 ghost use Rattle.go_chains.specs.Rewound.{ForLast, NamesCells, rewound, undone};
 ghost use Rattle.go_chains.specs.inner.Undoing.{IsPutBack, before_end, end_of};
 
@@ -56,7 +56,7 @@ impl<A: Allocator + Copy> Log<A> {
     /// Puts the last play's changes back, from the last to the first, and drops that play.
     pub(crate) fn put_back<K>(&mut self, cells: &mut Cells<K>, meter: &mut Meter<K>)
         requires play { 0 < length self.old }
-        requires names { ForLast self.old (λ earlier changes. NamesCells COUNT changes) }
+        requires names { ForLast self.old (λ earlier changes. NamesCells CELLS changes) }
         ensures { ForLast self.old (λ earlier changes.
             IsPutBack cells.old cells.new self.new earlier changes meter.old meter.new) }
     {
@@ -74,7 +74,7 @@ fn put_back_changes<K, A: Allocator + Copy>(
     count: usize,
 )
     requires enough { count ≤ length changes.old.items }
-    requires names { NamesCells COUNT (end_of count changes.old.items) }
+    requires names { NamesCells CELLS (end_of count changes.old.items) }
     ensures cells { cells.new.numbers ≡ rewound cells.old.numbers (end_of count changes.old.items) }
     ensures traced { cells.new.trace ≡ cells.old.trace
         ++ undone cells.old.numbers (end_of count changes.old.items) }

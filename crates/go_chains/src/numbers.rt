@@ -1,8 +1,8 @@
 //! The numbers in all cells. They have a file of their own, so that other code can't reach one uncounted.
 ghost use Rattle.std.specs.Prelude.{◌≡◌, ◌<◌, ◌+◌, replicate, slice_index, slice_set};
-ghost use Rattle.go_chains.specs.declared.cells.TheConstants.{COUNT};
+ghost use Rattle.go_chains.specs.declared.cells.TheConstants.{CELLS};
 
-use crate::cells::COUNT;
+use crate::cells::CELLS;
 use go_board::{Meter, Open};
 use std::marker::{Model, PhantomData};
 
@@ -10,28 +10,28 @@ use std::marker::{Model, PhantomData};
 /// number, and counts that with a meter of their kind.
 #[derive(Drop)]
 pub struct Numbers<K> {
-    items: [u64; COUNT],
+    items: [u64; CELLS],
     kind: PhantomData<K>,
 }
 
 impl<K> Model for Numbers<K> {
     ghost use Rattle.std.specs.Prelude.{◌≡◌, ℕ, List, length};
-    ghost use Rattle.go_chains.specs.declared.cells.TheConstants.{COUNT};
+    ghost use Rattle.go_chains.specs.declared.cells.TheConstants.{CELLS};
 
     ghost Value = { List ℕ };
 
     ghost view = { λ n. n.items };
 
-    ghost invariant = { λ n. length n.items ≡ COUNT };
+    ghost invariant = { λ n. length n.items ≡ CELLS };
 }
 
 impl Numbers<Open> {
     /// Numbers that are all 0.
     pub fn new() -> Numbers<Open>
-        ensures { result ≡ replicate COUNT 0 }
+        ensures { result ≡ replicate CELLS 0 }
     {
         Numbers {
-            items: [0; COUNT],
+            items: [0; CELLS],
             kind: PhantomData,
         }
     }
@@ -42,7 +42,7 @@ impl<K> Numbers<K> {
 
     /// The number in a cell.
     pub fn get(&self, place: usize, meter: &mut Meter<K>) -> u64
-        requires { place < COUNT }
+        requires { place < CELLS }
         ensures value { result ≡ slice_index self.now place }
         ensures count { meter.new ≡ meter.old + 1 }
     {
@@ -52,7 +52,7 @@ impl<K> Numbers<K> {
 
     /// Writes a number into a cell.
     pub fn set(&mut self, place: usize, number: u64, meter: &mut Meter<K>)
-        requires { place < COUNT }
+        requires { place < CELLS }
         ensures value { self.new ≡ slice_set self.old place number }
         ensures written { IsWritten self.old self.new place number }
         ensures count { meter.new ≡ meter.old + 1 }

@@ -17,7 +17,7 @@ use Rattle.go_board.specs.Packs.{packed_of}
 use Rattle.go_board.specs.Points.{number_of}
 use Rattle.go_board.specs.Reaching.{moved}
 use Rattle.go_chains.specs.declared.change.Change.{Change}
-use Rattle.go_chains.specs.declared.cells.TheConstants.{COUNT}
+use Rattle.go_chains.specs.declared.cells.TheConstants.{CELLS}
 use Rattle.go_chains.specs.Rewound.{IsRewound, NamesCells, PlayLogged, rewound}
 use Rattle.go_chains.specs.Sound.{IsKept}
 use Rattle.go_chains.specs.Boards.{BoardValue, colouring_of, grid_of}
@@ -196,11 +196,11 @@ keep_put law {start = start} {steps = steps} {more = more} c p t {b = b} {b' = b
 -- what was just logged can be put back
 pub rewinds : {start : Start} {steps : List Step} {b b' : BoardValue} {log log' : List (List Change)} {history : HistoryValue} {black white most : ℕ}
     → IsKeeping start steps b log history black white → b'.lines ≡ b.lines → PlayLogged b b' log log' most
-    → (earlier : List (List Change)) (changes : List Change) → log' ≡ earlier ++ changes ∷ [] → NamesCells COUNT changes × IsKept b'.lines (rewound b'.cells changes)
+    → (earlier : List (List Change)) (changes : List Change) → log' ≡ earlier ++ changes ∷ [] → NamesCells CELLS changes × IsKept b'.lines (rewound b'.cells changes)
 rewinds {start = start} {steps = steps} {b = b} {b' = b'} {log = log} k lines logged earlier changes split =
     let last = same_from_push _ _ _ _ (sym logged.gained ∙ split) in
     let here = went_kept start.lines k.tracked.first (map made_of steps) log b.cells k.tracked.kept k.tracked.went in
-    let R : List Change → Type 0 = λ xs. NamesCells COUNT xs × IsKept b'.lines (rewound b'.cells xs) in
+    let R : List Change → Type 0 = λ xs. NamesCells CELLS xs × IsKept b'.lines (rewound b'.cells xs) in
     subst R last.1 (logged.names, subst (λ (n : ℕ). IsKept n (rewound b'.cells logged.changes)) (sym (lines ∙ k.tracked.lines)) (subst (IsKept start.lines) (sym logged.back) here.0))
 
 -- a play that was taken back leaves what was kept

@@ -13,7 +13,7 @@ use Rattle.go_board.specs.declared.vertex.Vertex.TheVariants.{Pass, At}
 use Rattle.go_board.specs.Colours.{Colouring, other}
 use Rattle.go_board.specs.PackBytes.{bytes_of}
 use Rattle.go_board.specs.Packs.{packed_of}
-use Rattle.go_chains.specs.declared.cells.TheConstants.{COUNT}
+use Rattle.go_chains.specs.declared.cells.TheConstants.{CELLS}
 use Rattle.go_chains.specs.declared.change.Change.{Change}
 use Rattle.go_chains.specs.Rewound.{IsRewound, NamesCells, rewound}
 use Rattle.go_chains.specs.Sound.{IsKept}
@@ -67,7 +67,7 @@ module _ {start : Start} {steps : List Step} (front : List Step) (s : Step) {b :
     pub changes : List Change
     pub split : log ≡ last.front ++ changes ∷ []
     pub back : rewound b.cells changes ≡ last.before
-    pub names : NamesCells COUNT changes
+    pub names : NamesCells CELLS changes
     pub kept : IsKept n last.before
 
   pub last_play : (p : Point) → s.made.vertex ≡ At p → LastPlay p
@@ -86,11 +86,11 @@ module _ {start : Start} {steps : List Step} (front : List Step) (s : Step) {b :
   some_play p at = let play = last_play p at in let e = ap length play.split in let l = length-append last.front (play.changes ∷ []) in omega (arith, e, l)
 
   pub back_play : (p : Point) → s.made.vertex ≡ At p → (earlier : List (List Change)) (changes : List Change)
-      → log ≡ earlier ++ changes ∷ [] → NamesCells COUNT changes × IsKept b.lines (rewound b.cells changes)
+      → log ≡ earlier ++ changes ∷ [] → NamesCells CELLS changes × IsKept b.lines (rewound b.cells changes)
   back_play p at earlier changes split =
       let play = last_play p at in
       let same = same_from_push _ _ _ _ (sym play.split ∙ split) in
-      let R : List Change → Type 0 = λ xs. NamesCells COUNT xs × IsKept b.lines (rewound b.cells xs) in
+      let R : List Change → Type 0 = λ xs. NamesCells CELLS xs × IsKept b.lines (rewound b.cells xs) in
       subst R same.1 (play.names, subst (λ (m : ℕ). IsKept m (rewound b.cells play.changes)) (sym k.tracked.lines) (subst (IsKept n) (sym play.back) play.kept))
 
   grid : grid_of b ≡ after_move n before (made_of s)

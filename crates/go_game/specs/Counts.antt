@@ -59,9 +59,9 @@ spare_for Pass = 0
 spare_for (At p) = reads_around
 
 -- What a turn does to a game beside what it stands for: refused it leaves the game as it was, and made it is logged.
--- The reads and writes of the play are counted, at most three times the most changes, and four times where it was taken
--- back. The look whether the point is empty isn't, nor are those that make the key of the board after it. Off the board,
--- and where a stone stands, nothing is counted or written.
+-- The reads and writes of the play are counted, at most three times the most changes, and four times where it was
+-- taken back. The look whether the point is empty isn't counted, nor are those that make the key of the board after it.
+-- Off the board, and where a stone stands, nothing is counted or written.
 pub record TurnCosts {A : Type 0} (made : Move) (result : Result A PlayError) (old new : GameValue) : Type 0 where
   pub err : OnErr result (IsAsBefore old new)
   pub logged : OnOk result (IsLogged old new (most_for old.standing made.colour made.vertex))

@@ -43,8 +43,8 @@ abbrev pub TakesNothing : Standing → Colour → Point → Type 0
 TakesNothing s c p = IsOn s.lines p × (stone_at (present s) p ≡ None)
     × (after_vertex s.lines (board_of s) c (At p) ≡ slice_set (board_of s) (number_of s.lines p) (Some c))
 
--- a turn isn't judged by a glance: a play on an empty point of the board that takes stones
-abbrev pub MayTake : Standing → Colour → Vertex → Type 0
-MayTake s c Pass = ⊥
-MayTake s c (At p) = IsOn s.lines p × (stone_at (present s) p ≡ None)
+-- a play on an empty point of the board takes stones
+abbrev pub Takes : Standing → Colour → Vertex → Type 0
+Takes s c Pass = ⊥
+Takes s c (At p) = IsOn s.lines p × (stone_at (present s) p ≡ None)
     × (after_vertex s.lines (board_of s) c (At p) ≡ slice_set (board_of s) (number_of s.lines p) (Some c) → ⊥)

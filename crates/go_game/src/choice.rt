@@ -55,7 +55,7 @@ impl<A: Allocator + Copy> Game<A> {
     ghost use Rattle.go_chains.specs.Playing.{reads_around};
     ghost use Rattle.go_game.specs.Choices.{chosen, lead_of};
     ghost use Rattle.go_game.specs.Counts.{IsAsBefore, most_for, most_on_all};
-    ghost use Rattle.go_game.specs.Legal.{MayTake, TakesNothing, is_legal, is_open};
+    ghost use Rattle.go_game.specs.Legal.{Takes, TakesNothing, is_legal, is_open};
     ghost use Rattle.go_game.specs.Standings.{IsLegal, IsOccupied, IsOffBoard, Seen, after_vertex, board_of, present, stood_of};
     ghost use Rattle.go_board.specs.Colours.{colour_at};
     ghost use Rattle.go_game.specs.inner.Trials.{AreHoldings, IsBestTrial, IsJudged, tried_on};
@@ -72,7 +72,7 @@ impl<A: Allocator + Copy> Game<A> {
             (λ legal. legal ≡ is_legal self.old.standing made.colour made.vertex) }
         ensures tried { OnErr result ((IsOffBoard self.old.standing made.vertex → ⊥)
             × (IsOccupied self.old.standing made.vertex → ⊥)) }
-        ensures memory { OnErr result (MayTake self.old.standing made.colour made.vertex) }
+        ensures memory { OnErr result (Takes self.old.standing made.colour made.vertex) }
         ensures same { IsAsBefore self.old self.new }
         ensures count { self.new.count
             ≤ self.old.count + 4 * most_for self.old.standing made.colour made.vertex }
@@ -108,7 +108,7 @@ impl<A: Allocator + Copy> Game<A> {
         requires on { IsOn self.old.standing.lines p }
         requires vacant { stone_at (present self.old.standing) p ≡ None }
         ensures judged { IfOk result (λ judged. IsJudged colour p judged self.old self.new) }
-        ensures memory { OnErr result (MayTake self.old.standing colour (Vertex.At p)) }
+        ensures memory { OnErr result (Takes self.old.standing colour (Vertex.At p)) }
         ensures err { OnErr result (IsAsBefore self.old self.new) }
         ensures most { self.new.count
             ≤ self.old.count + 4 * most_for self.old.standing colour (Vertex.At p) }
@@ -129,11 +129,11 @@ impl<A: Allocator + Copy> Game<A> {
     /// The plain choice for a colour, whoever is to move: among its legal plays the one after which
     /// it is ahead by most points, then with most liberties of the placed stone's chain, then the
     /// first in point order; or a pass where no play puts it further ahead than it is. A play that
-    /// may take stones is tried on the game, and taken back also where there was no memory for it.
+    /// takes stones is tried on the game, and taken back also where there was no memory for it.
     pub fn choose(&mut self, colour: Colour) -> Result<Vertex, AllocError>
         ensures ok { IfOk result (λ vertex. vertex ≡ chosen self.old.standing colour) }
         ensures memory { OnErr result
-            ((p : Point) × MayTake self.old.standing colour (Vertex.At p)) }
+            ((p : Point) × Takes self.old.standing colour (Vertex.At p)) }
         ensures same { IsAsBefore self.old self.new }
         ensures count { self.new.count
             ≤ self.old.count + 4 * most_on_all self.old.standing colour }
@@ -164,7 +164,7 @@ impl<A: Allocator + Copy> Game<A> {
         ensures ok { IfOk result (IsBestTrial self.old.standing colour
             (self.old.standing.lines * self.old.standing.lines)) }
         ensures memory { OnErr result
-            ((p : Point) × MayTake self.old.standing colour (Vertex.At p)) }
+            ((p : Point) × Takes self.old.standing colour (Vertex.At p)) }
         ensures same { IsAsBefore self.old self.new }
         ensures count { self.new.count
             ≤ self.old.count + 4 * most_on_all self.old.standing colour }
@@ -190,7 +190,7 @@ impl<A: Allocator + Copy> Game<A> {
         requires holdings { AreHoldings self.old.standing.lines (board_of self.old.standing) colour
             holdings.now }
         ensures ok { IfOk result (λ trial. trial ≡ tried_on self.old.standing colour point) }
-        ensures memory { OnErr result (MayTake self.old.standing colour (Vertex.At point)) }
+        ensures memory { OnErr result (Takes self.old.standing colour (Vertex.At point)) }
         ensures same { IsAsBefore self.old self.new }
         ensures count { self.new.count
             ≤ self.old.count + 4 * most_for self.old.standing colour (Vertex.At point) }

@@ -60,7 +60,8 @@ RefusedAlike = (source : List ℕ) (from : ℕ) (why : SgfError)
     → IsRefusalFrom source from why → (own : SgfError) × IsRefusal (drop from source) own × (why ≡ later_by from own)
 
 -- the source's first tree from a place on is this one, and it stands there
-pub record IsNextTree (source : List ℕ) (from : ℕ) (span : TreeSpan) (nodes : List (List Property)) (children : Trees) : Type 0 where
+pub record IsNextTree (source : List ℕ) (from : ℕ) (span : TreeSpan) (nodes : List (List Property)) (children : Trees)
+    : Type 0 where
   pub begins : BeginsAt source from span.begin
   pub stands : IsTreeAt source span nodes children
 

@@ -1,7 +1,7 @@
 ghost use Rattle.std.specs.Prelude.{◌≡◌, IfOk, OnErr};
 ghost use Rattle.go_board.specs.Pens.{Writes};
 ghost use Rattle.go_game.specs.Counts.{IsAsBefore};
-ghost use Rattle.go_game.specs.Legal.{MayTake};
+ghost use Rattle.go_game.specs.Legal.{Takes};
 ghost use Rattle.goref_results.specs.Plays.{marked_plays, plays_text};
 ghost use Rattle.goref_results.specs.Results.{result_text};
 
@@ -19,7 +19,7 @@ pub fn legal_plays<A: Allocator + Copy>(
 ) -> Result<Plays, AllocError>
     ensures ok { IfOk result (λ plays. plays ≡ marked_plays game.old.standing colour) }
     ensures memory { OnErr result
-        ((p : Point) × MayTake game.old.standing colour (Vertex.At p)) }
+        ((p : Point) × Takes game.old.standing colour (Vertex.At p)) }
     ensures same { IsAsBefore game.old game.new }
 {
     let size = game.size();

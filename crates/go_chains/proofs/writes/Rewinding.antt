@@ -5,7 +5,7 @@ use Rattle.std.proofs.lemmas.List.{get_or-drop, take-append-drop, take_all, take
 use Rattle.go_chains.specs.Rewound.{NamesCells, PlayLogged, Played, all_rewound, plays_of, rewound, total, undone}
 use Rattle.go_chains.specs.inner.Edits.{Logged}
 use Rattle.std.proofs.lemmas.List.Elements.{All-append}
-use Rattle.go_chains.specs.declared.cells.TheConstants.{COUNT}
+use Rattle.go_chains.specs.declared.cells.TheConstants.{CELLS}
 use Rattle.go_chains.specs.declared.change.Change.{Change}
 use Rattle.go_chains.specs.Cells.{CellsValue}
 use Rattle.go_chains.specs.Boards.{BoardValue}
@@ -23,7 +23,7 @@ Logged_then a b c xs ys zs j k most first second within = record {
   traced = second.traced ∙ ap (λ l. l ++ second.added) first.traced ∙ append_assoc a.trace first.added second.added;
   back = rewound-append c.numbers first.added second.added ∙ ap (λ cells. rewound cells first.added) second.back ∙ first.back;
   few = let f = first.few in let s = second.few in omega (arith, length-append first.added second.added);
-  names = All-append (λ change. change.place < COUNT) first.added second.added first.names second.names;
+  names = All-append (λ change. change.place < CELLS) first.added second.added first.names second.names;
 }
 
 -- no write

@@ -1,7 +1,7 @@
 -- One edit of the cells, as the steps of a play make them.
 use Rattle.std.specs.Prelude.{ℕ, List, Vec, ◌≡◌, ◌≤◌, ◌+◌, ◌++◌, length, vec_capacity, vec_len}
 use Rattle.go_chains.specs.declared.change.Change.{Change}
-use Rattle.go_chains.specs.declared.cells.TheConstants.{COUNT}
+use Rattle.go_chains.specs.declared.cells.TheConstants.{CELLS}
 use Rattle.go_chains.specs.Cells.{CellsValue}
 use Rattle.go_chains.specs.Rewound.{NamesCells, rewound}
 
@@ -13,7 +13,7 @@ pub record Logged (old new : CellsValue) (before after : List Change) (most : �
   pub traced : new.trace ≡ old.trace ++ added
   pub back : rewound new.numbers added ≡ old.numbers
   pub few : length added ≤ most
-  pub names : NamesCells COUNT added
+  pub names : NamesCells CELLS added
 
 -- the cells were edited: the log gained changes, at most so many, that put back give the cells before, and
 -- kept its memory; each of them was counted, and so were the reads, at most so many with them

@@ -3,7 +3,7 @@ ghost use Rattle.std.specs.Prelude.{◌≡◌, ◌<◌, ◌≤◌, ◌+◌, ◌�
 ghost use Rattle.go_board.specs.Chains.{liberties};
 ghost use Rattle.go_board.specs.Colours.{other};
 ghost use Rattle.go_board.specs.Points.{IsOn, number_of};
-ghost use Rattle.go_chains.specs.declared.cells.TheConstants.{COUNT};
+ghost use Rattle.go_chains.specs.declared.cells.TheConstants.{CELLS};
 ghost use Rattle.go_chains.specs.Playing.{PlayCosts, most_at, played, reads_around, went};
 ghost use Rattle.go_chains.specs.Rewound.{ForLast, IsRewound, NamesCells, rewound};
 ghost use Rattle.go_chains.specs.Sound.{IsKept};
@@ -126,7 +126,7 @@ impl<K> Board<K> {
     pub fn rewind<A: Allocator + Copy>(&mut self, log: &mut Log<A>, meter: &mut Meter<K>)
         requires play { 0 < length log.old }
         requires cells { ForLast log.old (λ earlier changes.
-            NamesCells COUNT changes × IsKept self.old.lines (rewound self.old.cells changes)) }
+            NamesCells CELLS changes × IsKept self.old.lines (rewound self.old.cells changes)) }
         ensures rewound { ForLast log.old (λ earlier changes.
             IsRewound self.old self.new log.new earlier changes meter.old meter.new) }
         ensures kept { IsKept self.new.lines self.new.cells }

@@ -6,7 +6,7 @@ use Rattle.go_board.specs.declared.vertex.Vertex.{Vertex}
 use Rattle.go_board.specs.declared.vertex.Vertex.TheVariants.{Pass, At}
 use Rattle.go_board.specs.Points.{number_of}
 use Rattle.go_board.specs.Reaching.{moved}
-use Rattle.go_chains.specs.declared.cells.TheConstants.{COUNT}
+use Rattle.go_chains.specs.declared.cells.TheConstants.{CELLS}
 use Rattle.go_chains.specs.declared.change.Change.{Change}
 use Rattle.go_chains.specs.Rewound.{NamesCells, rewound}
 use Rattle.go_chains.specs.Sound.{IsKept}
@@ -16,7 +16,7 @@ use Rattle.go_chains.specs.Boards.{colouring_of}
 -- and a play's changes put back give the cells before it
 abbrev pub IsTurn : ℕ → List ℕ → Colour → Vertex → List (List Change) → List ℕ → List (List Change) → Type 0
 IsTurn n cells c Pass plays next rest = (next ≡ cells) × (rest ≡ plays)
-IsTurn n cells c (At p) plays next rest = (changes : List Change) × (plays ≡ changes ∷ rest) × (rewound next changes ≡ cells) × NamesCells COUNT changes
+IsTurn n cells c (At p) plays next rest = (changes : List Change) × (plays ≡ changes ∷ rest) × (rewound next changes ≡ cells) × NamesCells CELLS changes
     × IsKept n next × (colouring_of n next ≡ moved n (colouring_of n cells) c (number_of n p))
 
 -- the moves lead from the first cells to the last, one turn after the other, with these plays

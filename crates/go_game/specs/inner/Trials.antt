@@ -15,7 +15,7 @@ use Rattle.go_game.specs.declared.choice.Judged.TheVariants.{Illegal, Played, Qu
 use Rattle.go_game.specs.declared.choice.Trial.{Trial}
 use Rattle.go_game.specs.declared.holdings.Holdings.{Holdings}
 use Rattle.go_game.specs.Choices.{is_better, lead_after, liberties_after, liberties_on, may_play, outranks}
-use Rattle.go_game.specs.Legal.{MayTake, is_legal}
+use Rattle.go_game.specs.Legal.{Takes, is_legal}
 use Rattle.go_game.specs.Standings.{GameValue, Standing, after_vertex, board_of, with_move}
 
 -- the liberties of the chain of the stone on a point, none if no stone is there
@@ -73,7 +73,7 @@ IsJudged c p Quiet old new = (is_legal old.standing c (At p) ≡ true) × IsAsBe
     × (after_vertex old.standing.lines (board_of old.standing) c (At p)
     ≡ slice_set (board_of old.standing) (number_of old.standing.lines p) (Some c))
     × (new.count ≤ old.count + reads_around)
-IsJudged c p Played old new = (is_legal old.standing c (At p) ≡ true) × MayTake old.standing c (At p)
+IsJudged c p Played old new = (is_legal old.standing c (At p) ≡ true) × Takes old.standing c (At p)
     × (new.standing ≡ with_move old.standing (record { colour = c; vertex = At p }))
     × IsLogged old new (most_for old.standing c (At p))
     × (new.count ≤ old.count + 3 * most_for old.standing c (At p))

@@ -1,6 +1,6 @@
 use Rattle.std.proofs.Common.{◌≡◌, ◌-◌, ◌∙◌, ◌++◌, ◌∷◌, ◌+◌, [], drop, length, slice_set, ap, sym, arith, option_to_list}
 use Rattle.std.proofs.lemmas.List.{length-take-le}
-use Rattle.go_chains.specs.declared.cells.TheConstants.{COUNT}
+use Rattle.go_chains.specs.declared.cells.TheConstants.{CELLS}
 use Rattle.go_chains.specs.Cells.{CellsValue}
 use Rattle.go_chains.specs.Rewound.{rewound}
 use Rattle.go_chains.proofs.writes.Rewinding.{popped, popped_names, traced_more}
@@ -12,7 +12,7 @@ set-requires g c =
     let split : c.loop.changes.items ≡ c.pop.new.self.items ++ c.change-change.result ∷ [] = c.pop.ensures.items
     ∙ ap (λ o. c.pop.new.self.items ++ option_to_list o) c.in-Some.is ∙ ap (λ x. c.pop.new.self.items ++ x ∷ []) (sym c.change-change.ensures) in
     let p = popped c.args.changes.now.items c.loop.changes.items c.pop.new.self.items c.change-change.result c.loop.counter (omega arith) c.loop.invariant.changes split in
-    popped_names COUNT c.args.changes.now.items c.pop.new.self.items c.change-change.result c.loop.counter c.args.count (omega arith) c.requires.enough p c.requires.names
+    popped_names CELLS c.args.changes.now.items c.pop.new.self.items c.change-change.result c.loop.counter c.args.count (omega arith) c.requires.enough p c.requires.names
 
 pub loop-preserved : goal.loop-preserved
 loop-preserved g c = elim c.match-pop.branch [
