@@ -16,7 +16,8 @@ use Rattle.go_board.proofs.Tests.{same_from_equal}
 abbrev at : ℕ → ℕ → ℕ → ℕ
 at n col row = let p : Point = record { col = col; row = row } in number_of n p
 
-adjacent_points : (n : ℕ) (p q : Point) → IsOn n p → IsOn n q → are_beside p q ≡ true → IsAdjacent n (number_of n p) (number_of n q)
+adjacent_points : (n : ℕ) (p q : Point) → IsOn n p → IsOn n q → are_beside p q ≡ true →
+    IsAdjacent n (number_of n p) (number_of n q)
 adjacent_points n p q p_on q_on e = (
   number_of-lt n p p_on,
   number_of-lt n q q_on,
@@ -28,7 +29,8 @@ next_column n col row col_low row_low =
     let p : Point = record { col = suc col; row = row } in
     let q : Point = record { col = col; row = row } in
     adjacent_points n p q (col_low, row_low) (omega arith, row_low)
-    (or_left (row == row && is_next (suc col) col) _ (and_from (row == row) (is_next (suc col) col) (eq-eqb row row refl)
+    (or_left (row == row && is_next (suc col) col) _
+    (and_from (row == row) (is_next (suc col) col) (eq-eqb row row refl)
     (or_right (suc col + 1 == col) (col + 1 == suc col) (eq-eqb (col + 1) (suc col) (omega arith)))))
 
 next_row : (n col row : ℕ) → col < n → suc row < n → IsAdjacent n (at n col (suc row)) (at n col row)
@@ -40,7 +42,8 @@ next_row n col row col_low row_low =
     (or_right (suc row + 1 == row) (row + 1 == suc row) (eq-eqb (row + 1) (suc row) (omega arith)))))
 
 -- a board with no stones but those of one colour
-module _ (n : ℕ) (g : Colouring) (c : Colour) (plain : (k : ℕ) → k < n * n → (colour_at g k ≡ None) ⊎ (colour_at g k ≡ Some c)) where
+module _ (n : ℕ) (g : Colouring) (c : Colour)
+    (plain : (k : ℕ) → k < n * n → (colour_at g k ≡ None) ⊎ (colour_at g k ≡ Some c)) where
   -- the point is empty, or reaches empty
   IsFree : ℕ → Type 0
   IsFree k = (colour_at g k ≡ None) ⊎ Reaches n g k None
@@ -62,7 +65,8 @@ module _ (n : ℕ) (g : Colouring) (c : Colour) (plain : (k : ℕ) → k < n * n
   module _ (line : ℕ → ℕ) (next : (m : ℕ) → suc m < n → IsAdjacent n (line (suc m)) (line m)) where
     back : (m : ℕ) → m < n → IsFree (line m) → IsFree (line 0)
     back zero low free = free
-    back (suc m) low free = back m (omega arith) (free_beside (line m) (line (suc m)) (adjacent-sym n (line (suc m)) (line m) (next m low)) free)
+    back (suc m) low free = back m (omega arith)
+        (free_beside (line m) (line (suc m)) (adjacent-sym n (line (suc m)) (line m) (next m low)) free)
 
     forth : (m : ℕ) → m < n → IsFree (line 0) → IsFree (line m)
     forth zero low free = free
@@ -83,12 +87,14 @@ module _ (n : ℕ) (g : Colouring) (c : Colour) (plain : (k : ℕ) → k < n * n
   free_all e k e_low empty low =
       subst IsFree (number_of-point_at n k low)
       (free_point (point_at n k) (IsOn-point_at n k low)
-      (free_corner (point_at n e) (IsOn-point_at n e e_low) (subst IsFree (sym (number_of-point_at n e e_low)) (inl empty))))
+      (free_corner (point_at n e) (IsOn-point_at n e e_low)
+      (subst IsFree (sym (number_of-point_at n e e_low)) (inl empty))))
 
   alive : (k : ℕ) → k < n * n → IsFree k → is_dead n g k ≡ false
   unfolding IsFree
   alive k low (inl empty) = ap (λ b. not b && not (reaches n g k None)) (same_from_equal (colour_at g k) None empty)
-  alive k low (inr reach) = ap (λ b. not (has_colour g k None) && not b) ((reaches_is n g k None low).1 reach) ∙ and_false (not (has_colour g k None))
+  alive k low (inr reach) = ap (λ b. not (has_colour g k None) && not b) ((reaches_is n g k None low).1 reach)
+      ∙ and_false (not (has_colour g k None))
     where
       and_false : (b : Bool) → (b && false) ≡ false
       and_false true = refl

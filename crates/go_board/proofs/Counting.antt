@@ -6,23 +6,29 @@ use Rattle.std.proofs.lemmas.List.FromFn.{get_or-range_with_len, length-range_wi
 use Rattle.std.proofs.lemmas.List.Elements.{All-cons, All-head, All-tail, All-nil}
 use Rattle.go_board.specs.Reaching.{points}
 
-pub count_cons : {X : Type 0} (p : X → Bool) (x : X) (xs : List X) → count_by p (x ∷ xs) ≡ cond (p x) 1 0 + count_by p xs
+pub count_cons : {X : Type 0} (p : X → Bool) (x : X) (xs : List X) →
+    count_by p (x ∷ xs) ≡ cond (p x) 1 0 + count_by p xs
 count_cons p x xs = sum_by-cons (λ y. let n : ℕ = cond (p y) 1 0 in n) x xs
 
-pub count_cons_pass : {X : Type 0} (p : X → Bool) (x : X) (xs : List X) → p x ≡ true → count_by p (x ∷ xs) ≡ 1 + count_by p xs
+pub count_cons_pass : {X : Type 0} (p : X → Bool) (x : X) (xs : List X) → p x ≡ true →
+    count_by p (x ∷ xs) ≡ 1 + count_by p xs
 count_cons_pass p x xs e = count_cons p x xs ∙ ap (λ b. let n : ℕ = cond b 1 0 + count_by p xs in n) e
 
-pub count_cons_fail : {X : Type 0} (p : X → Bool) (x : X) (xs : List X) → p x ≡ false → count_by p (x ∷ xs) ≡ count_by p xs
-count_cons_fail p x xs e = count_cons p x xs ∙ ap (λ b. let n : ℕ = cond b 1 0 + count_by p xs in n) e ∙ (let z : 0 + count_by p xs ≡ count_by p xs = omega arith in z)
+pub count_cons_fail : {X : Type 0} (p : X → Bool) (x : X) (xs : List X) → p x ≡ false →
+    count_by p (x ∷ xs) ≡ count_by p xs
+count_cons_fail p x xs e = count_cons p x xs ∙ ap (λ b. let n : ℕ = cond b 1 0 + count_by p xs in n) e
+    ∙ (let z : 0 + count_by p xs ≡ count_by p xs = omega arith in z)
 
 -- of two tests on a list of which the second passes what the first does, the second counts no fewer
-pub count_le : {X : Type 0} (a b : X → Bool) (xs : List X) → All (λ x. a x ≡ true → b x ≡ true) xs → count_by a xs ≤ count_by b xs
+pub count_le : {X : Type 0} (a b : X → Bool) (xs : List X) → All (λ x. a x ≡ true → b x ≡ true) xs →
+    count_by a xs ≤ count_by b xs
 count_le a b [] all = omega arith
 count_le {X} a b (x ∷ xs) all =
     let P : X → Type 0 = λ y. a y ≡ true → b y ≡ true in
     let le : count_by a xs ≤ count_by b xs = count_le a b xs (All-tail P x xs all) in
     elim (cases_Bool (a x)) [
-      | inl holds ↦ let ca = count_cons_pass a x xs holds in let cb = count_cons_pass b x xs (All-head P x xs all holds) in omega arith
+      | inl holds ↦ let ca = count_cons_pass a x xs holds in let cb =
+          count_cons_pass b x xs (All-head P x xs all holds) in omega arith
       | inr fails ↦ let ca = count_cons_fail a x xs fails in elim (cases_Bool (b x)) [
         | inl holds ↦ let cb = count_cons_pass b x xs holds in omega arith
         | inr also ↦ let cb = count_cons_fail b x xs also in omega arith
@@ -38,7 +44,8 @@ grows_or_same {X} a b (x ∷ xs) all =
     let Q : X → Type 0 = λ y. b y ≡ true → a y ≡ true in
     let le : count_by a xs ≤ count_by b xs = count_le a b xs (All-tail P x xs all) in
     elim (cases_Bool (a x)) [
-      | inl holds ↦ let ca = count_cons_pass a x xs holds in let cb = count_cons_pass b x xs (All-head P x xs all holds) in
+      | inl holds ↦ let ca = count_cons_pass a x xs holds in let cb =
+          count_cons_pass b x xs (All-head P x xs all holds) in
           elim (grows_or_same a b xs (All-tail P x xs all)) [
             | inl same ↦ inl (All-cons Q x xs (λ e. holds) same)
             | inr more ↦ inr (omega arith)
@@ -73,5 +80,6 @@ on_points n P each k d low =
 
 pub at_points : (n : ℕ) (P : ℕ → Type 0) → All P (points n) → (p : ℕ) → p < n * n → P p
 at_points n P all p low =
-    let is : get_or (points n) p p ≡ p = get_or-range_with_len 0 (n * n) p p low ∙ (let z : 0 + p ≡ p = omega arith in z) in
+    let is : get_or (points n) p p ≡ p = get_or-range_with_len 0 (n * n) p p low
+    ∙ (let z : 0 + p ≡ p = omega arith in z) in
     subst P is (all p p (rw (length-range_with_len 0 (n * n)) low))

@@ -13,7 +13,8 @@ pub record IsShare (l share : ℕ) : Type 0 where
   pub room : 600 < share
 
 -- what is missing to the next row is less than what the share has too much
-pub row_by_share : (l share number : ℕ) → 0 < l → l ≤ 25 → IsShare l share → number < l * l → number * share / 65536 ≡ number / l
+pub row_by_share : (l share number : ℕ) → 0 < l → l ≤ 25 → IsShare l share → number < l * l →
+    number * share / 65536 ≡ number / l
 row_by_share l share number some few is low =
     let q = number / l in
     let r = number % l in
@@ -26,18 +27,21 @@ row_by_share l share number some few is low =
     let parts : (q * l + r) * share ≡ q * (l * share) + r * share = omega arith in
     let rest : q * (65536 + e) ≡ q * 65536 + q * e = omega arith in
     let whole : number * share ≡ q * 65536 + (q * e + r * share) =
-    ap (λ m. m * share) (sym split) ∙ parts ∙ ap (λ k. q * k + r * share) shared ∙ ap (λ k. k + r * share) rest ∙ (let z : q * 65536 + q * e + r * share ≡ q * 65536 + (q * e + r * share) = omega arith in z) in
+    ap (λ m. m * share) (sym split) ∙ parts ∙ ap (λ k. q * k + r * share) shared ∙ ap (λ k. k + r * share) rest
+    ∙ (let z : q * 65536 + q * e + r * share ≡ q * 65536 + (q * e + r * share) = omega arith in z) in
     let qe : q * e ≤ 24 * 24 = mul-le q e 24 24 (omega (arith, q_low, few)) (omega (arith, e_low, few)) in
     let next : (r + 1) * share ≤ l * share = mul-le (r + 1) share l share (omega (arith, r_low)) (omega arith) in
     let one : (r + 1) * share ≡ r * share + share = omega arith in
-    ap (λ m. m / 65536) whole ∙ div-mul-add q 65536 (q * e + r * share) (omega (arith, qe, next, one, shared, e_low, few, is.room))
+    ap (λ m. m / 65536) whole ∙ div-mul-add q 65536 (q * e + r * share)
+    (omega (arith, qe, next, one, shared, e_low, few, is.room))
 
 -- a word has room for the product
 pub product_fits : (l share number : ℕ) → 0 < l → l ≤ 25 → IsShare l share → number < l * l → number * share < 2 ^ 32
 product_fits l share number some few is low =
     let square : l * l ≤ 25 * 25 = mul-le l l 25 25 few few in
     let once : 1 * share ≤ l * share = mul-le 1 share l share (omega (arith, some)) (omega arith) in
-    let most : number * share ≤ 625 * 65561 = mul-le number share 625 65561 (omega (arith, low, square)) (omega (arith, once, is.most, few)) in
+    let most : number * share ≤ 625 * 65561 =
+    mul-le number share 625 65561 (omega (arith, low, square)) (omega (arith, once, is.most, few)) in
     omega (arith, most)
 
 -- the test of it for each number of lines

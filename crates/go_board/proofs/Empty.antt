@@ -17,4 +17,5 @@ untrue true e = absurd (true≢false (sym e))
 untrue false e = refl
 
 pub alive_without_stones : (n : ℕ) (g : Colouring) → not (list_any is_some g) ≡ true → AreAlive n g
-alive_without_stones n g e k low = ap (λ o. not (is_same o None) && not (reaches n g k None)) (none_stands g (untrue (list_any is_some g) e) k)
+alive_without_stones n g e k low =
+    ap (λ o. not (is_same o None) && not (reaches n g k None)) (none_stands g (untrue (list_any is_some g) e) k)

@@ -16,25 +16,31 @@ pub record IsFlood (n : ℕ) (g : Colouring) (seeds marks : List Bool) (waiting 
   pub room : HasRoom marks waiting
 
 -- a path with one more step
-pub leads_more : (n : ℕ) (g : Colouring) (p : ℕ) (path : List ℕ) (q r : ℕ) → Leads n g p path q → IsStep n g q r → Leads n g p (path ++ r ∷ []) r
-leads_more n g p [] q r here step = let from : IsStep n g p r = subst (λ (m : ℕ). IsStep n g m r) (sym here) step in (from.0, from.1, refl)
+pub leads_more : (n : ℕ) (g : Colouring) (p : ℕ) (path : List ℕ) (q r : ℕ) → Leads n g p path q → IsStep n g q r →
+    Leads n g p (path ++ r ∷ []) r
+leads_more n g p [] q r here step = let from : IsStep n g p r = subst (λ (m : ℕ). IsStep n g m r) (sym here) step in
+    (from.0, from.1, refl)
 leads_more n g p (s ∷ path) q r h step = (h.0, h.1, leads_more n g s path q r h.2 step)
 
-joined_more : (n : ℕ) (g : Colouring) (seeds : List Bool) (p q : ℕ) → IsJoinedTo n g seeds p → IsStep n g p q → IsJoinedTo n g seeds q
+joined_more : (n : ℕ) (g : Colouring) (seeds : List Bool) (p q : ℕ) → IsJoinedTo n g seeds p → IsStep n g p q →
+    IsJoinedTo n g seeds q
 joined_more n g seeds p q h step = (h.0, h.1, (h.2.0 ++ q ∷ [], leads_more n g h.0 h.2.0 p q h.2.1 step))
 
 -- the last that waits is on the board, and without it there is still room
-pub last_on : (n : ℕ) (g : Colouring) (seeds marks : List Bool) (waiting front : List ℕ) (p : ℕ) → waiting ≡ front ++ p ∷ [] → IsFlood n g seeds marks waiting → p < n * n
+pub last_on : (n : ℕ) (g : Colouring) (seeds marks : List Bool) (waiting front : List ℕ) (p : ℕ) → waiting ≡ front
+    ++ p ∷ [] → IsFlood n g seeds marks waiting → p < n * n
 last_on n g seeds marks waiting front p is flood = flood.on p (flood.marked p (rw is (Contains-push front p)))
 
 -- one turn: the last that waits is taken, and its steps lead to marked points
-pub flood_more : (n : ℕ) (g : Colouring) (seeds marks : List Bool) (waiting front : List ℕ) (p : ℕ) (marks' : List Bool) (waiting' : List ℕ)
+pub flood_more : (n : ℕ) (g : Colouring) (seeds marks : List Bool) (waiting front : List ℕ) (p : ℕ) (marks' : List Bool)
+    (waiting' : List ℕ)
     → waiting ≡ front ++ p ∷ [] → IsFlood n g seeds marks waiting
     → Grows (IsStep n g p) marks front marks' waiting' → ((j : ℕ) → IsStep n g p j → IsMarked marks' j)
     → IsFlood n g seeds marks' waiting'
 flood_more n g seeds marks waiting front p marks' waiting' is flood grows done =
     let p_marked : IsMarked marks p = flood.marked p (rw is (Contains-push front p)) in
-    let front_marked : (j : ℕ) → Contains front j → IsMarked marks j = λ j w. flood.marked j (rw is (Contains-append_left front (p ∷ []) j w)) in
+    let front_marked : (j : ℕ) → Contains front j → IsMarked marks j = λ j w.
+    flood.marked j (rw is (Contains-append_left front (p ∷ []) j w)) in
     record {
       sound = λ j m. elim (grows.only j m) [
         | inl before ↦ flood.sound j before
@@ -57,12 +63,15 @@ flood_more n g seeds marks waiting front p marks' waiting' is flood grows done =
     }
 
 -- what each step keeps, each path keeps
-pub closed_under_paths : (n : ℕ) (g : Colouring) (marks : List Bool) → ((j q : ℕ) → IsMarked marks j → IsStep n g j q → IsMarked marks q)
+pub closed_under_paths : (n : ℕ) (g : Colouring) (marks : List Bool) →
+    ((j q : ℕ) → IsMarked marks j → IsStep n g j q → IsMarked marks q)
     → (p : ℕ) (path : List ℕ) (q : ℕ) → Leads n g p path q → IsMarked marks p → IsMarked marks q
 closed_under_paths n g marks closed p [] q here m = subst (IsMarked marks) here m
-closed_under_paths n g marks closed p (r ∷ path) q h m = closed_under_paths n g marks closed r path q h.2 (closed p r m (h.0, h.1))
+closed_under_paths n g marks closed p (r ∷ path) q h m =
+    closed_under_paths n g marks closed r path q h.2 (closed p r m (h.0, h.1))
 
-pub flood_done : (n : ℕ) (g : Colouring) (seeds marks : List Bool) (waiting : List ℕ) → (0 < length waiting → ⊥) → IsFlood n g seeds marks waiting → (j : ℕ) → IsMarked marks j ↔ IsJoinedTo n g seeds j
+pub flood_done : (n : ℕ) (g : Colouring) (seeds marks : List Bool) (waiting : List ℕ) → (0 < length waiting → ⊥) →
+    IsFlood n g seeds marks waiting → (j : ℕ) → IsMarked marks j ↔ IsJoinedTo n g seeds j
 flood_done n g seeds marks waiting none flood j = (
   flood.sound j,
   λ h. closed_under_paths n g marks (λ k q m step. elim (flood.closed k m) [

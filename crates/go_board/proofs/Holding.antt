@@ -19,23 +19,32 @@ use Rattle.go_board.proofs.Tests.{equal_from_same, same_from_equal}
 
 -- points that share a side are next to each other by their rows and columns
 next_of_is : (a b : ℕ) → is_next a b ≡ true → (a + 1 ≡ b) ⊎ (b + 1 ≡ a)
-next_of_is a b e = elim (or_cases (a + 1 == b) (b + 1 == a) e) [ inl up ↦ inl (eqb-true (a + 1) b up) | inr down ↦ inr (eqb-true (b + 1) a down) ]
+next_of_is a b e = elim (or_cases (a + 1 == b) (b + 1 == a) e)
+    [ inl up ↦ inl (eqb-true (a + 1) b up) | inr down ↦ inr (eqb-true (b + 1) a down) ]
 
 is_of_next : (a b : ℕ) → (a + 1 ≡ b) ⊎ (b + 1 ≡ a) → is_next a b ≡ true
 is_of_next a b (inl up) = or_left (a + 1 == b) (b + 1 == a) (eq-eqb (a + 1) b up)
 is_of_next a b (inr down) = or_right (a + 1 == b) (b + 1 == a) (eq-eqb (b + 1) a down)
 
 pub next_from_beside : (p q : Point) → are_beside p q ≡ true → IsNext p.row p.col q.row q.col
-next_from_beside p q e = elim (or_cases (p.row == q.row && is_next p.col q.col) (p.col == q.col && is_next p.row q.row) e) [
-  | inl row ↦ let h = and_parts (p.row == q.row) (is_next p.col q.col) row in inl (eqb-true p.row q.row h.0, next_of_is p.col q.col h.1)
-  | inr col ↦ let h = and_parts (p.col == q.col) (is_next p.row q.row) col in inr (eqb-true p.col q.col h.0, next_of_is p.row q.row h.1)
-]
+next_from_beside p q e = elim (or_cases (p.row == q.row && is_next p.col q.col) (p.col == q.col && is_next p.row q.row)
+    e) [
+      | inl row ↦ let h = and_parts (p.row == q.row) (is_next p.col q.col) row in
+          inl (eqb-true p.row q.row h.0, next_of_is p.col q.col h.1)
+      | inr col ↦ let h = and_parts (p.col == q.col) (is_next p.row q.row) col in
+          inr (eqb-true p.col q.col h.0, next_of_is p.row q.row h.1)
+    ]
 
 beside_from_next : (p q : Point) → IsNext p.row p.col q.row q.col → are_beside p q ≡ true
-beside_from_next p q (inl row) = or_left (p.row == q.row && is_next p.col q.col) _ (and_from (p.row == q.row) (is_next p.col q.col) (eq-eqb p.row q.row row.0) (is_of_next p.col q.col row.1))
-beside_from_next p q (inr col) = or_right (p.row == q.row && is_next p.col q.col) _ (and_from (p.col == q.col) (is_next p.row q.row) (eq-eqb p.col q.col col.0) (is_of_next p.row q.row col.1))
+beside_from_next p q (inl row) =
+    or_left (p.row == q.row && is_next p.col q.col) _
+    (and_from (p.row == q.row) (is_next p.col q.col) (eq-eqb p.row q.row row.0) (is_of_next p.col q.col row.1))
+beside_from_next p q (inr col) =
+    or_right (p.row == q.row && is_next p.col q.col) _
+    (and_from (p.col == q.col) (is_next p.row q.row) (eq-eqb p.col q.col col.0) (is_of_next p.row q.row col.1))
 
-pub adjacent_from_next : (n row col row' col' : ℕ) → row < n → col < n → row' < n → col' < n → IsNext row col row' col' → IsAdjacent n (row * n + col) (row' * n + col')
+pub adjacent_from_next : (n row col row' col' : ℕ) → row < n → col < n → row' < n → col' < n →
+    IsNext row col row' col' → IsAdjacent n (row * n + col) (row' * n + col')
 adjacent_from_next n row col row' col' row_low col_low row'_low col'_low next =
     let p : Point = record { col = col; row = row } in
     let q : Point = record { col = col'; row = row' } in
@@ -54,28 +63,34 @@ module _ (n : ℕ) (g : Colouring) (c : Colour) where
   held_stone p stone = or_left (has_colour g p (Some c)) _ (same_from_equal (colour_at g p) (Some c) stone)
 
   pub held_empty : (p : ℕ) → colour_at g p ≡ None → reaches n g p (Some c) ≡ true → is_held n g c p ≡ true
-  held_empty p empty reach = or_right (has_colour g p (Some c)) _ (and_from (has_colour g p None) _ (same_from_equal (colour_at g p) None empty) reach)
+  held_empty p empty reach = or_right (has_colour g p (Some c)) _
+      (and_from (has_colour g p None) _ (same_from_equal (colour_at g p) None empty) reach)
 
-  pub held_cases : (p : ℕ) → is_held n g c p ≡ true → (colour_at g p ≡ Some c) ⊎ ((colour_at g p ≡ None) × (reaches n g p (Some c) ≡ true))
+  pub held_cases : (p : ℕ) → is_held n g c p ≡ true → (colour_at g p ≡ Some c)
+      ⊎ ((colour_at g p ≡ None) × (reaches n g p (Some c) ≡ true))
   held_cases p held = elim (or_cases (has_colour g p (Some c)) _ held) [
     | inl stone ↦ inl (equal_from_same (colour_at g p) (Some c) stone)
-    | inr further ↦ let parts = and_parts (has_colour g p None) (reaches n g p (Some c)) further in inr (equal_from_same (colour_at g p) None parts.0, parts.1)
+    | inr further ↦ let parts = and_parts (has_colour g p None) (reaches n g p (Some c)) further in
+        inr (equal_from_same (colour_at g p) None parts.0, parts.1)
   ]
 
   -- an empty point beside one that is held is held
-  pub held_beside : (p q : ℕ) → IsAdjacent n p q → colour_at g p ≡ None → is_held n g c q ≡ true → is_held n g c p ≡ true
+  pub held_beside : (p q : ℕ) → IsAdjacent n p q → colour_at g p ≡ None → is_held n g c q ≡ true →
+      is_held n g c p ≡ true
   held_beside p q adjacent empty held = elim (held_cases q held) [
     | inl stone ↦ held_empty p empty ((reaches_is n g p (Some c) adjacent.0).1 (p, q, ([], refl), adjacent, stone))
     | inr further ↦
         let reach = (reaches_is n g q (Some c) adjacent.1).0 further.1 in
-        held_empty p empty ((reaches_is n g p (Some c) adjacent.0).1 (reach.0, reach.1, (q ∷ reach.2.0, (adjacent, further.0 ∙ sym empty, reach.2.1)), reach.3, reach.4))
+        held_empty p empty ((reaches_is n g p (Some c) adjacent.0).1
+        (reach.0, reach.1, (q ∷ reach.2.0, (adjacent, further.0 ∙ sym empty, reach.2.1)), reach.3, reach.4))
   ]
 
   -- the test that what spreads passes
   pub on_held : ℕ → ℕ → Bool
   on_held row col = nat_lt row n && (nat_lt col n && is_held n g c (row * n + col))
 
-  pub on_held_is : (row col : ℕ) → (on_held row col ≡ true) ↔ ((row < n) × (col < n) × IsTrue (is_held n g c (row * n + col)))
+  pub on_held_is : (row col : ℕ) → (on_held row col ≡ true)
+      ↔ ((row < n) × (col < n) × IsTrue (is_held n g c (row * n + col)))
   unfolding on_held
   on_held_is row col = (
     λ e.
@@ -89,7 +104,8 @@ module _ (n : ℕ) (g : Colouring) (c : Colour) where
       (open_is : (row col : ℕ) → IsIn free row col ↔ ((row < n) × (col < n) × (IsIn theirs row col → ⊥)))
       (spread : Spread own free marks) (closed : (row : ℕ) → row < n → IsClosedAt marks free row) where
     stones_pass : PassesAll on_held own
-    stones_pass row col inside = let h = (stones row col).0 inside in (on_held_is row col).1 (h.0, h.1, held_stone (row * n + col) h.2)
+    stones_pass row col inside = let h = (stones row col).0 inside in
+        (on_held_is row col).1 (h.0, h.1, held_stone (row * n + col) h.2)
 
     passes_on : PassesOn on_held free
     passes_on row col row' col' next passes is_free =
@@ -112,7 +128,8 @@ module _ (n : ℕ) (g : Colouring) (c : Colour) where
     unfolding Marked
     stone_marked p low stone =
         let on = IsOn-point_at n p low in
-        spread.kept (p / n) (p % n) ((stones (p / n) (p % n)).1 (on.1, on.0, ap (colour_at g) (number_of-point_at n p low) ∙ stone))
+        spread.kept (p / n) (p % n) ((stones (p / n) (p % n)).1
+        (on.1, on.0, ap (colour_at g) (number_of-point_at n p low) ∙ stone))
 
     beside_marked : (p q : ℕ) → IsAdjacent n p q → colour_at g p ≡ None → Marked q → Marked p
     unfolding Marked
@@ -120,18 +137,27 @@ module _ (n : ℕ) (g : Colouring) (c : Colour) where
         let on = IsOn-point_at n p adjacent.0 in
         let next = next_from_beside (point_at n p) (point_at n q) adjacent.2 in
         closed (p / n) on.1 (p % n) (q / n) (q % n) next marked
-        ((open_is (p / n) (p % n)).1 (on.1, on.0, λ theirs_in. let bad = sym empty ∙ sym (ap (colour_at g) (number_of-point_at n p adjacent.0)) ∙ ((others (p / n) (p % n)).0 theirs_in).2 in cc))
+        ((open_is (p / n) (p % n)).1 (
+          on.1,
+          on.0,
+          λ theirs_in. let bad = sym empty
+              ∙ sym (ap (colour_at g) (number_of-point_at n p adjacent.0)) ∙ ((others (p / n) (p % n)).0 theirs_in).2 in
+              cc,
+        ))
 
     path_marked : (p : ℕ) (path : List ℕ) (q : ℕ) → Leads n g p path q → colour_at g p ≡ None → Marked q → Marked p
     path_marked p [] q here empty marked = subst Marked (sym here) marked
-    path_marked p (r ∷ path) q h empty marked = beside_marked p r h.0 empty (path_marked r path q h.2 (h.1 ∙ empty) marked)
+    path_marked p (r ∷ path) q h empty marked =
+        beside_marked p r h.0 empty (path_marked r path q h.2 (h.1 ∙ empty) marked)
 
     held_marked : (p : ℕ) → p < n * n → is_held n g c p ≡ true → Marked p
     held_marked p low held = elim (held_cases p held) [
       | inl stone ↦ stone_marked p low stone
       | inr further ↦
           let reach = (reaches_is n g p (Some c) low).0 further.1 in
-          path_marked p reach.2.0 reach.0 reach.2.1 further.0 (beside_marked reach.0 reach.1 reach.3 (leads_colour n g p reach.2.0 reach.0 reach.2.1 ∙ further.0) (stone_marked reach.1 reach.3.1 reach.4))
+          path_marked p reach.2.0 reach.0 reach.2.1 further.0
+          (beside_marked reach.0 reach.1 reach.3 (leads_colour n g p reach.2.0 reach.0 reach.2.1 ∙ further.0)
+          (stone_marked reach.1 reach.3.1 reach.4))
     ]
 
     pub held_is : AreHeld n g c marks
@@ -141,5 +167,6 @@ module _ (n : ℕ) (g : Colouring) (c : Colour) where
       λ h.
           let p : Point = record { col = col; row = row } in
           let marked = held_marked (row * n + col) (number_of-lt n p (h.1, h.0)) h.2 in
-          ap₂ (λ r k. bit_at (slice_index marks r) k) (sym (row_back n row col h.1)) (sym (col_back n row col h.1)) ∙ marked,
+          ap₂ (λ r k. bit_at (slice_index marks r) k) (sym (row_back n row col h.1)) (sym (col_back n row col h.1))
+          ∙ marked,
     )

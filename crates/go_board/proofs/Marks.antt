@@ -13,18 +13,21 @@ use Rattle.go_board.specs.inner.Flood.{Grows, HasRoom, IsMarked}
 pub unmarked : (m j : ℕ) → IsMarked (replicate m false) j → ⊥
 unmarked m j marked = elim (cases_lt j m) [
   | inl low ↦ let clear = get_or-replicate m j false false low in let bad : true ≡ false = sym marked ∙ clear in cc
-  | inr past ↦ let clear = get_or_past (replicate m false) j false (simp length-replicate past) in let bad : true ≡ false = sym marked ∙ clear in cc
+  | inr past ↦ let clear = get_or_past (replicate m false) j false (simp length-replicate past) in let bad :
+      true ≡ false = sym marked ∙ clear in cc
 ]
 
 -- marking one more leaves one fewer
-one_fewer : (marks : List Bool) (k : ℕ) → k < length marks → get_or marks k false ≡ false → count_by not (set marks k true) + 1 ≡ count_by not marks
+one_fewer : (marks : List Bool) (k : ℕ) → k < length marks → get_or marks k false ≡ false →
+    count_by not (set marks k true) + 1 ≡ count_by not marks
 one_fewer marks k low clear =
     let counted = sum_by-set (λ (b : Bool). cond (not b) 1 0) marks k true false low in
     let was = ap (λ b. let n : ℕ = cond (not b) 1 0 in n) clear in
     omega (arith, counted, was)
 
 -- a point is marked and waits
-pub mark_grows : (marks : List Bool) (waiting : List ℕ) (k : ℕ) → k < MAX_POINTS → HasRoom marks waiting → get_or marks k false ≡ false
+pub mark_grows : (marks : List Bool) (waiting : List ℕ) (k : ℕ) → k < MAX_POINTS → HasRoom marks waiting →
+    get_or marks k false ≡ false
     → Grows (λ j. j ≡ k) marks waiting (set marks k true) (waiting ++ k ∷ [])
 mark_grows marks waiting k low room clear =
     let within : k < length marks = omega (arith, room.all) in
@@ -50,7 +53,8 @@ mark_grows marks waiting k low room clear =
     }
 
 -- what grew, and grew more, grew
-pub grows_more : {New Next : ℕ → Type 0} {m₀ : List Bool} {w₀ : List ℕ} {m₁ : List Bool} {w₁ : List ℕ} {m₂ : List Bool} {w₂ : List ℕ}
+pub grows_more : {New Next : ℕ → Type 0} {m₀ : List Bool} {w₀ : List ℕ} {m₁ : List Bool} {w₁ : List ℕ} {m₂ : List Bool}
+    {w₂ : List ℕ}
     → ((j : ℕ) → Next j → New j) → Grows New m₀ w₀ m₁ w₁ → Grows Next m₁ w₁ m₂ w₂ → Grows New m₀ w₀ m₂ w₂
 grows_more next a b = record {
   kept = λ j m. b.kept j (a.kept j m);

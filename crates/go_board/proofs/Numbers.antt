@@ -13,7 +13,8 @@ pub row_back : (n row col : ℕ) → col < n → (row * n + col) / n ≡ row
 row_back n row col low = grind (arith, common_steps, rows)
 
 pub point_at-number_of : (n : ℕ) (p : Point) → IsOn n p → point_at n (number_of n p) ≡ p
-point_at-number_of n p on = ap₂ (λ c r. let q : Point = record { col = c; row = r } in q) (col_back n p.row p.col on.0) (row_back n p.row p.col on.0)
+point_at-number_of n p on = ap₂ (λ c r. let q : Point = record { col = c; row = r } in q) (col_back n p.row p.col on.0)
+    (row_back n p.row p.col on.0)
 
 pub number_of-lt : (n : ℕ) (p : Point) → IsOn n p → number_of n p < n * n
 number_of-lt n p on = grind (arith, common_steps, rows)

@@ -41,9 +41,14 @@ same_four : (g h : Colouring) (i : ℕ) → byte_of g i ≡ byte_of h i
     → AreSame g h (4 * i) × AreSame g h (4 * i + 1) × AreSame g h (4 * i + 2) × AreSame g h (4 * i + 3)
 same_four g h i e =
     let at : Colouring → ℕ → ℕ = λ f k. code_of (colour_at f k) in
-    let digits = four_digits (at g (4 * i)) (at g (4 * i + 1)) (at g (4 * i + 2)) (at g (4 * i + 3)) (at h (4 * i)) (at h (4 * i + 1)) (at h (4 * i + 2)) (at h (4 * i + 3))
-    (code_low _) (code_low _) (code_low _) (code_low _) (code_low _) (code_low _) (code_low _) (code_low _) e in
-    (equal_from_code _ _ digits.0, equal_from_code _ _ digits.1, equal_from_code _ _ digits.2, equal_from_code _ _ digits.3)
+    let digits = four_digits (at g (4 * i)) (at g (4 * i + 1)) (at g (4 * i + 2)) (at g (4 * i + 3)) (at h (4 * i))
+    (at h (4 * i + 1)) (at h (4 * i + 2)) (at h (4 * i + 3))
+    (code_low _) (code_low _) (code_low _) (code_low _) (code_low _) (code_low _) (code_low _) (code_low _) e in (
+      equal_from_code _ _ digits.0,
+      equal_from_code _ _ digits.1,
+      equal_from_code _ _ digits.2,
+      equal_from_code _ _ digits.3,
+    )
 
 same_point : (g h : Colouring) (k : ℕ) → byte_of g (k / 4) ≡ byte_of h (k / 4) → AreSame g h k
 same_point g h k e =
@@ -67,9 +72,11 @@ same_byte g h e i low =
     ∙ ap (λ (bytes : List ℕ). get_or bytes i 0) e
     ∙ get_or-map-range_with_len (byte_of h) 0 PACK_BYTES i i 0 low (omega arith)
 
-pub packs_tell_apart : (g h : Colouring) → length g ≡ length h → length g ≤ MAX_POINTS → (packed_of g ≡ packed_of h) ↔ (g ≡ h)
+pub packs_tell_apart : (g h : Colouring) → length g ≡ length h → length g ≤ MAX_POINTS → (packed_of g ≡ packed_of h)
+    ↔ (g ≡ h)
 packs_tell_apart g h same few = (
-  λ e. equal_by_points (length g) g h refl (sym same) (λ k low. same_point g h k (same_byte g h e (k / 4) (omega (arith, low, few)))),
+  λ e. equal_by_points (length g) g h refl (sym same)
+      (λ k low. same_point g h k (same_byte g h e (k / 4) (omega (arith, low, few)))),
   λ e. ap packed_of e,
 )
 
@@ -78,6 +85,7 @@ pub zeros : (bytes : List ℕ) → are_zero bytes ≡ true → bytes ≡ replica
 zeros [] is = refl
 zeros (b ∷ bytes) is = here (nat_eq b 0) refl is (zeros bytes)
   where
-    here : (x : Bool) → nat_eq b 0 ≡ x → (x && are_zero bytes) ≡ true → (are_zero bytes ≡ true → bytes ≡ replicate (length bytes) 0) → b ∷ bytes ≡ replicate (length (b ∷ bytes)) 0
+    here : (x : Bool) → nat_eq b 0 ≡ x → (x && are_zero bytes) ≡ true →
+        (are_zero bytes ≡ true → bytes ≡ replicate (length bytes) 0) → b ∷ bytes ≡ replicate (length (b ∷ bytes)) 0
     here true e rest more = ap₂ (λ (y : ℕ) (l : List ℕ). y ∷ l) (grind (arith, nat_tests, e)) (more rest)
     here false e rest more = absurd (true≢false (sym rest))

@@ -12,7 +12,8 @@ use Rattle.go_board.proofs.RowBits.{from_or, or_left, or_right}
 -- a set with one word written anew
 module _ (words : List ℕ) (place value : ℕ) (long : place < length words) where
   at_word : (q : ℕ) → q / 64 ≡ place → bit_of (slice_set words place value) q ≡ bit_at value (q % 64)
-  at_word q same = ap (λ x. bit_at x (q % 64)) (ap (slice_index (slice_set words place value)) same ∙ get_or-set_same words place value 0 long)
+  at_word q same = ap (λ x. bit_at x (q % 64))
+      (ap (slice_index (slice_set words place value)) same ∙ get_or-set_same words place value 0 long)
 
   off_word : (q : ℕ) → q / 64 ≢ place → bit_of (slice_set words place value) q ≡ bit_of words q
   off_word q off = ap (λ x. bit_at x (q % 64)) (get_or-set_other words place (q / 64) value 0 off)
@@ -23,13 +24,15 @@ module _ (words : List ℕ) (p : ℕ) (long : p / 64 < length words) where
   put = slice_set words (p / 64) (bit_or (slice_index words (p / 64)) (1 * 2 ^ (p % 64) % 2 ^ 64))
 
   put_same : bit_of put p ≡ 1
-  put_same = at_word words (p / 64) _ long p refl ∙ bit_at_set_same w64 (slice_index words (p / 64)) (p % 64) (omega arith)
+  put_same = at_word words (p / 64) _ long p refl
+      ∙ bit_at_set_same w64 (slice_index words (p / 64)) (p % 64) (omega arith)
 
   put_other : (q : ℕ) → q ≢ p → bit_of put q ≡ bit_of words q
   put_other q off = elim (cases_eq (q / 64) (p / 64)) [
     | inl same ↦
         let not_bit : q % 64 ≢ p % 64 = λ e. off (omega arith) in
-        at_word words (p / 64) _ long q same ∙ bit_at_set_other w64 (slice_index words (p / 64)) (p % 64) (omega arith) (q % 64) not_bit
+        at_word words (p / 64) _ long q same
+        ∙ bit_at_set_other w64 (slice_index words (p / 64)) (p % 64) (omega arith) (q % 64) not_bit
         ∙ ap (λ k. bit_at (slice_index words k) (q % 64)) (sym same)
     | inr different ↦ off_word words (p / 64) _ long q different
   ]
@@ -37,7 +40,11 @@ module _ (words : List ℕ) (p : ℕ) (long : p / 64 < length words) where
   put_one : (q : ℕ) → HasPoint put q ↔ ((q ≡ p) ⊎ HasPoint words q)
   put_one q = elim (cases_eq q p) [
     | inl at ↦ (λ set. inl at, λ either. ap (bit_of put) at ∙ put_same)
-    | inr off ↦ (λ set. inr (sym (put_other q off) ∙ set), λ either. elim either [ inl at ↦ absurd (off at) | inr had ↦ put_other q off ∙ had ])
+    | inr off ↦ (
+      λ set. inr (sym (put_other q off) ∙ set),
+      λ either.
+          elim either [ inl at ↦ absurd (off at) | inr had ↦ put_other q off ∙ had ],
+    )
   ]
 
   pub put_is : (now : List ℕ) → words ≡ now → (q : ℕ) → HasPoint put q ↔ ((q ≡ p) ⊎ HasPoint now q)
@@ -54,12 +61,15 @@ module _ (words : List ℕ) (p : ℕ) (long : p / 64 < length words) where
       elim (cases_eq (q / 64) (p / 64)) [
         | inl same ↦ elim (cases_eq (q % 64) (p % 64)) [
           | inl bit ↦
-              let gone = at_word words (p / 64) _ long q same ∙ ap (bit_at _) bit ∙ bit_at_clear_same w64 word (p % 64) (omega arith) in (
+              let gone = at_word words (p / 64) _ long q same ∙ ap (bit_at _) bit
+              ∙ bit_at_clear_same w64 word (p % 64) (omega arith) in (
                 λ set. absurd (omega (arith, gone, set)),
                 λ both. absurd (both.0 (omega (arith, same, bit))),
               )
           | inr other ↦
-              let is = at_word words (p / 64) _ long q same ∙ bit_at_clear_other w64 word (p % 64) (omega arith) (q % 64) (omega arith) other ∙ ap (λ k. bit_at (slice_index words k) (q % 64)) (sym same) in (
+              let is = at_word words (p / 64) _ long q same
+              ∙ bit_at_clear_other w64 word (p % 64) (omega arith) (q % 64) (omega arith) other
+              ∙ ap (λ k. bit_at (slice_index words k) (q % 64)) (sym same) in (
                 λ set. ((λ e. other (ap (λ k. k % 64) e)), sym is ∙ set),
                 λ both. is ∙ both.1,
               )
@@ -82,12 +92,18 @@ module _ (words : List ℕ) (place bits : ℕ) (long : place < length words) whe
   word_one : (q : ℕ) → HasPoint wide q ↔ (((q / 64 ≡ place) × (bit_at bits (q % 64) ≡ 1)) ⊎ HasPoint words q)
   word_one q =
       let word = slice_index words place in
-      let own : (k : ℕ) → k ≡ q / 64 → bit_at (slice_index words k) (q % 64) ≡ bit_of words q = λ k e. ap (λ w. bit_at (slice_index words w) (q % 64)) e in
+      let own : (k : ℕ) → k ≡ q / 64 → bit_at (slice_index words k) (q % 64) ≡ bit_of words q = λ k e.
+      ap (λ w. bit_at (slice_index words w) (q % 64)) e in
       elim (cases_eq (q / 64) place) [
         | inl same ↦
             let is = at_word words place (bit_or word bits) long q same in (
-              λ set. elim (from_or word bits (q % 64) (sym is ∙ set)) [ inl had ↦ inr (sym (own place (sym same)) ∙ had) | inr new ↦ inl (same, new) ],
-              λ either. is ∙ elim either [ inl new ↦ or_right word bits (q % 64) new.1 | inr had ↦ or_left word bits (q % 64) (own place (sym same) ∙ had) ],
+              λ set. elim (from_or word bits (q % 64) (sym is ∙ set))
+                  [ inl had ↦ inr (sym (own place (sym same)) ∙ had) | inr new ↦ inl (same, new) ],
+              λ either. is ∙ elim either [
+                | inl new ↦ or_right word bits (q % 64) new.1
+                | inr had ↦
+                    or_left word bits (q % 64) (own place (sym same) ∙ had)
+              ],
             )
         | inr off ↦
             let is = off_word words place (bit_or word bits) long q off in (
@@ -96,5 +112,7 @@ module _ (words : List ℕ) (place bits : ℕ) (long : place < length words) whe
             )
       ]
 
-  pub word_put : (now : List ℕ) → words ≡ now → (q : ℕ) → HasPoint wide q ↔ (((q / 64 ≡ place) × (bit_at bits (q % 64) ≡ 1)) ⊎ HasPoint now q)
-  word_put now value q = subst (λ (ws : List ℕ). HasPoint wide q ↔ (((q / 64 ≡ place) × (bit_at bits (q % 64) ≡ 1)) ⊎ HasPoint ws q)) value (word_one q)
+  pub word_put : (now : List ℕ) → words ≡ now → (q : ℕ) → HasPoint wide q
+      ↔ (((q / 64 ≡ place) × (bit_at bits (q % 64) ≡ 1)) ⊎ HasPoint now q)
+  word_put now value q = subst (λ (ws : List ℕ). HasPoint wide q
+      ↔ (((q / 64 ≡ place) × (bit_at bits (q % 64) ≡ 1)) ⊎ HasPoint ws q)) value (word_one q)

@@ -22,7 +22,8 @@ bit_answer (suc zero) small = refl
 bit_answer (suc (suc b)) small = absurd (omega arith)
 
 module _ (words : List ℕ) (board word read mask : ℕ) (read_is : read ≡ slice_index words word)
-    (inside : (i : ℕ) → i < 64 → 64 * word + i < board → bit_at mask i ≡ 1) (outside : (i : ℕ) → i < 64 → board ≤ 64 * word + i → bit_at mask i ≡ 0) where
+    (inside : (i : ℕ) → i < 64 → 64 * word + i < board → bit_at mask i ≡ 1)
+    (outside : (i : ℕ) → i < 64 → board ≤ 64 * word + i → bit_at mask i ≡ 0) where
   -- the bit of a point in the word that was read
   bit_here : (i : ℕ) → i < 64 → bit_at read i ≡ bit_of words (64 * word + i)
   bit_here i low =
@@ -41,7 +42,8 @@ module _ (words : List ℕ) (board word read mask : ℕ) (read_is : read ≡ sli
             (let one = inside i low below in
             let kept : min (bit_at read i) (bit_at mask i) ≡ bit_of words q = omega (arith, bit_here i low) in
             let less = lt-ltb q board below in
-            both ∙ kept ∙ bit_answer (bit_of words q) (omega (arith, bit_here i low)) ∙ ap (λ b. let n : ℕ = cond (b && has_point words q) 1 0 in n) (sym less))
+            both ∙ kept ∙ bit_answer (bit_of words q) (omega (arith, bit_here i low))
+            ∙ ap (λ b. let n : ℕ = cond (b && has_point words q) 1 0 in n) (sym less))
         | inr past ↦
             (let none = outside i low past in
             let gone : min (bit_at read i) (bit_at mask i) ≡ 0 = omega arith in
@@ -63,8 +65,10 @@ module _ (words : List ℕ) (board word read mask : ℕ) (read_is : read ≡ sli
       ap count_ones same ∙ ones-mask_l test (range_with_len 0 64)
 
 -- one word more is counted
-pub words_more : (words : List ℕ) (board word count more : ℕ) → count ≡ count_by (is_counted words board) (range_with_len 0 (64 * word))
-    → more ≡ count_in_word words board word → count + more ≡ count_by (is_counted words board) (range_with_len 0 (64 * (word + 1)))
+pub words_more : (words : List ℕ) (board word count more : ℕ) →
+    count ≡ count_by (is_counted words board) (range_with_len 0 (64 * word))
+    → more ≡ count_in_word words board word →
+    count + more ≡ count_by (is_counted words board) (range_with_len 0 (64 * (word + 1)))
 unfolding count_in_word
 words_more words board word count more so_far here =
     let test = is_counted words board in
@@ -73,7 +77,8 @@ words_more words board word count more so_far here =
     ∙ ap (λ k. count_by test (range_with_len 0 k)) (let e : 64 * word + 64 ≡ 64 * (word + 1) = omega arith in e)
 
 -- two tests that agree on the points leave as many
-counted_alike : (n : ℕ) (a b : ℕ → Bool) → ((q : ℕ) → q < n * n → a q ≡ b q) → count_by a (points n) ≡ length (filter b (points n))
+counted_alike : (n : ℕ) (a b : ℕ → Bool) → ((q : ℕ) → q < n * n → a q ≡ b q) →
+    count_by a (points n) ≡ length (filter b (points n))
 counted_alike n a b same =
     let There : ℕ → Type 0 = λ q. a q ≡ true → b q ≡ true in
     let Back : ℕ → Type 0 = λ q. b q ≡ true → a q ≡ true in

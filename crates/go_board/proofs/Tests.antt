@@ -39,5 +39,6 @@ some_point n test e =
 
 pub at_point : (n : ℕ) (test : ℕ → Bool) (q : ℕ) → q < n * n → test q ≡ true → list_any test (points n) ≡ true
 at_point n test q low e =
-    let is : get_or (points n) q 0 ≡ q = get_or-range_with_len 0 (n * n) q 0 low ∙ (let z : 0 + q ≡ q = omega arith in z) in
+    let is : get_or (points n) q 0 ≡ q = get_or-range_with_len 0 (n * n) q 0 low
+    ∙ (let z : 0 + q ≡ q = omega arith in z) in
     list_any_at test (points n) q 0 (rw (length-range_with_len 0 (n * n)) low) (ap test is ∙ e)

@@ -68,7 +68,9 @@ row_back row low = just (row_of (decimal (row + 1))) row (at_each row_holds 25 r
 -- a word that is shorter than `pass` isn't it
 no_pass : (word : List ℕ) → length word ≤ 3 → str_eq_ignore_ascii_case word (codes "pass") ≡ false
 no_pass word short = elim (cases_Bool (str_eq_ignore_ascii_case word (codes "pass"))) [
-  | inl holds ↦ absurd (let same = ap length ((bytes_eq-Decides (map to_ascii_lowercase word) (map to_ascii_lowercase (codes "pass"))).0 holds) in omega (arith, simp length-map at same))
+  | inl holds ↦ absurd (let same =
+      ap length ((bytes_eq-Decides (map to_ascii_lowercase word) (map to_ascii_lowercase (codes "pass"))).0 holds) in
+      omega (arith, simp length-map at same))
   | inr other ↦ other
 ]
 
@@ -76,8 +78,10 @@ no_pass word short = elim (cases_Bool (str_eq_ignore_ascii_case word (codes "pas
 pub word_back : (v : Vertex) → IsOnBoard 25 v → vertex_of (vertex_word v) ≡ Some v
 word_back Pass h = refl
 word_back (At p) h =
-    let short : length (letter_of_column p.col ∷ decimal (p.row + 1)) ≤ 3 = let two : length (decimal (p.row + 1)) ≤ 2 = length-decimal-le 2 (p.row + 1) (omega arith) (omega (arith, h.1)) (omega (arith, h.1)) in omega arith in
-    rw (no_pass (letter_of_column p.col ∷ decimal (p.row + 1)) short) (rw (letter_back p.col h.0) (rw (row_back p.row h.1) refl))
+    let short : length (letter_of_column p.col ∷ decimal (p.row + 1)) ≤ 3 = let two : length (decimal (p.row + 1)) ≤ 2 =
+    length-decimal-le 2 (p.row + 1) (omega arith) (omega (arith, h.1)) (omega (arith, h.1)) in omega arith in
+    rw (no_pass (letter_of_column p.col ∷ decimal (p.row + 1)) short)
+    (rw (letter_back p.col h.0) (rw (row_back p.row h.1) refl))
 
 abbrev on_test : ℕ → Point → Bool
 on_test n p = nat_lt p.col n && nat_lt p.row n
@@ -138,6 +142,9 @@ letter_ascii col = elim (cases_lt col 25) [
 ]
 
 -- a word that differs from `pass` in any case spells a point or nothing
-pub other_word : (word : List ℕ) → (map to_ascii_lowercase word ≡ map to_ascii_lowercase (codes "pass") → ⊥) → vertex_of word ≡ point_of word
+pub other_word : (word : List ℕ) → (map to_ascii_lowercase word ≡ map to_ascii_lowercase (codes "pass") → ⊥) →
+    vertex_of word ≡ point_of word
 other_word word differs =
-    rw (false_from_ne_true (str_eq_ignore_ascii_case word (codes "pass")) (λ same. differs ((bytes_eq-Decides (map to_ascii_lowercase word) (map to_ascii_lowercase (codes "pass"))).0 same))) refl
+    rw (false_from_ne_true (str_eq_ignore_ascii_case word (codes "pass"))
+    (λ same. differs ((bytes_eq-Decides (map to_ascii_lowercase word) (map to_ascii_lowercase (codes "pass"))).0
+    same))) refl

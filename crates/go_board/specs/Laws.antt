@@ -36,7 +36,7 @@ OneColourLives = (n : ℕ) (g : Colouring) (c : Colour) (e : ℕ) → e < n * n 
     → ((k : ℕ) → k < n * n → (colour_at g k ≡ None) ⊎ (colour_at g k ≡ Some c))
     → (k : ℕ) → k < n * n → is_dead n g k ≡ false
 
--- a point of the board and its number stand for each other
+-- a point of the board and its number determine each other
 pub record PointsByNumber : Type 0 where
   pub number : (n : ℕ) (p : Point) → IsOn n p → number_of n p < n * n
   pub back : (n : ℕ) (p : Point) → IsOn n p → point_at n (number_of n p) ≡ p

@@ -2,7 +2,7 @@
 use Rattle.std.specs.Prelude.{ℕ, ◌+◌, Option, Some, None}
 use Rattle.std.specs.declared.snapshot.Snapshot.{Snapshot}
 
--- the number that stands one above the one before, or 0 where there is none
+-- one more than the number before, or 0 where there is none
 abbrev pub value_after : Option (Snapshot ℕ) → ℕ
 value_after None = 0
 value_after (Some before) = before.value + 1

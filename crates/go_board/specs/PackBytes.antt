@@ -16,6 +16,6 @@ packed_eq p q = pointwise nat_eq (bytes_of p) (bytes_of q)
 abbrev pub are_zero : List ℕ → Bool
 are_zero bytes = list_all (λ b. nat_eq b 0) bytes
 
--- the pack with these first bytes, and 0 behind them
+-- the pack with these first bytes, and 0 after them
 abbrev pub pack_of_front : List ℕ → Packed
 pack_of_front front = record { bytes = front ++ replicate (PACK_BYTES - length front) 0 }

@@ -6,13 +6,13 @@ use Rattle.go_board.specs.declared.colour.Colour.TheVariants.{Black, White}
 use Rattle.go_board.specs.declared.pack.TheConstants.{PACK_BYTES}
 use Rattle.go_board.specs.Colours.{Colouring, colour_at}
 
--- the number that stands for the colour of a point: two bits
+-- the number of a point's colour: two bits
 abbrev pub code_of : Option Colour → ℕ
 code_of None = 0
 code_of (Some Black) = 1
 code_of (Some White) = 2
 
--- what such a number stands for; another stands for an empty point
+-- the colour of such a number; any other is an empty point
 abbrev pub colour_coded : ℕ → Option Colour
 colour_coded zero = None
 colour_coded (suc zero) = Some Black

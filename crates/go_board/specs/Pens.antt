@@ -4,7 +4,7 @@ use Rattle.go_board.specs.declared.device.Sink.{Ghosts}
 use Rattle.go_board.specs.declared.pen.Pen.{Pen}
 use Rattle.go_board.specs.Device.{TakesFront, then_bytes}
 
--- what a device took of a text written so far: all of it, or a front of it after a fault
+-- what a device took of a text written so far: all of it, or a prefix of it after a fault
 abbrev pub TookSoFar : Bool → Option (List ℕ) → Option (List ℕ) → List ℕ → Type 0
 TookSoFar false start now text = now ≡ then_bytes start text
 TookSoFar true start now text = TakesFront start now text
@@ -15,7 +15,7 @@ pub record Wrote (has_failed : Bool) (start now : Option (List ℕ))
   pub took : TookSoFar has_failed start now text
   pub counted : failures ≡ (if has_failed then failures_at_start + 1 else failures_at_start)
 
--- where a writer stands: whether it failed, what the device took, and the count of failures
+-- the state of a writer: whether it failed, what the device took, and the count of failures
 pub record Place : Type 0 where
   pub has_failed : Bool
   pub taken : Option (List ℕ)
@@ -25,13 +25,13 @@ pub record Place : Type 0 where
 abbrev pub place : Bool → Option (List ℕ) → ℕ → Place
 place has_failed taken failures = record { has_failed = has_failed; taken = taken; failures = failures }
 
--- whatever was written up to the old place, that with this behind it is written up to the new one
+-- whatever was written up to the old place, that with this text after it is written up to the new one
 pub record Adds (old new : Place) (more : List ℕ) : Type 0 where
   pub grown : (start : Option (List ℕ)) (failures : ℕ) (text : List ℕ) →
       Wrote old.has_failed start old.taken failures old.failures text →
       Wrote new.has_failed start new.taken failures new.failures (text ++ more)
 
--- where a pen stands: whether it failed, what its device took, and the count of failures
+-- the state of a pen: whether it failed, what its device took, and the count of failures
 abbrev pub place_of : {S : Type 0} → Ghosts S → Pen S → Place
 place_of sink pen = place pen.has_failed (sink.taken pen.writer.now) (sink.failures pen.writer.now)
 

@@ -21,6 +21,6 @@ has_point words q = nat_eq (bit_of words q) 1
 unfoldable pub points_from : ℕ → List ℕ → ℕ → List Point
 points_from n words k = map (point_at n) (filter (has_point words) (range_with_len k (n * n - k)))
 
--- how many words have a bit for each of so many points
+-- how many words have a bit for each of a number of points
 abbrev pub words_for : ℕ → ℕ
 words_for points = (points + 63) / 64

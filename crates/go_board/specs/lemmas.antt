@@ -6,3 +6,4 @@ pub mod Numbers
 pub mod Squares
 pub mod Paths
 pub mod PointSets
+pub mod Rows

@@ -46,7 +46,7 @@ impl Colour {
         None
     }
 
-    /// The number that stands for the colour in packs and tables, where 0 is an empty point.
+    /// The number of the colour in packs and tables, where 0 is an empty point.
     pub fn code(self) -> u64
         ensures value { result ≡ code_of (Some self) }
         ensures range { (0 < result) × (result < 3) }
@@ -57,7 +57,7 @@ impl Colour {
         }
     }
 
-    /// The colour that such a number stands for. None for 0, and for a number of no colour.
+    /// The colour of such a number. None for 0, and for a number of no colour.
     pub fn coded(code: u64) -> Option<Colour>
         ensures { result ≡ colour_coded code }
     {
@@ -75,7 +75,7 @@ fn is_word(word: &[u8], name: &[u8]) -> bool
     word.eq_ignore_ascii_case(name)
 }
 
-/// Whether two points with these colours have the same one.
+/// Whether two colours are the same; none is the colour of an empty point.
 pub fn is_same(a: Option<Colour>, b: Option<Colour>) -> bool
     ensures { IsTrue result ↔ (a ≡ b) }
 {

@@ -45,7 +45,7 @@ pub fn value_of_digits(digits: &[u8], most: u64) -> u64
     value
 }
 
-/// A number with one more digit. From `most` on all that counts is that it stays there.
+/// A number with one more digit, at most `most`.
 pub fn with_digit(value: u64, digit: u8, most: u64) -> u64
     requires value { value ≤ most }
     requires digit { digit < 10 }

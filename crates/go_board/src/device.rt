@@ -17,7 +17,7 @@ pub struct WriteFault;
 
 /// A device that bytes are read from.
 pub trait Source {
-    /// The bytes that are left to read, where the device tells them.
+    /// The bytes that are left to read, if the device knows them.
     ghost left: { Self → Option (List ℕ) };
 
     /// How often it was read from.
@@ -45,16 +45,16 @@ pub trait Source {
 
 /// A device that bytes are written to.
 pub trait Sink {
-    /// The bytes that it took so far, where the device tells them.
+    /// The bytes that it took so far, if the device knows them.
     ghost taken: { Self → Option (List ℕ) };
 
     /// How often a call failed. To take none of some bytes is a failure too.
     ghost failures: { Self → ℕ };
 
-    /// How many of the bytes that it took it holds back still.
+    /// How many of the bytes that it took it still holds.
     ghost held: { Self → ℕ };
 
-    /// Takes bytes from the front of a slice, and gives their number.
+    /// Takes a prefix of a slice, and gives the number of its bytes.
     fn put(&mut self, bytes: &[u8]) -> Result<usize, Failed>
         ensures within { IfOk result (λ n. n ≤ length bytes.now) }
         ensures bytes { IfOk result
@@ -63,7 +63,7 @@ pub trait Sink {
         ensures failures { failures self.new ≡ put_failures_after result (length bytes.now)
             (failures self.old) };
 
-    /// Passes on what it holds back.
+    /// Passes on what it still holds.
     fn flush(&mut self) -> Result<(), Failed>
         ensures bytes { taken self.new ≡ taken self.old }
         ensures passed { OnOk result (held self.new ≡ 0) }

@@ -1,5 +1,5 @@
-//! What a stone gains for its colour where it takes nothing, told from the points around it, so that
-//! the areas need not be counted anew; and what both colours hold with it, for where they must be.
+//! What a stone that takes nothing gains for its colour, found from the points around it, so that the areas
+//! need not be counted anew. Where they must be counted: what both colours hold with the stone.
 ghost use Rattle.std.specs.Prelude.{◌≡◌, ◌<◌, ◌≤◌, ◌+◌, ◌*◌, ◌↔◌, IfSome, IsTrue, None, Some, length, slice_set};
 ghost use Rattle.go_board.specs.declared.colour.Colour.{Colour};
 ghost use Rattle.go_board.specs.declared.rows.TheConstants.{ROWS};
@@ -10,7 +10,7 @@ ghost use Rattle.go_board.specs.inner.Around.{AreJoinedRound, IsOpen, gap};
 
 use crate::rows::{ROWS, Rows, has_place, held};
 
-/// Whether a place is on the board and not in a set. A row or column before the first is as one past
+/// Whether a place is on the board and not in a set. A row or column before the first counts as one past
 /// the last.
 fn is_open(rows: &Rows, lines: usize, row: usize, col: usize) -> bool
     requires { lines ≤ ROWS }
@@ -56,10 +56,10 @@ fn are_joined_round(rows: &Rows, lines: usize, row: usize, col: usize) -> bool
     gaps <= 1
 }
 
-/// By how many points a stone on an empty point puts its colour further ahead if it takes nothing,
-/// from its colour's stones and what both colours hold without it: by none where its colour alone
-/// holds the point, and by the point itself where both do and what is beside it leads to each other
-/// around it. None where the areas have to be counted anew.
+/// By how many points a stone on an empty point puts its colour further ahead if it takes nothing, from its
+/// colour's stones and what both colours hold without it. It is 0 where its colour alone holds the point.
+/// It is 1 where both colours hold it and the open points beside it are connected around it. None where the
+/// areas have to be counted anew.
 pub fn gain_of(
     own: &Rows,
     own_held: &Rows,
@@ -92,8 +92,8 @@ pub fn gain_of(
     }
 }
 
-/// The points that a colour holds with a stone of its own on an empty point, from what it held
-/// without it: the same where it held the point. The stones are those with that one.
+/// The points that a colour holds with a stone of its own on an empty point, from what it held without it.
+/// Where it held the point, they are the same. The stones include the new one.
 pub fn own_held_with(
     own: &Rows,
     theirs: &Rows,
@@ -118,8 +118,8 @@ pub fn own_held_with(
     held(own, theirs, lines)
 }
 
-/// The points that a colour holds with a stone of the other one on an empty point, from what it held
-/// without it: the same where it didn't hold the point. The stones are those with that one.
+/// The points that a colour holds with a stone of the other colour on an empty point, from what it held
+/// without it. Where it didn't hold the point, they are the same. The stones include the new one.
 pub fn theirs_held_with(
     own: &Rows,
     theirs: &Rows,

@@ -82,7 +82,7 @@ impl Grid {
         }
     }
 
-    /// Whether no stone stands.
+    /// Whether it has no stone.
     pub fn is_vacant(&self) -> bool
         ensures { result ≡ not (list_any is_some self.now.colours) }
     {

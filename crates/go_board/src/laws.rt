@@ -41,13 +41,13 @@ pub fn one_colour_lives()
     ensures { OneColourLives }
 {}
 
-/// A point of the board and its number stand for each other.
+/// A point of the board and its number determine each other.
 pub fn points_by_number()
     ensures { PointsByNumber }
 {}
 
-/// Of each colour, what a play takes and what it leaves are together what stood there with the
-/// placed stone, and that is one stone more at most.
+/// Of each colour, the stones that a play takes and those that it leaves are together the stones before it
+/// and the placed one, so at most one more than before.
 pub fn taken_and_left()
     ensures { TakenAndLeft }
 {}

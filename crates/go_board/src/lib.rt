@@ -5,11 +5,11 @@
 //!   colour of each point.
 //! - [`Vertex`], [`Move`]: a point or a pass, and who makes it; [`read_vertex`], [`vertex_text`]
 //!   and [`column_letter`] for their words.
-//! - [`plain`]: what a play leaves and who holds which points, told by floods of a whole grid. The
+//! - [`plain`]: what a play leaves and who holds which points, found by floods of a whole grid. The
 //!   faster bodies above have to agree with it.
 //! - [`PointSet`], [`rows`], [`Packed`]: sets of points by their numbers and in words of rows, and a
 //!   colouring in two bits a point.
-//! - [`gains`]: what a stone that takes nothing gains, told from the points around it, and what is
+//! - [`gains`]: what a stone that takes nothing gains, found from the points around it, and what is
 //!   held with it.
 //! - [`Source`], [`Sink`], [`Pen`]: where bytes come from and go to, and a text that is written in
 //!   pieces.
@@ -25,8 +25,8 @@
 //!
 //! What is promised is in the clauses of each file. Their words are in `specs/`: `Colours` and
 //! `Points` say what a colouring and a point are, `Paths` and `Reaching` what reaches what and what
-//! a play leaves, `PointSets` when a set has a point, `Rows` which rows stand for stones and for what
-//! they hold, `Gains` what a stone gains, `Vertices` how a vertex is spelled, and `Device` and `Pens`
+//! a play leaves, `PointSets` when a set has a point, `Rows` which rows mean stones and what they
+//! hold, `Gains` what a stone gains, `Vertices` how a vertex is spelled, and `Device` and `Pens`
 //! what a device was given.
 //! `Laws` says how these words belong together. What `specs/inner/` defines serves private
 //! functions alone.

@@ -26,9 +26,9 @@ impl Model for Number {
 /// The kind of meters that anyone may make.
 pub struct Open;
 
-/// A count of calls that contracts see and that has no bytes when the program runs. Only an open
-/// meter can be made. So a body that stands for meters of each kind counts with the one that it was
-/// handed: it can make no other to hide a call.
+/// A count of calls that contracts see and that has no bytes when the program runs. Only an open meter can
+/// be made. So code for meters of every kind counts with the meter that it was given: it can make no other
+/// to hide a call.
 #[derive(Drop)]
 pub struct Meter<K = Open> {
     /// The count, which contracts alone see.
@@ -43,7 +43,7 @@ impl<K> Model for Meter<K> {
 }
 
 impl Meter<Open> {
-    /// A meter that stands at 0.
+    /// A meter at 0.
     pub fn new() -> Meter<Open>
         ensures { result ≡ 0 }
     {

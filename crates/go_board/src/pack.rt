@@ -44,17 +44,17 @@ impl Packed {
         }
     }
 
-    /// The first bytes, so many, of a pack that is 0 behind them, as packs of small boards are; or
-    /// none where it isn't, or hasn't so many bytes.
+    /// The first `count` bytes, if all bytes after them are 0, as they are in packs of small boards. None if
+    /// they aren't, or if a pack has fewer bytes.
     pub fn front(&self, count: usize) -> Option<&[u8]>
-        ensures some { IfSome result (λ front. (length front.now ≡ count)
-            × (pack_of_front front.now ≡ self.now)) }
+        ensures some { IfSome result (λ prefix. (length prefix.now ≡ count)
+            × (pack_of_front prefix.now ≡ self.now)) }
         ensures none { IfNone result (count ≤ PACK_BYTES
             → are_zero (drop count (bytes_of self.now)) ≡ false) }
     {
-        let (front, rest) = self.bytes().split_at_checked(count)?;
+        let (prefix, rest) = self.bytes().split_at_checked(count)?;
         if are_all_zero(rest) {
-            Some(front)
+            Some(prefix)
         } else {
             None
         }
@@ -69,7 +69,7 @@ impl Packed {
         &self.bytes
     }
 
-    /// The pack with these first bytes, and 0 behind them.
+    /// The pack with these first bytes, and 0 after them.
     pub fn of_front(front: &[u8]) -> Packed
         requires { length front.now ≤ PACK_BYTES }
         ensures { result ≡ pack_of_front front.now }

@@ -4,8 +4,8 @@ ghost use Rattle.go_board.specs.Device.{Sent, failures_after};
 
 use crate::device::{Failed, Sink, WriteFault};
 
-/// Writes a whole text, in as many puts as the device needs. On a fault the device took a front
-/// of the text.
+/// Writes a whole text, in as many puts as the device needs. On a fault the device took a prefix of the
+/// text.
 pub fn send<W: Sink>(text: &[u8], writer: &mut W) -> Result<(), WriteFault>
     ensures sent { Sent result (W.taken writer.old) (W.taken writer.new) text.now }
     ensures failures { W.failures writer.new ≡ failures_after result (W.failures writer.old) }
@@ -21,8 +21,8 @@ pub fn send<W: Sink>(text: &[u8], writer: &mut W) -> Result<(), WriteFault>
     Ok(())
 }
 
-/// Writes a text to a device piece by piece. After a fault it writes nothing more, and tells of it
-/// at the end, when it is finished.
+/// Writes a text to a device piece by piece. After a fault it writes nothing more, and `finish` reports
+/// the fault.
 pub struct Pen<'a, W: Sink> {
     pub writer: &'a mut W,
     pub has_failed: bool,
@@ -52,7 +52,7 @@ impl<'a, W: Sink> Pen<'a, W> {
         }
     }
 
-    /// Gives the device back, and tells whether all pieces were written.
+    /// Gives the device back, and whether all pieces were written.
     pub fn finish(self) -> Result<(), WriteFault>
         ensures value { result ≡ (if self.entry.has_failed then Err record {} else Ok tt) }
         ensures writer { self.exit.0.now ≡ self.entry.writer.now }

@@ -20,8 +20,8 @@ const SHARES: [u32; 26] = [
     5_042, 4_682, 4_370, 4_096, 3_856, 3_641, 3_450, 3_277, 3_121, 2_979, 2_850, 2_731, 2_622,
 ];
 
-/// The row of the point with this number. What goes over all points asks for each one's, and a
-/// division takes a processor as long as many other steps: so it multiplies.
+/// The row of the point with this number. A walk over all points needs each one's row, and a division is
+/// slow, so it multiplies.
 fn row_at(size: Size, number: u16) -> u16
     requires { number < size * size }
     ensures row { result ≡ number / size }
@@ -113,8 +113,8 @@ pub fn neighbours(p: Point, size: Size) -> ArrayVec<Point, 4>
     beside
 }
 
-/// Puts the points that share a side with this one into an empty list, in point order. A loop
-/// that is run often does without the copy of a list that is handed back.
+/// Puts the points that share a side with this one into an empty list, in point order. A loop that runs
+/// often is spared the copy of a list that is returned.
 pub fn put_neighbours(p: Point, size: Size, beside: &mut ArrayVec<Point, 4>)
     requires on { IsOn size p }
     requires empty { beside.old.items ≡ [] }

@@ -82,7 +82,7 @@ impl PointSet {
         self.words[place] |= bits;
     }
 
-    /// How many points of a board are in the set: as many as pass a test that tells just those.
+    /// How many points of a board are in the set.
     pub fn count(&self, size: Size) -> u16
         ensures { (test : ℕ → Bool) → ((q : ℕ) → q < size * size → has_point self.now q ≡ test q)
             → result ≡ length (filter test (points size)) }
@@ -175,7 +175,7 @@ pub fn words_of(size: Size) -> usize
     (usize::from(size.points()) + 63) / 64
 }
 
-/// The bits of a word that stand for one of the first so many points.
+/// The bits of a word that belong to the first `points` points.
 pub fn mask_of(points: usize, word: usize) -> u64
     requires word { word < WORDS }
     ensures inside { (i : ℕ) → i < 64 → 64 * word + i < points → bit_at result i ≡ 1 }
@@ -191,8 +191,8 @@ pub fn mask_of(points: usize, word: usize) -> u64
     (1 << (points - first)) - 1
 }
 
-/// How many bits of a word stand for one of the first so many points. The mask has the bits of those
-/// in that word.
+/// How many points of one word are set among the first `points` points. The mask has the bits of those
+/// points.
 fn count_in(bits: u64, mask: u64, points: usize, word: usize) -> u16
     requires inside { (i : ℕ) → i < 64 → 64 * word + i < points → bit_at mask i ≡ 1 }
     requires outside { (i : ℕ) → i < 64 → points ≤ 64 * word + i → bit_at mask i ≡ 0 }

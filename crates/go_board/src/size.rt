@@ -32,7 +32,7 @@ impl Model for Size {
 impl Size {
     ghost use Rattle.go_board.specs.Sizes.{size_with};
 
-    /// The size with this number of lines, or none where no board has so many or so few.
+    /// The size with this number of lines, or none where no board has that many.
     pub fn new(lines: u8) -> Option<Size>
         ensures range { IsSome result ↔ ((0 < lines) × (lines ≤ MAX_LINES)) }
         ensures value { IfSome result (λ size. size ≡ lines) }

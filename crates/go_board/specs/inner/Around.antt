@@ -9,12 +9,14 @@ IsOpen own n row col = (row < n) × (col < n) × (IsIn own row col → ⊥)
 
 -- the test passes from place to place over the open ones, but not over this one
 abbrev pub PassesRound : (ℕ → ℕ → Bool) → List ℕ → ℕ → ℕ → ℕ → Type 0
-PassesRound test own n row col = (r k r' k' : ℕ) → IsNext r k r' k' → test r' k' ≡ true → IsOpen own n r k → ((r ≡ row) × (k ≡ col) → ⊥) → test r k ≡ true
+PassesRound test own n row col = (r k r' k' : ℕ) → IsNext r k r' k' → test r' k' ≡ true → IsOpen own n r k →
+    ((r ≡ row) × (k ≡ col) → ⊥) → test r k ≡ true
 
 -- what passes so, and holds of one of the open places next to this one, holds of each of them
 abbrev pub AreJoinedRound : List ℕ → ℕ → ℕ → ℕ → Type 0
 AreJoinedRound own n row col = (test : ℕ → ℕ → Bool) → PassesRound test own n row col
-    → (r k r' k' : ℕ) → IsNext row col r k → IsNext row col r' k' → IsOpen own n r k → IsOpen own n r' k' → test r k ≡ true → test r' k' ≡ true
+    → (r k r' k' : ℕ) → IsNext row col r k → IsNext row col r' k' → IsOpen own n r k → IsOpen own n r' k' →
+    test r k ≡ true → test r' k' ≡ true
 
 -- 1 where a place is there and doesn't lead to the next one by the corner between them
 abbrev pub gap : Bool → Bool → Bool → ℕ

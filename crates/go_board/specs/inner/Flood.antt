@@ -16,7 +16,8 @@ IsJoinedTo n g marks j = (p : ℕ) × IsMarked marks p × Joined n g p j
 
 -- the marked points are those coloured `from` that reach `to`
 abbrev pub AreReaching : ℕ → Colouring → Option Colour → Option Colour → List Bool → Type 0
-AreReaching n g from to marks = (j : ℕ) → IsMarked marks j ↔ ((j < n * n) × (colour_at g j ≡ from) × IsTrue (reaches n g j to))
+AreReaching n g from to marks = (j : ℕ) → IsMarked marks j
+    ↔ ((j < n * n) × (colour_at g j ≡ from) × IsTrue (reaches n g j to))
 
 -- the marked points are those that a path of points of p's colour joins to p
 abbrev pub AreJoined : ℕ → Colouring → ℕ → List Bool → Type 0
@@ -44,7 +45,8 @@ abbrev pub IsStep : ℕ → Colouring → ℕ → ℕ → Type 0
 IsStep n g p q = IsAdjacent n p q × (colour_at g q ≡ colour_at g p)
 
 -- from the one set to the other, points with New were marked, and those wait
-pub record Grows (New : ℕ → Type 0) (marks : List Bool) (waiting : List ℕ) (marks' : List Bool) (waiting' : List ℕ) : Type 0 where
+pub record Grows (New : ℕ → Type 0) (marks : List Bool) (waiting : List ℕ) (marks' : List Bool) (waiting' : List ℕ) :
+    Type 0 where
   pub kept : (j : ℕ) → IsMarked marks j → IsMarked marks' j
   pub only : (j : ℕ) → IsMarked marks' j → IsMarked marks j ⊎ (New j × Contains waiting' j)
   pub waits : (j : ℕ) → Contains waiting j → Contains waiting' j
@@ -53,7 +55,8 @@ pub record Grows (New : ℕ → Type 0) (marks : List Bool) (waiting : List ℕ)
   pub room : HasRoom marks' waiting'
 
 -- the seeds among the first i points are marked, and they wait
-pub record IsSeeding (n : ℕ) (g : Colouring) (from to : Option Colour) (i : ℕ) (marks : List Bool) (waiting : List ℕ) : Type 0 where
+pub record IsSeeding (n : ℕ) (g : Colouring) (from to : Option Colour) (i : ℕ) (marks : List Bool) (waiting : List ℕ) :
+    Type 0 where
   pub sound : (j : ℕ) → IsMarked marks j → (j < i) × IsSeed n g from to j
   pub complete : (j : ℕ) → j < i → IsSeed n g from to j → IsMarked marks j
   pub wait : (j : ℕ) → IsMarked marks j → Contains waiting j

@@ -17,7 +17,8 @@ then_bytes-nil None = refl
 then_bytes-nil (Some xs) = ap Some (append-nil xs)
 
 -- two pieces
-pub adds_adds : {old mid new : Place} {first more : List ℕ} → Adds old mid first → Adds mid new more → Adds old new (first ++ more)
+pub adds_adds : {old mid new : Place} {first more : List ℕ} → Adds old mid first → Adds mid new more →
+    Adds old new (first ++ more)
 adds_adds {old} {mid} {new} {first} {more} a b = record {
   grown = λ start n text w.
       let P : List ℕ → Type 0 = λ xs. Wrote new.has_failed start new.taken n new.failures xs in
@@ -25,7 +26,8 @@ adds_adds {old} {mid} {new} {first} {more} a b = record {
 }
 
 -- two pieces that make up a text
-pub adds_then : {old mid new : Place} {first more : List ℕ} (whole : List ℕ) → Adds old mid first → Adds mid new more → first ++ more ≡ whole → Adds old new whole
+pub adds_then : {old mid new : Place} {first more : List ℕ} (whole : List ℕ) → Adds old mid first → Adds mid new more →
+    first ++ more ≡ whole → Adds old new whole
 adds_then {old} {mid} {new} whole a b e =
     let P : List ℕ → Type 0 = λ xs. Adds old new xs in
     subst P e (adds_adds a b)
@@ -44,10 +46,12 @@ wrote_nothing taken failures = record { took = sym (then_bytes-nil taken); count
 
 -- what a fresh pen wrote until it was finished
 pub wrote : {has_failed : Bool} {taken taken' : Option (List ℕ)} {failures failures' : ℕ} {text : List ℕ} →
-    Adds (place false taken failures) (place has_failed taken' failures') text → Wrote has_failed taken taken' failures failures' text
-wrote {has_failed} {taken} {taken'} {failures} {failures'} {text} a = a.grown taken failures [] (wrote_nothing taken failures)
+    Adds (place false taken failures) (place has_failed taken' failures') text →
+    Wrote has_failed taken taken' failures failures' text
+wrote {has_failed} {taken} {taken'} {failures} {failures'} {text} a =
+    a.grown taken failures [] (wrote_nothing taken failures)
 
--- what finishing a pen tells of the text
+-- what finishing a pen says of the text
 pub finished : (has_failed : Bool) {taken taken' : Option (List ℕ)} {failures failures' : ℕ} {text : List ℕ} →
     Adds (place false taken failures) (place has_failed taken' failures') text →
     (r : Result Unit WriteFault) → r ≡ (if has_failed then Err record {} else Ok tt) →
@@ -73,10 +77,11 @@ pub writes_then : {S : Type 0} {sink : Ghosts S} {old mid new : Pen S} {first mo
     Writes sink old mid first → Writes sink mid new more → first ++ more ≡ whole → Writes sink old new whole
 writes_then whole a b e = record { same = b.same ∙ a.same; adds = adds_then whole a.adds b.adds e }
 
--- what finishing a pen tells of the text that it wrote to a device
+-- what finishing a pen says of the text that it wrote to a device
 pub finished_pen : {S : Type 0} {sink : Ghosts S} {fresh last : Pen S} {device device' : S} {text : List ℕ} →
     Writes sink fresh last text → fresh.has_failed ≡ false → fresh.writer.now ≡ device → device' ≡ last.writer.now →
     (r : Result Unit WriteFault) → r ≡ (if last.has_failed then Err record {} else Ok tt) →
-    Sent r (sink.taken device) (sink.taken device') text × (sink.failures device' ≡ failures_after r (sink.failures device))
+    Sent r (sink.taken device) (sink.taken device') text
+    × (sink.failures device' ≡ failures_after r (sink.failures device))
 finished_pen {sink = sink} {last = last} {text = text} w unfailed from to r e =
     rw (← from, to) (finished last.has_failed (rw unfailed at w.adds) r e)

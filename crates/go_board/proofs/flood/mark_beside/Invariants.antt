@@ -5,6 +5,7 @@ use Rattle.go_board.proofs.flood.mark_beside.Given as goal
 
 abbrev pub invariant-loop-q : goal.invariant-loop-q
 invariant-loop-q l = record {
-  grows : Grows (IsStep l.grid.lines l.grid.colours (number_of l.grid.lines l.fn.p)) l.initial.marks l.initial.waiting.items l.marks l.waiting.items;
+  grows : Grows (IsStep l.grid.lines l.grid.colours (number_of l.grid.lines l.fn.p)) l.initial.marks
+      l.initial.waiting.items l.marks l.waiting.items;
   done : HoldsOfFirst l.grid.lines l.grid.colours l.colour l.q-items l.q-index (IsMarked l.marks);
 }

@@ -16,4 +16,5 @@ returns c =
     let at = c.from.ensures ∙ c.index.ensures.value ∙ ap (λ (m : ℕ). number_of m c.args.q) c.size.ensures.lines in
     let law = joined_is n g p q (number_of-lt n c.args.p c.requires.p_on) in
     ap (λ k. get_or c.joined_to.result k false) at
-    ∙ same_test (get_or c.joined_to.result q false) (joined n g p q) (λ m. law.1 ((c.joined_to.ensures q).0 m)) (λ j. (c.joined_to.ensures q).1 (law.0 j))
+    ∙ same_test (get_or c.joined_to.result q false) (joined n g p q) (λ m. law.1 ((c.joined_to.ensures q).0 m))
+    (λ j. (c.joined_to.ensures q).1 (law.0 j))

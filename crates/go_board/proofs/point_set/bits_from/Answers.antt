@@ -23,6 +23,9 @@ returns-then-word-first c i low =
           let at : first ≤ point = omega (arith, past, c.if-word-first.true) in
           (λ set. (at, omega (arith, both, neg, none, few, set)), λ own. omega (arith, both, neg, none, few, own.1))
       | inl before ↦
-          let some : bit_at mask i ≡ 1 = ap (λ m. bit_at (m - 1) i) same ∙ bit_at_ones k i before in
-          (λ set. absurd (omega (arith, both, neg, some, set)), λ own. absurd (omega (arith, before, own.0, c.if-word-first.true)))
+          let some : bit_at mask i ≡ 1 = ap (λ m. bit_at (m - 1) i) same ∙ bit_at_ones k i before in (
+            λ set. absurd (omega (arith, both, neg, some, set)),
+            λ own.
+                absurd (omega (arith, before, own.0, c.if-word-first.true)),
+          )
     ]

@@ -9,5 +9,6 @@ use Rattle.go_board.proofs.rows.count_alone.Given as goal
 abbrev pub invariant-loop-row : goal.invariant-loop-row
 invariant-loop-row l = record {
   few : l.count ≤ 32 * l.row;
-  counted : (g : Colouring) (c : Colour) → AreHeld l.lines g c l.own → AreHeld l.lines g (other c) l.theirs → l.count ≡ count_by (is_area l.lines g c) (range_with_len 0 (l.row * l.lines));
+  counted : (g : Colouring) (c : Colour) → AreHeld l.lines g c l.own → AreHeld l.lines g (other c) l.theirs →
+      l.count ≡ count_by (is_area l.lines g c) (range_with_len 0 (l.row * l.lines));
 }

@@ -7,4 +7,5 @@ pub returns : goal.returns
 returns c =
     let n = c.args.size in
     let named = vertex_of c.args.word.now in
-    rw c.read_spelled.ensures (record { value = refl; malformed = read_malformed n named; off_board = read_off_board n named; ok = read_ok n named })
+    rw c.read_spelled.ensures (record
+    { value = refl; malformed = read_malformed n named; off_board = read_off_board n named; ok = read_ok n named })

@@ -5,4 +5,5 @@ use Rattle.go_board.specs.lemmas.Squares.{square-le}
 use Rattle.go_board.proofs.grid.Grid.new.Goals as goal
 
 pub returns-clause-colours : goal.returns-clause-colours
-returns-clause-colours c = take-replicate (c.args.size * c.args.size) MAX_POINTS None (square-le c.args.size (omega arith))
+returns-clause-colours c = take-replicate (c.args.size * c.args.size) MAX_POINTS None
+    (square-le c.args.size (omega arith))

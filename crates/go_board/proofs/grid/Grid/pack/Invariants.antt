@@ -5,4 +5,5 @@ use Rattle.go_board.specs.Packs.{byte_of}
 use Rattle.go_board.proofs.grid.Grid.pack.Given as goal
 
 abbrev pub invariant-loop-place : goal.invariant-loop-place
-invariant-loop-place l = (length (bytes_of l.packed) ≡ PACK_BYTES) × ((k : ℕ) → k < l.place → slice_index_or (bytes_of l.packed) k 0 ≡ byte_of l.self.colours k)
+invariant-loop-place l = (length (bytes_of l.packed) ≡ PACK_BYTES)
+    × ((k : ℕ) → k < l.place → slice_index_or (bytes_of l.packed) k 0 ≡ byte_of l.self.colours k)

@@ -14,13 +14,19 @@ returns-then-number-points-clause-some c =
     let word = c.loop-word.word in
     let read = c.bits_from-bits in
     let all : c.from-points.result ≡ n * n = c.from-points.ensures ∙ c.points.ensures.value in
-    let bits : (i : ℕ) → i < 64 → (bit_at read.result i ≡ 1) ↔ ((c.from-first.result ≤ 64 * word + i) × HasPoint words (64 * word + i)) =
-    λ i low. let b = read.ensures i low in (λ set. ((b.0 set).0, bit_in words word i low ∙ (b.0 set).1), λ both. b.1 (both.0, sym (bit_in words word i low) ∙ both.1)) in
+    let bits : (i : ℕ) → i < 64 → (bit_at read.result i ≡ 1)
+    ↔ ((c.from-first.result ≤ 64 * word + i) × HasPoint words (64 * word + i)) =
+    λ i low. let b = read.ensures i low in (
+      λ set. ((b.0 set).0, bit_in words word i low ∙ (b.0 set).1),
+      λ both.
+          b.1 (both.0, sym (bit_in words word i low) ∙ both.1),
+    ) in
     let next = ap (points_from n words) (sym c.from-first.ensures)
     ∙ lowest-next n words c.from-first.result word read.result read.type_inv bits c.loop-word.invariant
     (omega (arith, c.if-bits-ne0.true)) (omega (arith, all, c.if-number-points.true)) in
     let number : ℕ = 64 * word + trailing_zeros w64 read.result in
-    subst (λ (ws : List ℕ). points_from n ws c.args.first ≡ point_at n number ∷ points_from n ws (number + 1)) c.self.view_is next
+    subst (λ (ws : List ℕ). points_from n ws c.args.first ≡ point_at n number ∷ points_from n ws (number + 1))
+    c.self.view_is next
 
 pub returns-else-number-points-clause-none : goal.returns-else-number-points-clause-none
 returns-else-number-points-clause-none c =
@@ -29,8 +35,13 @@ returns-else-number-points-clause-none c =
     let word = c.loop-word.word in
     let read = c.bits_from-bits in
     let all : c.from-points.result ≡ n * n = c.from-points.ensures ∙ c.points.ensures.value in
-    let bits : (i : ℕ) → i < 64 → (bit_at read.result i ≡ 1) ↔ ((c.from-first.result ≤ 64 * word + i) × HasPoint words (64 * word + i)) =
-    λ i low. let b = read.ensures i low in (λ set. ((b.0 set).0, bit_in words word i low ∙ (b.0 set).1), λ both. b.1 (both.0, sym (bit_in words word i low) ∙ both.1)) in
+    let bits : (i : ℕ) → i < 64 → (bit_at read.result i ≡ 1)
+    ↔ ((c.from-first.result ≤ 64 * word + i) × HasPoint words (64 * word + i)) =
+    λ i low. let b = read.ensures i low in (
+      λ set. ((b.0 set).0, bit_in words word i low ∙ (b.0 set).1),
+      λ both.
+          b.1 (both.0, sym (bit_in words word i low) ∙ both.1),
+    ) in
     let none = ap (points_from n words) (sym c.from-first.ensures)
     ∙ lowest-past n words c.from-first.result word read.result read.type_inv bits c.loop-word.invariant
     (omega (arith, c.if-bits-ne0.true)) (omega (arith, all, c.if-number-points.false)) in
@@ -42,7 +53,8 @@ returns-clause-none c =
     let words = c.self.inside.words in
     let none = ap (points_from n words) (sym c.from-first.ensures)
     ∙ none-left n words c.from-first.result
-    (λ q low high. c.loop-word.invariant q low (omega (arith, high, c.words_of-word-end.ensures.value, c.loop-word-test.false))) in
+    (λ q low high. c.loop-word.invariant q low
+    (omega (arith, high, c.words_of-word-end.ensures.value, c.loop-word-test.false))) in
     subst (λ (ws : List ℕ). points_from n ws c.args.first ≡ []) c.self.view_is none
 
 pub loop-word-init : goal.loop-word-init
