@@ -28,10 +28,10 @@ grid_of b = colouring_of b.lines b.cells
 abbrev pub shown : BoardValue → GridValue
 shown b = record { lines = b.lines; colours = grid_of b }
 
--- a stone stands at p
+-- p holds a stone
 abbrev pub IsStoneOf : Colouring → ℕ → Type 0
 IsStoneOf g p = (c : Colour) × (colour_at g p ≡ Some c)
 
--- a stone stands on the point p of a board
+-- the point p of a board holds a stone
 abbrev pub HoldsStone : BoardValue → Point → Type 0
 HoldsStone b p = IsStoneOf (grid_of b) (number_of b.lines p)

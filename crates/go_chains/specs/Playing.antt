@@ -47,9 +47,9 @@ lost n old new c p colour = vanished n (slice_set old p (Some c)) new colour
 abbrev pub went : BoardValue → BoardValue → Colour → Point → Colour → ℕ
 went old new c p colour = lost old.lines (grid_of old) (grid_of new) c (number_of old.lines p) colour
 
--- what a play does to board, log and meter, of at most so many changes: refused it leaves board and log as they were,
--- and made it is logged; each of its changes is counted, and so is each cell read, with reads to spare for a look
--- around
+-- what a play does to board, log and meter: a refused one leaves board and log as they were, and a play that is made
+-- is logged, with at most `most` changes; each of its changes is counted, and so is each cell read, with reads to spare
+-- for a look around
 pub record PlayCosts {A : Type 0} (result : Result A PlaceError) (old new : BoardValue)
     (plays plays' : List (List Change)) (before after most : ℕ) : Type 0 where
   pub same : OnErr result (new ≡ old)

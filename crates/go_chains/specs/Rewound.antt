@@ -44,8 +44,8 @@ abbrev pub Played : List ℕ → List (List Change) → List ℕ → Type 0
 Played first [] last = first ≡ last
 Played first (changes ∷ plays) last = (cells : List ℕ) × (rewound cells changes ≡ first) × Played cells plays last
 
--- the log gained one play at its end, of at most so many changes, that put back give the cells before, and
--- those are all writes to the board's cells
+-- the log gained one play at its end, of at most `most` changes; put back they give the cells before, and they are all
+-- writes to the board's cells
 pub record PlayLogged (old new : BoardValue) (before after : List (List Change)) (most : ℕ) : Type 0 where
   pub changes : List Change
   pub gained : after ≡ before ++ changes ∷ []
@@ -54,7 +54,7 @@ pub record PlayLogged (old new : BoardValue) (before after : List (List Change))
   pub few : length changes ≤ most
   pub names : NamesCells CELLS changes
 
--- the last play of a log is put back on a board: its cells stand as before that play, nothing else was written to
+-- the last play of a log is put back on a board: its cells are as before that play, nothing else was written to
 -- them, the log has lost that play alone, and each change was counted
 pub record IsRewound (old new : BoardValue) (log earlier : List (List Change)) (changes : List Change)
     (before after : ℕ) : Type 0 where

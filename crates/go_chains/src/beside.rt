@@ -6,8 +6,8 @@ use arrayvec::ArrayVec;
 use go_board::laws::points_by_number;
 use go_board::{Point, Size};
 
-/// Puts the numbers of the points that share a side with this one into an empty list. Each play and
-/// each question about one asks for them, and a list that was given back would be copied.
+/// Puts the numbers of the points that share a side with this one into an empty list. Each play and each
+/// question about a play needs them, and a list that was returned would be copied.
 pub fn put_beside(size: Size, p: Point, numbers: &mut ArrayVec<usize, 4>)
     requires on { IsOn size p }
     requires empty { numbers.old.items ≡ [] }
@@ -17,7 +17,7 @@ pub fn put_beside(size: Size, p: Point, numbers: &mut ArrayVec<usize, 4>)
     let lines = usize::from(size.lines());
     let point = usize::from(p.index(size));
     let (col, row) = (usize::from(p.col), usize::from(p.row));
-    // Each number is reckoned also where the board ends, and isn't used then.
+    // Each number is computed also where the board ends, and isn't used then.
     push_if(numbers, row > 0, point.saturating_sub(lines));
     push_if(numbers, col > 0, point.saturating_sub(1));
     push_if(numbers, col + 1 < lines, point + 1);

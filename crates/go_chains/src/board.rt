@@ -1,5 +1,5 @@
-//! A board and its colours. What it tells of packs and of chains, and its plays, stand in the files of
-//! `board/`.
+//! A board and its colours. The files of `board/` have its plays, its packs, and the answers about its
+//! chains.
 ghost use Rattle.std.specs.Prelude.{◌≡◌, ◌<◌, ◌≤◌, ◌+◌, ◌*◌, ℕ, [], None, length, replicate, slice_index};
 ghost use Rattle.go_board.specs.Points.{IsOn};
 ghost use Rattle.go_board.specs.Reaching.{area};
@@ -23,10 +23,9 @@ use go_board::rows::{ByColour, Rows, areas_of, with_stone};
 use go_board::{Area, Colour, Grid, Meter, Open, Point, Size};
 use std::marker::Model;
 
-/// A board that keeps its chains and their liberties, changed in place by each play. A play, its way
-/// back and a look around a point stand for boards of each kind: such a body can ask no question
-/// that counts nothing, nor make a meter, so the meter that it was handed counts all its reads and
-/// writes.
+/// A board that keeps its chains and their liberties, changed in place by each play. The methods for boards
+/// of every kind `K` (play, rewind, and the questions about one point) can neither make a meter nor call a
+/// question that counts nothing, so the meter that they are given counts all their reads and writes.
 #[derive(Drop)]
 pub struct Board<K = Open> {
     size: Size,
@@ -160,7 +159,7 @@ impl Board<Open> {
     }
 }
 
-/// Empties the first so many points.
+/// Empties the first points, as many as `points` says.
 fn empty_points(cells: &mut Cells, points: usize)
     requires { points ≤ MAX_POINTS }
     ensures empty { (p : ℕ) → p < points → code_at cells.new.numbers p ≡ 0 }

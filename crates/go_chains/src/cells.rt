@@ -72,8 +72,8 @@ impl Cells<Open> {
         }
     }
 
-    /// The pack of the colours, as if the board had the most lines. Open cells alone tell it, so that
-    /// no play looks at colours that it doesn't count.
+    /// The pack of the colours, as if the board had the most lines. Only open cells have this method, so
+    /// that no play looks at colours that it doesn't count.
     pub fn pack(&self) -> &Packed
         ensures { bytes_of result.now ≡ packed_of (colouring_of MAX_LINES self.now.numbers) }
     {

@@ -17,19 +17,19 @@ pub(crate) enum Part {
     Liberties,
 }
 
-/// How far the points of a chain were given.
+/// How many of the points were given.
 #[derive(Clone, Copy)]
-enum Given {
-    /// None was asked for.
-    Nothing,
-    /// The first stone. The set has no points yet.
-    First,
-    /// Those before the one with this number, from the set.
-    Before(u16),
+enum Progress {
+    /// None.
+    Fresh,
+    /// The first stone alone. The set has no points yet.
+    FirstGiven,
+    /// Those before the point with this number, from the set.
+    Walking(u16),
 }
 
-/// The stones of a chain, or its liberties, in point order. A contract sees it as the list of those
-/// to come.
+/// The stones of a chain, or its liberties, in point order. A contract sees it as the list of the points
+/// that are still to come.
 #[derive(Drop)]
 pub struct ChainPoints<'a> {
     board: &'a Board,
@@ -37,7 +37,7 @@ pub struct ChainPoints<'a> {
     stone: Point,
     part: Part,
     points: PointSet,
-    given: Given,
+    progress: Progress,
 }
 
 impl<'a> Model for ChainPoints<'a> {
@@ -49,7 +49,7 @@ impl<'a> Model for ChainPoints<'a> {
 
     ghost Value = { List Point };
 
-    ghost view = { λ c. to_come c.board.now c.part c.stone c.points c.given };
+    ghost view = { λ c. to_come c.board.now c.part c.stone c.points c.progress };
 
     ghost invariant = { λ c. IsOn c.board.now.lines c.stone × HoldsStone c.board.now c.stone };
 }
@@ -66,7 +66,7 @@ impl<'a> ChainPoints<'a> {
             stone,
             part,
             points: PointSet::new(),
-            given: Given::Nothing,
+            progress: Progress::Fresh,
         }
     }
 }
@@ -78,24 +78,25 @@ impl<'a> Iterator for ChainPoints<'a> {
 
     ghost remaining = { item_count (λ points. points) };
 
-    // Part of the loop that walks: as a call for each point it took half as many steps again, and
-    // who asks for the first stone alone twice as many.
+    // Inlined into the caller's loop: a call for each point took half as many steps again, and twice as
+    // many where only the first stone was wanted.
     #[inline(always)]
     fn next(&mut self) -> Option<Point> {
         let size = self.board.size();
-        let first = match (self.given, self.part) {
-            (Given::Before(number), _) => number,
-            (Given::Nothing, Part::Stones) => {
-                self.given = Given::First;
+        let first = match (self.progress, self.part) {
+            (Progress::Walking(number), _) => number,
+            (Progress::Fresh, Part::Stones) => {
+                self.progress = Progress::FirstGiven;
                 return Some(Point::numbered(size, self.board.first_stone(self.stone)));
             }
-            (given, part) => {
-                let passed = matches!(given, Given::First);
-                self.board.mark(part, self.stone, passed, &mut self.points)
+            (progress, part) => {
+                let first_given = matches!(progress, Progress::FirstGiven);
+                self.board
+                    .fill(part, self.stone, first_given, &mut self.points)
             }
         };
         let number = self.points.next(size, first)?;
-        self.given = Given::Before(number + 1);
+        self.progress = Progress::Walking(number + 1);
         Some(Point::numbered(size, number))
     }
 }

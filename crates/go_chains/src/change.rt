@@ -5,7 +5,7 @@ ghost use Rattle.go_chains.specs.declared.cells.TheConstants.{CELLS};
 use std::marker::Model;
 use std::mem;
 
-/// A write to a cell, by the cell and the number that stood there before.
+/// A write to a cell, by the cell and the number that it had before.
 #[derive(Clone, Copy)]
 pub struct Change {
     pub place: usize,
@@ -13,7 +13,7 @@ pub struct Change {
 }
 
 /// A change as a log keeps it. A play makes some ten changes, and a long game keeps them all, so the
-/// number is kept as bytes, which leave no gap behind the place.
+/// number is kept as bytes, which leave no gap after the place.
 #[derive(Clone, Copy)]
 pub struct LoggedChange {
     place: u16,

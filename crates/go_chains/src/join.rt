@@ -1,4 +1,5 @@
-//! Two chains made one: relabelled, their rings spliced, their liberties together.
+//! Two chains become one: the second gets the first one's label, their rings are spliced, and their
+//! liberties merged.
 ghost use Rattle.std.specs.Prelude.{◌≡◌, ◌≢◌, ◌<◌, ◌≤◌, ◌+◌, ◌*◌, ℕ, vec_capacity, vec_len};
 ghost use Rattle.go_board.specs.declared.size.TheConstants.{MAX_POINTS};
 ghost use Rattle.go_board.specs.declared.point_set.TheConstants.{WORDS};
@@ -15,7 +16,7 @@ use go_board::point_set::words_of;
 use go_board::{Meter, Size};
 use std::alloc::Allocator;
 
-/// Gives so many points along a ring one label.
+/// Gives the first `stones` points along a ring one label.
 fn relabel<K, A: Allocator + Copy>(
     cells: &mut Cells<K>,
     changes: &mut Vec<LoggedChange, A>,
@@ -43,19 +44,19 @@ fn merge_words<K, A: Allocator + Copy>(
     changes: &mut Vec<LoggedChange, A>,
     meter: &mut Meter<K>,
     size: Size,
-    keep: usize,
+    kept: usize,
     gone: usize,
 )
-    requires keep { keep < MAX_POINTS }
+    requires kept { kept < MAX_POINTS }
     requires gone { gone < MAX_POINTS }
-    requires apart { keep ≢ gone }
+    requires apart { kept ≢ gone }
     requires room { vec_len changes.old + WORDS ≤ vec_capacity changes.old }
-    ensures merged { Merges size cells.old cells.new keep gone }
+    ensures merged { Merges size cells.old cells.new kept gone }
     ensures edited { Edited cells.old cells.new changes.old changes.new meter.old meter.new
         WORDS (3 * WORDS) }
 {
     for word in 0..words_of(size) {
-        let place = word_place(keep, word);
+        let place = word_place(kept, word);
         let here = cells.get(place, meter);
         let there = cells.get(word_place(gone, word), meter);
         replace(cells, changes, meter, place, here, here | there);
@@ -83,11 +84,11 @@ pub fn join<K, A: Allocator + Copy>(
         (chain_size cells.old.numbers second + WORDS + 3)
         (3 * chain_size cells.old.numbers second + 3 * WORDS + 9) }
 {
-    let keep = cells.get(LABELS + first, meter) as usize;
+    let kept = cells.get(LABELS + first, meter) as usize;
     let gone = cells.get(LABELS + second, meter) as usize;
-    let kept = cells.get(SIZES + keep, meter);
-    let stones = cells.get(SIZES + gone, meter);
-    relabel(cells, changes, meter, second, stones as usize, keep);
+    let kept_size = cells.get(SIZES + kept, meter);
+    let gone_size = cells.get(SIZES + gone, meter);
+    relabel(cells, changes, meter, second, gone_size as usize, kept);
     let first_next = cells.get(LINKS + first, meter);
     let second_next = cells.get(LINKS + second, meter);
     replace(
@@ -106,6 +107,13 @@ pub fn join<K, A: Allocator + Copy>(
         second_next,
         first_next,
     );
-    replace(cells, changes, meter, SIZES + keep, kept, stones + kept);
-    merge_words(cells, changes, meter, size, keep, gone);
+    replace(
+        cells,
+        changes,
+        meter,
+        SIZES + kept,
+        kept_size,
+        gone_size + kept_size,
+    );
+    merge_words(cells, changes, meter, size, kept, gone);
 }

@@ -8,7 +8,7 @@
 //! - [`ChainPoints`]: the stones of a chain, or its liberties, one after another.
 //! - [`Change`] and [`CELLS`]: a write to a cell and the number of cells, of which contracts speak.
 //!
-//! A play and its way back, on a board of 9 lines:
+//! A play, and how it is taken back, on a board of 9 lines:
 //!
 //! ```
 //! let size = Size::new(9).expect(&rt, "a size");

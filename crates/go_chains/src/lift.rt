@@ -1,4 +1,4 @@
-//! Stones taken off the board, and their points given back as liberties to the chains beside them.
+//! Stones are taken off the board, and their points become liberties of the chains beside them.
 ghost use Rattle.std.specs.Prelude.{◌≡◌, ◌≢◌, ◌<◌, ◌≤◌, ◌+◌, ◌*◌, ℕ, All, length, vec_capacity, vec_len};
 ghost use Rattle.go_board.specs.declared.size.TheConstants.{MAX_POINTS};
 ghost use Rattle.go_chains.specs.Cells.{code_at};
@@ -79,46 +79,47 @@ fn give_back<K, A: Allocator + Copy>(
     }
 }
 
-/// Takes one stone off, and makes its point a liberty of the stones of the other colour beside it.
+/// Takes one stone of the colour `taken` off, and makes its point a liberty of the stones of the colour
+/// `rest` beside it.
 fn lift<K, A: Allocator + Copy>(
     cells: &mut Cells<K>,
     changes: &mut Vec<LoggedChange, A>,
     meter: &mut Meter<K>,
     size: Size,
     point: usize,
-    own: u64,
-    other: u64,
+    taken: u64,
+    rest: u64,
 )
     requires point { point < size * size }
-    requires own { code_at cells.old.numbers point ≡ own }
-    requires labels { (s : ℕ) → s < size * size → FitsWith cells.old other s }
+    requires taken { code_at cells.old.numbers point ≡ taken }
+    requires labels { (s : ℕ) → s < size * size → FitsWith cells.old rest s }
     requires room { vec_len changes.old + 5 ≤ vec_capacity changes.old }
-    ensures lifted { IsLifted size cells.old.numbers cells.new.numbers point other }
+    ensures lifted { IsLifted size cells.old.numbers cells.new.numbers point rest }
     ensures edited { Edited cells.old cells.new changes.old changes.new meter.old meter.new 5 17 }
 {
-    replace(cells, changes, meter, point, own, 0);
-    let mut near = ArrayVec::new();
-    put_beside(size, Point::numbered(size, point as u16), &mut near);
-    give_back(cells, changes, meter, near.as_slice(), point, other);
+    replace(cells, changes, meter, point, taken, 0);
+    let mut beside = ArrayVec::new();
+    put_beside(size, Point::numbered(size, point as u16), &mut beside);
+    give_back(cells, changes, meter, beside.as_slice(), point, rest);
 }
 
-/// Takes the chain of a stone off, and says how many stones that were.
+/// Takes the chain of a stone off, and gives the number of its stones.
 pub fn take_off<K, A: Allocator + Copy>(
     cells: &mut Cells<K>,
     changes: &mut Vec<LoggedChange, A>,
     meter: &mut Meter<K>,
     size: Size,
     stone: usize,
-    own: u64,
-    other: u64,
+    taken: u64,
+    rest: u64,
 ) -> usize
     requires tidy { AreTidy size cells.old }
     requires whole { AreWhole size cells.old }
     requires stone { HasStone size cells.old stone }
-    requires own { code_at cells.old.numbers stone ≡ own }
-    requires other { 0 < other }
-    requires apart { own ≢ other }
-    requires two { HasTwoColours size cells.old own other }
+    requires taken { code_at cells.old.numbers stone ≡ taken }
+    requires rest { 0 < rest }
+    requires apart { taken ≢ rest }
+    requires two { HasTwoColours size cells.old taken rest }
     requires room { vec_len changes.old + 5 * MAX_POINTS ≤ vec_capacity changes.old }
     ensures removed { Removes size cells.old cells.new stone }
     ensures stones { result ≡ chain_size cells.old.numbers stone }
@@ -130,7 +131,7 @@ pub fn take_off<K, A: Allocator + Copy>(
     let mut at = stone;
     for _ in 0..stones {
         let next = cells.get(LINKS + at, meter) as usize;
-        lift(cells, changes, meter, size, at, own, other);
+        lift(cells, changes, meter, size, at, taken, rest);
         at = next;
     }
     stones

@@ -1,5 +1,5 @@
-//! The writes of each play, from which the last play is taken back. Room for all writes of a play is reserved
-//! before the first, so no write of a play can fail for want of memory.
+//! The writes of each play, from which the last play is taken back. Memory for all writes of a play is
+//! reserved before the first, so no write of a play can run out of memory.
 ghost use Rattle.std.specs.Prelude.{◌≡◌, ◌<◌, ◌≤◌, ◌+◌, ◌++◌, ◌∷◌, ◌⊎◌, [], List, OnErr, OnOk, length, vec_capacity, vec_len};
 ghost use Rattle.go_chains.specs.declared.cells.TheConstants.{CELLS};
 ghost use Rattle.go_chains.specs.Rewound.{ForLast, NamesCells, rewound, undone};
@@ -66,7 +66,7 @@ impl<A: Allocator + Copy> Log<A> {
     }
 }
 
-/// Puts the last changes back, so many of them, from the last to the first.
+/// Puts the last `count` changes back, from the last to the first.
 fn put_back_changes<K, A: Allocator + Copy>(
     cells: &mut Cells<K>,
     changes: &mut Vec<LoggedChange, A>,
@@ -89,9 +89,9 @@ fn put_back_changes<K, A: Allocator + Copy>(
     }
 }
 
-/// Makes room for one play more, of at most so many changes. An allocator may move a list that grows
-/// with all its room, of which a game's first play uses next to nothing; so the changes of that play
-/// are moved alone, to where there is room for twice as many as a play makes at most.
+/// Makes room for one more play, of at most `most` changes. When a list grows, an allocator may copy its
+/// whole capacity, of which a game's first play used very little. So the second play gets a new list with
+/// room for two plays, and only the changes in use are copied.
 pub(crate) fn reserve_play<A: Allocator + Copy>(
     changes: &mut Vec<LoggedChange, A>,
     lengths: &mut Vec<usize, A>,
@@ -126,7 +126,7 @@ fn widen<A: Allocator + Copy>(changes: &mut Vec<LoggedChange, A>, mut wider: Vec
     *changes = wider;
 }
 
-/// Closes a play of so many changes, for which there is room.
+/// Ends a play of `count` changes, for which there is room.
 pub(crate) fn seal<A: Allocator + Copy>(lengths: &mut Vec<usize, A>, count: usize)
     requires { vec_len lengths.old < vec_capacity lengths.old }
     ensures { lengths.new.items ≡ lengths.old.items ++ count ∷ [] }

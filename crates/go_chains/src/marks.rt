@@ -10,7 +10,7 @@ use crate::cells::{Cells, LINKS, word_place};
 use go_board::point_set::words_of;
 use go_board::{Meter, PointSet, Size};
 
-/// Puts so many points along a ring into a set that has none.
+/// Puts the first `stones` points along a ring into a set that has none.
 pub(crate) fn put_ring(cells: &Cells, from: usize, stones: usize, set: &mut PointSet)
     requires on { (i : ℕ) → i < stones → steps (next_of cells.now.numbers) i from < MAX_POINTS }
     requires none { set.old ≡ replicate WORDS 0 }
@@ -24,8 +24,7 @@ pub(crate) fn put_ring(cells: &Cells, from: usize, stones: usize, set: &mut Poin
     }
 }
 
-/// The lowest of so many points along a ring. It stays out of the look for a first stone, which
-/// mostly needs no ring.
+/// The lowest of the first `points` points along a ring. Not inlined, since its caller mostly needs no ring.
 #[inline(never)]
 pub(crate) fn lowest_on_ring(cells: &Cells, from: usize, points: usize) -> usize
     requires from { from < MAX_POINTS }

@@ -1,4 +1,5 @@
-//! A stone on an empty point: a chain of its own, and no liberty of the chains beside it any more.
+//! A stone is placed on an empty point. It is a chain of its own, and the point is no longer a liberty of
+//! the chains beside it.
 ghost use Rattle.std.specs.Prelude.{◌≡◌, ◌<◌, ◌≤◌, ◌+◌, ◌*◌, All, length, replicate, vec_capacity, vec_len};
 ghost use Rattle.go_board.specs.declared.size.TheConstants.{MAX_POINTS};
 ghost use Rattle.go_board.specs.declared.point_set.TheConstants.{WORDS};
@@ -113,7 +114,7 @@ fn deprive<K, A: Allocator + Copy>(
     }
 }
 
-/// Writes a set as a label's liberties, as many words as the board has.
+/// Writes a set as a label's liberties, in all words of the board.
 fn fill_words<K, A: Allocator + Copy>(
     cells: &mut Cells<K>,
     changes: &mut Vec<LoggedChange, A>,

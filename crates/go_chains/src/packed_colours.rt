@@ -12,7 +12,7 @@ use go_board::{Colour, Open, Packed};
 use std::marker::{Model, PhantomData};
 
 /// The pack of a board's colours, as if the board had the most lines. A play writes it, and reads
-/// nothing of it: open colours alone tell their pack.
+/// nothing of it: only open colours have `pack`.
 #[derive(Drop)]
 pub struct PackedColours<K> {
     pack: Packed,
@@ -48,7 +48,7 @@ impl PackedColours<Open> {
 }
 
 impl<K> PackedColours<K> {
-    /// Gives a point the colour that a number stands for, when its cell is written.
+    /// Gives a point the colour that a number means, when its cell is written.
     pub fn put(&mut self, place: usize, number: u64)
         requires { place < MAX_POINTS }
         ensures { (cells : List ℕ) → slice_index (slice_set cells place number) place ≡ number
@@ -61,8 +61,7 @@ impl<K> PackedColours<K> {
     }
 }
 
-/// The code of the colour that a number stands for; a number of no colour stands for an empty
-/// point.
+/// The code of the colour that a number means. A number of no colour means an empty point.
 fn colour_code(number: u64) -> u8
     ensures value { result ≡ code_of (colour_coded number) }
     ensures few { result ≤ 2 }

@@ -1,5 +1,5 @@
-//! A play over the cells: the stone placed and joined, the opponent's chains captured, and then its
-//! own chain taken off if that has no liberty.
+//! A play over the cells: the stone is placed and joined, the opponent's chains are captured, and then
+//! its own chain is, if it has no liberty.
 ghost use Rattle.std.specs.Prelude.{◌≡◌, ◌<◌, ◌≤◌, ◌+◌, ◌-◌, ◌*◌, vec_capacity, vec_len};
 ghost use Rattle.go_board.specs.Colours.{other};
 ghost use Rattle.go_board.specs.Reaching.{moved};
@@ -11,7 +11,7 @@ ghost use Rattle.go_chains.specs.inner.Edits.{Edited};
 ghost use Rattle.go_chains.specs.Sound.{IsKept};
 ghost use Rattle.go_chains.specs.inner.CellSteps.{colours_in};
 
-use crate::capture::{capture, take_one};
+use crate::capture::{capture_beside, capture_if_dead};
 use crate::cells::Cells;
 use crate::change::LoggedChange;
 use crate::connect::connect;
@@ -33,12 +33,12 @@ pub fn place<K, A: Allocator + Copy>(
     size: Size,
     colour: Colour,
     point: usize,
-    near: &[usize],
+    beside: &[usize],
 ) -> Taken
     requires kept { IsKept size cells.old.numbers }
     requires point { point < size * size }
     requires empty { code_at cells.old.numbers point ≡ 0 }
-    requires near { AreBeside size point near.now }
+    requires beside { AreBeside size point beside.now }
     requires room { vec_len changes.old + ROOM ≤ vec_capacity changes.old }
     ensures kept { IsKept size cells.new.numbers }
     ensures colours { colours_in size cells.new
@@ -54,13 +54,13 @@ pub fn place<K, A: Allocator + Copy>(
     joined_by_a_path();
     reaches_by_a_path();
     let own = colour.code();
-    let other = colour.other().code();
-    occupy(cells, changes, meter, size, own, point, near);
-    connect(cells, changes, meter, size, point, near);
-    let theirs = capture(cells, changes, meter, size, near, other, own);
-    let taken = take_one(cells, changes, meter, size, point, own, other);
+    let theirs = colour.other().code();
+    occupy(cells, changes, meter, size, own, point, beside);
+    connect(cells, changes, meter, size, point, beside);
+    let captured = capture_beside(cells, changes, meter, size, beside, theirs, own);
+    let suicide = capture_if_dead(cells, changes, meter, size, point, own, theirs);
     Taken {
-        theirs: theirs as u16,
-        own: taken as u16,
+        theirs: captured as u16,
+        own: suicide as u16,
     }
 }

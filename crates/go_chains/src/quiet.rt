@@ -1,4 +1,4 @@
-//! Stones that take nothing, told without playing them, and the liberties that they have then.
+//! Finds without a play whether a stone takes nothing, and which liberties it has then.
 ghost use Rattle.std.specs.Prelude.{◌≡◌, ◌≢◌, ◌<◌, ◌≤◌, ◌+◌, ◌*◌, ◌⊎◌, ◌↔◌, ℕ, IsTrue, replicate};
 ghost use Rattle.go_board.specs.declared.size.TheConstants.{MAX_POINTS};
 ghost use Rattle.go_board.specs.declared.point_set.TheConstants.{WORDS};
@@ -7,13 +7,12 @@ ghost use Rattle.go_chains.specs.Cells.{code_at, label_of, lib_of};
 ghost use Rattle.go_chains.specs.Playing.{reads_around};
 ghost use Rattle.go_chains.specs.Sound.{IsKept};
 ghost use Rattle.go_chains.specs.inner.Beside.{AreBeside};
-ghost use Rattle.go_chains.specs.inner.Quiet.{HasOther, IsLent, IsOutlook, IsQuiet};
+ghost use Rattle.go_chains.specs.inner.Quiet.{IsLent, IsOutlook, IsQuiet};
 
 use crate::cells::{Cells, LABELS};
 use crate::marks::put_liberties;
-use crate::masks::{has_liberty_in, mask_but};
+use crate::masks::has_liberty_but;
 use crate::occupy::put_empty;
-use go_board::point_set::words_of;
 use go_board::{Meter, PointSet, Size};
 
 /// What a stone on an empty point means for a point beside it.
@@ -25,34 +24,6 @@ pub(crate) enum Outlook {
     Stays,
     /// Nothing that it takes, and a liberty for it.
     Breathes,
-}
-
-/// Whether a label has a liberty but this point. Liberties are mostly close by, so the word with the
-/// bit of the point is looked at first.
-fn has_other<K>(
-    cells: &Cells<K>,
-    meter: &mut Meter<K>,
-    size: Size,
-    label: usize,
-    point: usize,
-) -> bool
-    requires label { label < MAX_POINTS }
-    requires point { point < size * size }
-    ensures other { IsTrue result ↔ HasOther size cells.now.numbers point label }
-    ensures count { meter.new ≤ meter.old + (WORDS + 1) }
-    ensures onward { meter.old ≤ meter.new }
-{
-    let points = usize::from(size.points());
-    let near = point / 64;
-    if has_liberty_in(cells, meter, label, near, mask_but(points, near, point)) {
-        return true;
-    }
-    for word in 0..words_of(size) {
-        if has_liberty_in(cells, meter, label, word, mask_but(points, word, point)) {
-            return true;
-        }
-    }
-    false
 }
 
 /// What a stone of the colour with this code on an empty point means for a point beside it.
@@ -76,7 +47,7 @@ fn outlook_on<K>(
         return Outlook::Breathes;
     }
     let label = cells.get(LABELS + near, meter) as usize;
-    let lives = has_other(cells, meter, size, label, point);
+    let lives = has_liberty_but(cells, meter, size, label, point);
     match (code == own, lives) {
         (true, true) => Outlook::Breathes,
         (false, false) => Outlook::Falls,

@@ -7,9 +7,9 @@ use std::marker::Model;
 use std::mem;
 use std::snapshot::Snapshot;
 
-/// A list of writes that only contracts see: those before and the last one, or no write where there
-/// is no list before. The last one is told by its cell and by what stood in all cells before it, so
-/// that no cell is read for it.
+/// A list of writes that only contracts see: the writes before and the last one, or no write where there
+/// is no list before. Of the last one it has the cell, and the numbers of all cells before it, so that no
+/// cell is read for it.
 #[derive(Drop)]
 struct Writes<K> {
     before: Option<Snapshot<Writes<K>>>,

@@ -23,19 +23,26 @@ abbrev pub put : ℕ → ℕ → ℕ → ℕ
 put byte at code = byte - taken_off byte at + code * 2 ^ (2 * at) % 2 ^ 8
 
 pub put-fits : (byte at code : ℕ) → byte < 256 → code ≤ 2 → at < 4 → put byte at code < 256
-put-fits byte at code fits few = at_each (λ at. put byte at code < 256) (omega arith) (omega arith) (omega arith) (omega arith) at
+put-fits byte at code fits few =
+    at_each (λ at. put byte at code < 256) (omega arith) (omega arith) (omega arith) (omega arith) at
 
 pub put-at : (byte at code : ℕ) → byte < 256 → code ≤ 2 → at < 4 → code_in (put byte at code) at ≡ code
-put-at byte at code fits few = at_each (λ at. code_in (put byte at code) at ≡ code) (omega arith) (omega arith) (omega arith) (omega arith) at
+put-at byte at code fits few = at_each (λ at. code_in (put byte at code) at ≡ code) (omega arith) (omega arith)
+    (omega arith) (omega arith) at
 
-pub put-others : (byte at code : ℕ) → byte < 256 → code ≤ 2 → at < 4 → (k : ℕ) → k < 4 → k ≢ at → code_in (put byte at code) k ≡ code_in byte k
+pub put-others : (byte at code : ℕ) → byte < 256 → code ≤ 2 → at < 4 → (k : ℕ) → k < 4 → k ≢ at →
+    code_in (put byte at code) k ≡ code_in byte k
 put-others byte at code fits few =
     let Other : ℕ → ℕ → Type 0 = λ at k. k ≢ at → code_in (put byte at code) k ≡ code_in byte k in
     at_each (λ at. (k : ℕ) → k < 4 → Other at k)
-    (at_each (Other 0) (λ other. absurd (omega (arith, other))) (λ other. omega arith) (λ other. omega arith) (λ other. omega arith))
-    (at_each (Other 1) (λ other. omega arith) (λ other. absurd (omega (arith, other))) (λ other. omega arith) (λ other. omega arith))
-    (at_each (Other 2) (λ other. omega arith) (λ other. omega arith) (λ other. absurd (omega (arith, other))) (λ other. omega arith))
-    (at_each (Other 3) (λ other. omega arith) (λ other. omega arith) (λ other. omega arith) (λ other. absurd (omega (arith, other))))
+    (at_each (Other 0) (λ other. absurd (omega (arith, other))) (λ other. omega arith) (λ other. omega arith)
+    (λ other. omega arith))
+    (at_each (Other 1) (λ other. omega arith) (λ other. absurd (omega (arith, other))) (λ other. omega arith)
+    (λ other. omega arith))
+    (at_each (Other 2) (λ other. omega arith) (λ other. omega arith) (λ other. absurd (omega (arith, other)))
+    (λ other. omega arith))
+    (at_each (Other 3) (λ other. omega arith) (λ other. omega arith) (λ other. omega arith)
+    (λ other. absurd (omega (arith, other))))
     at
 
 same_by_codes : (a b : ℕ) → a < 256 → b < 256 → ((k : ℕ) → k < 4 → code_in a k ≡ code_in b k) → a ≡ b
@@ -82,7 +89,8 @@ pub byte_put : (g h : Colouring) (i at code byte new : ℕ) → new < 256 → by
 byte_put g h i at code byte new fits was here others code_is same =
     same_by_codes new (byte_of h i) fits (byte_fits h i)
     (λ k small. elim (cases_eq k at) [
-      | inl is ↦ ap (code_in new) is ∙ here ∙ code_is ∙ ap (λ j. code_of (colour_at h (4 * i + j))) (sym is) ∙ sym (code_in_byte h i k small)
+      | inl is ↦ ap (code_in new) is ∙ here ∙ code_is ∙ ap (λ j. code_of (colour_at h (4 * i + j))) (sym is)
+          ∙ sym (code_in_byte h i k small)
       | inr other ↦ others k small other ∙ ap (λ b. code_in b k) was ∙ code_in_byte g i k small
           ∙ ap code_of (same (4 * i + k) (λ e. other (omega (arith, e)))) ∙ sym (code_in_byte h i k small)
     ])

@@ -12,7 +12,8 @@ use Rattle.go_board.specs.Reaching.{points}
 use Rattle.go_chains.proofs.tables.Tidy.{length-le_members}
 
 -- what is in a list and passes is in what the test leaves of it
-pub Contains-filter : (test : ℕ → Bool) (xs : List ℕ) (q : ℕ) → Contains xs q → test q ≡ true → Contains (filter test xs) q
+pub Contains-filter : (test : ℕ → Bool) (xs : List ℕ) (q : ℕ) → Contains xs q → test q ≡ true →
+    Contains (filter test xs) q
 Contains-filter test [] q has passes = absurd (let none : has.0 < 0 = has.1 in omega arith)
 Contains-filter test (x ∷ xs) q has passes = elim (cases_eq x q) [
   | inl same ↦
@@ -22,8 +23,10 @@ Contains-filter test (x ∷ xs) q has passes = elim (cases_eq x q) [
   | inr other ↦
       let rest = Contains-filter test xs q (Contains-tail x xs q other has) passes in
       elim (cases_Bool (test x)) [
-        | inl t ↦ (let step : filter test (x ∷ xs) ≡ x ∷ filter test xs = rw t refl in subst (λ (l : List ℕ). Contains l q) (sym step) (Contains-append_right (x ∷ []) (filter test xs) q rest))
-        | inr f ↦ (let step : filter test (x ∷ xs) ≡ filter test xs = rw f refl in subst (λ (l : List ℕ). Contains l q) (sym step) rest)
+        | inl t ↦ (let step : filter test (x ∷ xs) ≡ x ∷ filter test xs = rw t refl in
+            subst (λ (l : List ℕ). Contains l q) (sym step) (Contains-append_right (x ∷ []) (filter test xs) q rest))
+        | inr f ↦ (let step : filter test (x ∷ xs) ≡ filter test xs = rw f refl in
+            subst (λ (l : List ℕ). Contains l q) (sym step) rest)
       ]
 ]
 
@@ -58,20 +61,25 @@ module _ (n : ℕ) (test : ℕ → Bool) where
 
   pub passing-is : (q : ℕ) → Contains (filter test (points n)) q → (q < n * n) × (test q ≡ true)
   passing-is q has = (
-    point_below n q (All-contains (Contains (points n)) (filter test (points n)) q (All-filter test (Contains (points n)) (points n) (All-contains_itself (points n))) has),
+    point_below n q (All-contains (Contains (points n)) (filter test (points n)) q
+        (All-filter test (Contains (points n)) (points n) (All-contains_itself (points n))) has),
     All-contains (λ x. test x ≡ true) (filter test (points n)) q (filter_passes test (points n)) has,
   )
 
 -- as many points pass as a list has that names each of them once, and no other point
-pub counted : (n : ℕ) (test : ℕ → Bool) (xs : List ℕ) → AllPairs (λ x y. x ≢ y) xs → ((q : ℕ) → Contains xs q → (q < n * n) × (test q ≡ true))
+pub counted : (n : ℕ) (test : ℕ → Bool) (xs : List ℕ) → AllPairs (λ x y. x ≢ y) xs →
+    ((q : ℕ) → Contains xs q → (q < n * n) × (test q ≡ true))
     → ((q : ℕ) → q < n * n → test q ≡ true → Contains xs q) → length (filter test (points n)) ≡ length xs
 counted n test xs apart pass has =
     let more : length (filter test (points n)) ≤ length xs =
-    length-le_members (filter test (points n)) xs (passing-apart n test) (λ q inside. let is = passing-is n test q inside in has q is.0 is.1) in
+    length-le_members (filter test (points n)) xs (passing-apart n test)
+    (λ q inside. let is = passing-is n test q inside in has q is.0 is.1) in
     let fewer : length xs ≤ length (filter test (points n)) =
-    length-le_members xs (filter test (points n)) apart (λ q inside. let is = pass q inside in passing-has n test q is.0 is.1) in
+    length-le_members xs (filter test (points n)) apart
+    (λ q inside. let is = pass q inside in passing-has n test q is.0 is.1) in
     omega arith
 
-pub counted_by : (n : ℕ) (test : ℕ → Bool) (xs : List ℕ) → AllPairs (λ x y. x ≢ y) xs → ((q : ℕ) → Contains xs q → (q < n * n) × (test q ≡ true))
+pub counted_by : (n : ℕ) (test : ℕ → Bool) (xs : List ℕ) → AllPairs (λ x y. x ≢ y) xs →
+    ((q : ℕ) → Contains xs q → (q < n * n) × (test q ≡ true))
     → ((q : ℕ) → q < n * n → test q ≡ true → Contains xs q) → count_by test (points n) ≡ length xs
 counted_by n test xs apart pass has = sym (length-filter test (points n)) ∙ counted n test xs apart pass has

@@ -23,15 +23,20 @@ use Rattle.go_chains.proofs.rules.Playing.{colour_test, not-false, not-true, tes
 use Rattle.go_chains.proofs.tables.Tidy.{length-le_members}
 
 -- the list counts the stones of a colour that are in the one colouring and not in the other
-pub vanished_is : (n : ℕ) (before after : List ℕ) (c : Colour) (code taken : ℕ) → ((p : ℕ) → p < n * n → code_at before p < 3) → ((p : ℕ) → p < n * n → code_at after p < 3) → code < 3 → colour_coded code ≡ Some c
-    → CountsTaken (n * n) (tables_of before) (tables_of after) code taken → taken ≡ vanished n (colouring_of n before) (colouring_of n after) c
+pub vanished_is : (n : ℕ) (before after : List ℕ) (c : Colour) (code taken : ℕ) →
+    ((p : ℕ) → p < n * n → code_at before p < 3) → ((p : ℕ) → p < n * n → code_at after p < 3) → code < 3 →
+    colour_coded code ≡ Some c
+    → CountsTaken (n * n) (tables_of before) (tables_of after) code taken →
+    taken ≡ vanished n (colouring_of n before) (colouring_of n after) c
 unfolding vanished
 vanished_is n before after c code taken coded coded' small is counts =
     sym (counts.1) ∙ sym (counted_by n (λ p. has_colour g p (Some c) && not (has_colour h p (Some c))) counts.0 counts.2
     (λ q has. (let of = (counts.3 q).0 has in (
       of.0,
-      and_from (has_colour g q (Some c)) (not (has_colour h q (Some c))) (colour_test n before q c of.0 (ap colour_coded of.1 ∙ is))
-          (not-false (has_colour h q (Some c)) (λ still. of.2 (test_colour n after q c code of.0 (coded' q of.0) small is still))),
+      and_from (has_colour g q (Some c)) (not (has_colour h q (Some c)))
+          (colour_test n before q c of.0 (ap colour_coded of.1 ∙ is))
+          (not-false (has_colour h q (Some c))
+          (λ still. of.2 (test_colour n after q c code of.0 (coded' q of.0) small is still))),
     )))
     (λ q q_in passes. (let parts = and_parts (has_colour g q (Some c)) (not (has_colour h q (Some c))) passes in
     (counts.3 q).1 (
@@ -51,7 +56,8 @@ pub data Seen (n : ℕ) (f : ℕ → ℕ) (p c x q : ℕ) : Type 0 where
   aside : x ≢ p → IsJoined (IsAdjacent n) f x q → Seen n f p c x q
   around : (s : ℕ) → IsAdjacent n p s → f s ≡ c → IsJoined (IsAdjacent n) f s q → Seen n f p c x q
 
-seen : (n : ℕ) (f f' : ℕ → ℕ) (p c x : ℕ) (via : List ℕ) (q : ℕ) → q ≢ p → f' x ≡ c → ((y : ℕ) → y < n * n → y ≢ p → f' y ≡ c → f y ≡ c) → x < n * n → Links (IsAdjacent n) f' x via q → Seen n f p c x q
+seen : (n : ℕ) (f f' : ℕ → ℕ) (p c x : ℕ) (via : List ℕ) (q : ℕ) → q ≢ p → f' x ≡ c →
+    ((y : ℕ) → y < n * n → y ≢ p → f' y ≡ c → f y ≡ c) → x < n * n → Links (IsAdjacent n) f' x via q → Seen n f p c x q
 seen n f f' p c x [] q off is had x_in links = aside (λ at. off (sym links ∙ at)) ([], links)
 seen n f f' p c x (y ∷ ys) q off is had x_in links =
     let y_in : y < n * n = links.0.1 in
@@ -67,12 +73,15 @@ seen n f f' p c x (y ∷ ys) q off is had x_in links =
     ]
 
 -- the placed stone's ring has no more stones than that stone and the own chains beside it
-pub ring-le : JoinedByPath → (n : ℕ) (before after : List ℕ) (p code : ℕ) (c : Colour) → ((q : ℕ) → q < n * n → code_at before q < 3) → code < 3 → colour_coded code ≡ Some c → 0 < code
-    → IsTidy (n * n) (IsAdjacent n) (tables_of after) → p < n * n → code_at after p ≡ code → ((q : ℕ) → q < n * n → q ≢ p → code_at after q ≡ code → code_at before q ≡ code)
+pub ring-le : JoinedByPath → (n : ℕ) (before after : List ℕ) (p code : ℕ) (c : Colour) →
+    ((q : ℕ) → q < n * n → code_at before q < 3) → code < 3 → colour_coded code ≡ Some c → 0 < code
+    → IsTidy (n * n) (IsAdjacent n) (tables_of after) → p < n * n → code_at after p ≡ code →
+    ((q : ℕ) → q < n * n → q ≢ p → code_at after q ≡ code → code_at before q ≡ code)
     → size_of after (label_of after p) ≤ stones_beside n (colouring_of n before) c p + 1
 unfolding stones_beside
 ring-le law n before after p code c coded small is some tidy p_in p_is had =
-    let few = length-le_members (ring_from (next_of after) size p) (p ∷ own) (ring_from-apart (next_of after) size p (tidy.ring p stone).apart) members in
+    let few = length-le_members (ring_from (next_of after) size p) (p ∷ own)
+    (ring_from-apart (next_of after) size p (tidy.ring p stone).apart) members in
     let long = length-ring_from (next_of after) size p in
     let counts = length-filter (is_beside_own n g c p) (points n) in
     omega arith
@@ -89,16 +98,21 @@ ring-le law n before after p code c coded small is some tidy p_in p_is had =
     own : List ℕ
     own = filter (is_beside_own n g c p) (points n)
 
-    passes : (q : ℕ) → q < n * n → code_at before q ≡ code → (s : ℕ) → IsAdjacent n p s → code_at before s ≡ code → IsJoined (IsAdjacent n) (code_at before) s q → is_beside_own n g c p q ≡ true
+    passes : (q : ℕ) → q < n * n → code_at before q ≡ code → (s : ℕ) → IsAdjacent n p s → code_at before s ≡ code →
+        IsJoined (IsAdjacent n) (code_at before) s q → is_beside_own n g c p q ≡ true
     passes q q_in q_is s near s_is path =
         let s_in : s < n * n = near.1 in
-        let s_joined = (law n g s q s_in).1 (chain_of n g before (colouring-inside n before) (colouring-at n before) coded s q s_in path) in
+        let s_joined = (law n g s q s_in).1
+        (chain_of n g before (colouring-inside n before) (colouring-at n before) coded s q s_in path) in
         let s_passes : (is_adjacent n p s && (has_colour g s (Some c) && joined n g s q)) ≡ true =
         and_from (is_adjacent n p s) (has_colour g s (Some c) && joined n g s q) near.2
-        (and_from (has_colour g s (Some c)) (joined n g s q) (colour_test n before s c s_in (ap colour_coded s_is ∙ is)) s_joined) in
+        (and_from (has_colour g s (Some c)) (joined n g s q) (colour_test n before s c s_in (ap colour_coded s_is ∙ is))
+        s_joined) in
         let at = below_point n s s_in in
-        and_from (has_colour g q (Some c)) (some_neighbour n p (λ k. has_colour g k (Some c) && joined n g k q)) (colour_test n before q c q_in (ap colour_coded q_is ∙ is))
-        (list_any-from_Any (λ k. is_adjacent n p k && (has_colour g k (Some c) && joined n g k q)) (points n) (at.0, s, at.1, at.2, s_passes))
+        and_from (has_colour g q (Some c)) (some_neighbour n p (λ k. has_colour g k (Some c) && joined n g k q))
+        (colour_test n before q c q_in (ap colour_coded q_is ∙ is))
+        (list_any-from_Any (λ k. is_adjacent n p k && (has_colour g k (Some c) && joined n g k q)) (points n)
+        (at.0, s, at.1, at.2, s_passes))
 
     members : (q : ℕ) → Contains (ring_from (next_of after) size p) q → Contains (p ∷ own) q
     members q has = elim (cases_eq q p) [
@@ -107,7 +121,9 @@ ring-le law n before after p code c coded small is some tidy p_in p_is had =
           let on = tidy.on_ring p q stone (IsOn-Contains (next_of after) size p q has) in
           let q_in : q < n * n = on.0.0 in
           let path = tidy.joined p q stone on.0 (sym on.1) in
-          let q_is : code_at before q ≡ code = had q q_in off (sym (tidy.head_colour q on.0) ∙ ap (code_at after) on.1 ∙ tidy.head_colour p stone ∙ p_is) in
+          let q_is : code_at before q ≡ code =
+          had q q_in off (sym (tidy.head_colour q on.0) ∙ ap (code_at after) on.1 ∙ tidy.head_colour p stone
+          ∙ p_is) in
           elim (seen n (code_at before) (code_at after) p code p path.0 q off p_is had p_in path.1) [
             | aside never _ ↦ absurd (never refl)
             | around s near s_is rest ↦

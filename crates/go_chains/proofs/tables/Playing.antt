@@ -21,8 +21,10 @@ dead_or_alive (suc n) t l = elim (cases_eq (t.lib l n) 1) [
 ]
 
 -- the stone is placed, and joined to its chains
-module _ (n : ℕ) (adj : ℕ → ℕ → Type 0) (flip : (p q : ℕ) → adj p q → adj q p) (t t1 t2 : Tables) (p c o : ℕ) (beside : List ℕ)
-    (whole : AreChainsWhole n adj t) (two : (q : ℕ) → IsStone n t q → (t.colour q ≡ o) ⊎ (t.colour q ≡ c)) (near : (q : ℕ) → adj p q → (i : ℕ) × (i < length beside) × (slice_index beside i ≡ q))
+module _ (n : ℕ) (adj : ℕ → ℕ → Type 0) (flip : (p q : ℕ) → adj p q → adj q p) (t t1 t2 : Tables) (p c o : ℕ)
+    (beside : List ℕ)
+    (whole : AreChainsWhole n adj t) (two : (q : ℕ) → IsStone n t q → (t.colour q ≡ o) ⊎ (t.colour q ≡ c))
+    (near : (q : ℕ) → adj p q → (i : ℕ) × (i < length beside) × (slice_index beside i ≡ q))
     (placed : IsPlaced n adj t t1 p c) (joined : IsConnectedTo n t1 t2 p beside (length beside)) where
   was : (q : ℕ) → q ≢ p → IsStone n t1 q → IsStone n t q
   was q off stone = (stone.0, let e = placed.colours q stone.0 off in let h : 0 < t1.colour q = stone.1 in omega arith)
@@ -30,7 +32,8 @@ module _ (n : ℕ) (adj : ℕ → ℕ → Type 0) (flip : (p q : ℕ) → adj p 
   whole_but : IsWholeBut n adj t1 p
   whole_but x y sx sy x_off y_off beside_x same =
       placed.labels x sx.0 x_off
-      ∙ whole x y (was x x_off sx) (was y y_off sy) beside_x (sym (placed.colours x sx.0 x_off) ∙ same ∙ placed.colours y sy.0 y_off)
+      ∙ whole x y (was x x_off sx) (was y y_off sy) beside_x
+      (sym (placed.colours x sx.0 x_off) ∙ same ∙ placed.colours y sy.0 y_off)
       ∙ sym (placed.labels y sy.0 y_off)
 
   pub whole_joined : AreChainsWhole n adj t2
@@ -47,35 +50,47 @@ module _ (n : ℕ) (adj : ℕ → ℕ → Type 0) (flip : (p q : ℕ) → adj p 
     | inl at ↦ inr (ap t2.colour at ∙ placed_joined)
     | inr off ↦
         let same = colours_joined q stone.0 off in
-        elim (two q (stone.0, (let h : 0 < t2.colour q = stone.1 in omega arith))) [ inl is ↦ inl (same ∙ is) | inr is ↦ inr (same ∙ is) ]
+        elim (two q (stone.0, (let h : 0 < t2.colour q = stone.1 in omega arith)))
+        [ inl is ↦ inl (same ∙ is) | inr is ↦ inr (same ∙ is) ]
   ]
 
 -- and what has no liberty then is taken off, the other colour first
-module _ (n : ℕ) (adj : ℕ → ℕ → Type 0) (flip : (p q : ℕ) → adj p q → adj q p) (inside : (p q : ℕ) → adj p q → q < n) (t t2 t3 t4 : Tables) (p c o : ℕ)
+module _ (n : ℕ) (adj : ℕ → ℕ → Type 0) (flip : (p q : ℕ) → adj p q → adj q p) (inside : (p q : ℕ) → adj p q → q < n)
+    (t t2 t3 t4 : Tables) (p c o : ℕ)
     (own_some : 0 < c) (other_some : 0 < o) (differ : o ≢ c) (p_in : p < n) (empty : t.colour p ≡ 0)
     (tidy : IsTidy n adj t) (alive : (q : ℕ) → IsStone n t q → (x : ℕ) × (x < n) × (t.lib (t.label q) x ≡ 1))
-    (tidy2 : IsTidy n adj t2) (whole2 : AreChainsWhole n adj t2) (colours2 : (q : ℕ) → q < n → q ≢ p → t2.colour q ≡ t.colour q) (placed2 : t2.colour p ≡ c)
+    (tidy2 : IsTidy n adj t2) (whole2 : AreChainsWhole n adj t2)
+    (colours2 : (q : ℕ) → q < n → q ≢ p → t2.colour q ≡ t.colour q) (placed2 : t2.colour p ≡ c)
     (two2 : (q : ℕ) → IsStone n t2 q → (t2.colour q ≡ o) ⊎ (t2.colour q ≡ c))
-    (captured : IsCapturing n adj t2 t3 o) (gone : (s : ℕ) → adj p s → t2.colour s ≡ o → IsDead n t2 (t2.label s) → t3.colour s ≡ 0)
-    (cleared : IsCapturing n adj t3 t4 c) (own_gone : t3.colour p ≡ c → IsDead n t3 (t3.label p) → t4.colour p ≡ 0) where
+    (captured : IsCapturing n adj t2 t3 o)
+    (gone : (s : ℕ) → adj p s → t2.colour s ≡ o → IsDead n t2 (t2.label s) → t3.colour s ≡ 0)
+    (cleared : IsCapturing n adj t3 t4 c)
+    (own_gone : t3.colour p ≡ c → IsDead n t3 (t3.label p) → t4.colour p ≡ 0) where
   -- a chain of the other colour without a liberty has a stone beside the placed one
-  beside_placed : (q : ℕ) → IsStone n t2 q → t2.colour q ≡ o → IsDead n t2 (t2.label q) → (s : ℕ) × IsStone n t2 s × (t2.label s ≡ t2.label q) × adj s p
+  beside_placed : (q : ℕ) → IsStone n t2 q → t2.colour q ≡ o → IsDead n t2 (t2.label q) → (s : ℕ) × IsStone n t2 s
+      × (t2.label s ≡ t2.label q) × adj s p
   beside_placed q stone is dead =
       let off : q ≢ p = λ at. differ (sym is ∙ ap t2.colour at ∙ placed2) in
-      let before : IsStone n t q = (stone.0, (let e = colours2 q stone.0 off in let h : 0 < t2.colour q = stone.1 in omega arith)) in
+      let before : IsStone n t q = (
+        stone.0,
+        (let e = colours2 q stone.0 off in let h : 0 < t2.colour q = stone.1 in omega arith),
+      ) in
       elim (beside_or_alive n adj inside t t2 p tidy alive tidy2 whole2 empty colours2 q before) [
         | inl lib ↦ absurd (dead lib.0 lib.1 lib.2)
         | inr at ↦ at
       ]
 
   pub cleared_other : IsCleared n adj t2.colour t3.colour o
-  cleared_other = IsCleared-captured n adj inside (λ s. adj s p) t2 t3 o other_some tidy2 whole2 captured beside_placed (λ s stone is at dead. gone s (flip s p at) is dead)
+  cleared_other = IsCleared-captured n adj inside (λ s. adj s p) t2 t3 o other_some tidy2 whole2 captured beside_placed
+      (λ s stone is at dead. gone s (flip s p at) is dead)
 
   pub placed3 : t3.colour p ≡ c
-  placed3 = elim (captured.colours p p_in) [ inl same ↦ same ∙ placed2 | inr taken ↦ absurd (differ (sym taken.1 ∙ placed2)) ]
+  placed3 = elim (captured.colours p p_in)
+      [ inl same ↦ same ∙ placed2 | inr taken ↦ absurd (differ (sym taken.1 ∙ placed2)) ]
 
   own_label : (q : ℕ) → IsStone n t3 q → t3.colour q ≡ c → IsDead n t3 (t3.label q) → t3.label q ≡ t3.label p
-  own_label = own_dead n adj inside t t2 t3 p c o tidy alive tidy2 whole2 captured (λ e. differ (sym e)) own_some p_in empty placed2 colours2
+  own_label = own_dead n adj inside t t2 t3 p c o tidy alive tidy2 whole2 captured (λ e. differ (sym e)) own_some p_in
+      empty placed2 colours2
 
   p_stone : IsStone n t3 p
   p_stone = (p_in, let e = placed3 in omega arith)
@@ -83,22 +98,36 @@ module _ (n : ℕ) (adj : ℕ → ℕ → Type 0) (flip : (p q : ℕ) → adj p 
   pub cleared_own : IsCleared n adj t3.colour t4.colour c
   cleared_own = IsCleared-captured n adj inside (λ s. s ≡ p) t3 t4 c own_some captured.tidy captured.whole cleared
       (λ q stone is dead. (p, p_stone, sym (own_label q stone is dead), refl))
-      (λ s stone is at dead. ap t4.colour at ∙ own_gone placed3 (λ x x_in one. dead x x_in (ap (λ k. t3.lib (t3.label k) x) at ∙ one)))
+      (λ s stone is at dead. ap t4.colour at
+      ∙ own_gone placed3 (λ x x_in one. dead x x_in (ap (λ k. t3.lib (t3.label k) x) at ∙ one)))
 
   -- what stands in the end stood before the own chain's turn, with a label as dead
   before_own : (q : ℕ) → IsStone n t4 q → IsDead n t4 (t4.label q) → IsStone n t3 q × IsDead n t3 (t3.label q)
   before_own q stone dead =
-      let same : t4.colour q ≡ t3.colour q = elim (cleared.colours q stone.0) [ inl is ↦ is | inr taken ↦ absurd (let h : 0 < t4.colour q = stone.1 in let z : t4.colour q ≡ 0 = taken.0 in omega arith) ] in (
+      let same : t4.colour q ≡ t3.colour q =
+      elim (cleared.colours q stone.0) [
+        | inl is ↦ is
+        | inr taken ↦ absurd
+            (let h : 0 < t4.colour q = stone.1 in let z : t4.colour q ≡ 0 = taken.0 in omega arith)
+      ] in (
         (stone.0, (let h : 0 < t4.colour q = stone.1 in omega arith)),
-        λ x x_in one. dead x x_in (ap (λ l. t4.lib l x) (cleared.labels q stone.0) ∙ cleared.lib_kept q x stone x_in one),
+        λ x x_in one. dead x x_in (ap (λ l. t4.lib l x) (cleared.labels q stone.0)
+            ∙ cleared.lib_kept q x stone x_in one),
       )
 
-  before_captures : (q : ℕ) → IsStone n t3 q → IsDead n t3 (t3.label q) → (t3.colour q ≡ t2.colour q) × IsStone n t2 q × IsDead n t2 (t2.label q)
+  before_captures : (q : ℕ) → IsStone n t3 q → IsDead n t3 (t3.label q) → (t3.colour q ≡ t2.colour q) × IsStone n t2 q
+      × IsDead n t2 (t2.label q)
   before_captures q stone dead =
-      let same : t3.colour q ≡ t2.colour q = elim (captured.colours q stone.0) [ inl is ↦ is | inr taken ↦ absurd (let h : 0 < t3.colour q = stone.1 in let z : t3.colour q ≡ 0 = taken.0 in omega arith) ] in (
+      let same : t3.colour q ≡ t2.colour q =
+      elim (captured.colours q stone.0) [
+        | inl is ↦ is
+        | inr taken ↦ absurd
+            (let h : 0 < t3.colour q = stone.1 in let z : t3.colour q ≡ 0 = taken.0 in omega arith)
+      ] in (
         same,
         (stone.0, (let h : 0 < t3.colour q = stone.1 in omega arith)),
-        λ x x_in one. dead x x_in (ap (λ l. t3.lib l x) (captured.labels q stone.0) ∙ captured.lib_kept q x stone x_in one),
+        λ x x_in one. dead x x_in (ap (λ l. t3.lib l x) (captured.labels q stone.0)
+            ∙ captured.lib_kept q x stone x_in one),
       )
 
   no_dead : (q : ℕ) → IsStone n t4 q → IsDead n t4 (t4.label q) → ⊥
@@ -108,9 +137,12 @@ module _ (n : ℕ) (adj : ℕ → ℕ → Type 0) (flip : (p q : ℕ) → adj p 
       elim (two2 q second.1) [
         | inl other ↦
             let s = beside_placed q second.1 other second.2 in
-            let s_other : t2.colour s.0 ≡ o = sym (tidy2.head_colour s.0 s.1) ∙ ap t2.colour s.2 ∙ tidy2.head_colour q second.1 ∙ other in
-            let s_dead : IsDead n t2 (t2.label s.0) = λ x x_in one. second.2 x x_in (ap (λ l. t2.lib l x) (sym s.2) ∙ one) in
-            let taken : t3.colour q ≡ 0 = captured.together s.0 q s.1 second.1 s.2 (gone s.0 (flip s.0 p s.3) s_other s_dead) in
+            let s_other : t2.colour s.0 ≡ o = sym (tidy2.head_colour s.0 s.1) ∙ ap t2.colour s.2
+            ∙ tidy2.head_colour q second.1 ∙ other in
+            let s_dead : IsDead n t2 (t2.label s.0) = λ x x_in one.
+            second.2 x x_in (ap (λ l. t2.lib l x) (sym s.2) ∙ one) in
+            let taken : t3.colour q ≡ 0 = captured.together s.0 q s.1 second.1 s.2
+            (gone s.0 (flip s.0 p s.3) s_other s_dead) in
             let h : 0 < t3.colour q = third.0.1 in omega arith
         | inr own ↦
             let label = own_label q third.0 (second.0 ∙ own) third.1 in
@@ -126,11 +158,19 @@ module _ (n : ℕ) (adj : ℕ → ℕ → Type 0) (flip : (p q : ℕ) → adj p 
   pub own_stays : (q : ℕ) → q < n → (t3.colour q ≡ c) ↔ (t2.colour q ≡ c)
   own_stays q q_in = elim (captured.colours q q_in) [
     | inl same ↦ (λ is. sym same ∙ is, λ is. same ∙ is)
-    | inr taken ↦ (λ is. absurd (let z : t3.colour q ≡ 0 = taken.0 in omega arith), λ is. absurd (differ (sym taken.1 ∙ is)))
+    | inr taken ↦ (
+      λ is. absurd (let z : t3.colour q ≡ 0 = taken.0 in omega arith),
+      λ is.
+          absurd (differ (sym taken.1 ∙ is)),
+    )
   ]
 
   pub other_stays : (q : ℕ) → q < n → (t4.colour q ≡ o) ↔ (t3.colour q ≡ o)
   other_stays q q_in = elim (cleared.colours q q_in) [
     | inl same ↦ (λ is. sym same ∙ is, λ is. same ∙ is)
-    | inr taken ↦ (λ is. absurd (let z : t4.colour q ≡ 0 = taken.0 in omega arith), λ is. absurd (differ (sym is ∙ taken.1)))
+    | inr taken ↦ (
+      λ is. absurd (let z : t4.colour q ≡ 0 = taken.0 in omega arith),
+      λ is.
+          absurd (differ (sym is ∙ taken.1)),
+    )
   ]

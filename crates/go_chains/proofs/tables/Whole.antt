@@ -5,9 +5,11 @@ use Rattle.go_chains.specs.inner.Steps.{IsJoin}
 use Rattle.go_chains.proofs.tables.Joining.{side_of, with_first, with_second, aside}
 
 -- along links over stones the label stays
-pub label-linked : (n : ℕ) (adj : ℕ → ℕ → Type 0) (inside : (p q : ℕ) → adj p q → q < n) (t : Tables) → AreChainsWhole n adj t → (p : ℕ) (via : List ℕ) (q : ℕ) → IsStone n t p
+pub label-linked : (n : ℕ) (adj : ℕ → ℕ → Type 0) (inside : (p q : ℕ) → adj p q → q < n) (t : Tables) →
+    AreChainsWhole n adj t → (p : ℕ) (via : List ℕ) (q : ℕ) → IsStone n t p
     → Links adj t.colour p via q → IsStone n t q × (t.label p ≡ t.label q)
-label-linked n adj inside t whole p [] q stone links = let P : ℕ → Type 0 = λ x. IsStone n t x × (t.label p ≡ t.label x) in subst P links (stone, refl)
+label-linked n adj inside t whole p [] q stone links = let P : ℕ → Type 0 = λ x. IsStone n t x
+    × (t.label p ≡ t.label x) in subst P links (stone, refl)
 label-linked n adj inside t whole p (x ∷ xs) q stone links =
     let same : t.colour x ≡ t.colour p = links.1 in
     let x_stone : IsStone n t x = (inside p x links.0, let s : 0 < t.colour p = stone.1 in omega arith) in
@@ -15,7 +17,8 @@ label-linked n adj inside t whole p (x ∷ xs) q stone links =
     (rest.0, whole p x stone x_stone links.0 (sym same) ∙ rest.1)
 
 -- a stone reaches empty exactly where its label has a liberty
-pub lib-reaches : (n : ℕ) (adj : ℕ → ℕ → Type 0) (inside : (p q : ℕ) → adj p q → q < n) (t : Tables) → IsTidy n adj t → AreChainsWhole n adj t → (p : ℕ) → IsStone n t p
+pub lib-reaches : (n : ℕ) (adj : ℕ → ℕ → Type 0) (inside : (p q : ℕ) → adj p q → q < n) (t : Tables) → IsTidy n adj t →
+    AreChainsWhole n adj t → (p : ℕ) → IsStone n t p
     → ReachesEmpty n adj t.colour p → (x : ℕ) × (x < n) × (t.lib (t.label p) x ≡ 1)
 lib-reaches n adj inside t tidy whole p stone reach =
     let q = reach.0 in let x = reach.2 in
@@ -29,7 +32,8 @@ reaches-lib n adj t tidy p stone x x_in one =
     (l.1.0, tidy.joined p l.1.0 stone l.1.1 (sym l.1.2), x, x_in, l.1.3, l.0)
 
 -- stones of one label keep one label in a join
-pub label-join : (n : ℕ) (t t' : Tables) (a b p q : ℕ) → IsJoin n t t' a b → IsStone n t p → IsStone n t q → t.label p ≡ t.label q → t'.label p ≡ t'.label q
+pub label-join : (n : ℕ) (t t' : Tables) (a b p q : ℕ) → IsJoin n t t' a b → IsStone n t p → IsStone n t q →
+    t.label p ≡ t.label q → t'.label p ≡ t'.label q
 label-join n t t' a b p q j stone stone_q same = elim (side_of n t t' a b p j stone) [
   | with_first first is ↦ elim (side_of n t t' a b q j stone_q) [
     | with_first first_q is_q ↦ is ∙ sym is_q

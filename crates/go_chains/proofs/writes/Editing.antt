@@ -8,14 +8,16 @@ use Rattle.go_chains.proofs.writes.Rewinding.{Logged_none, Logged_then, Logged_w
 
 -- one edit, and after more reads another
 pub Edited_then : {A : Type 0} {a b c : CellsValue} {xs ys zs : Vec Change A} {m0 m1 m2 m3 j s k t most ticks : ℕ}
-    → Edited a b xs ys m0 m1 j s → Edited b c ys zs m2 m3 k t → m1 ≤ m2 → j + k ≤ most → m3 ≤ m0 + ticks → Edited a c xs zs m0 m3 most ticks
-Edited_then {a = a} {b = b} {c = c} {xs = xs} {ys = ys} {zs = zs} {j = j} {k = k} {most = most} first second onward within count = record {
-  logged = Logged_then a b c xs.items ys.items zs.items j k most first.logged second.logged within;
-  capacity = omega arith;
-  length = omega arith;
-  count = count;
-  ticked = omega arith;
-}
+    → Edited a b xs ys m0 m1 j s → Edited b c ys zs m2 m3 k t → m1 ≤ m2 → j + k ≤ most → m3 ≤ m0 + ticks →
+    Edited a c xs zs m0 m3 most ticks
+Edited_then {a = a} {b = b} {c = c} {xs = xs} {ys = ys} {zs = zs} {j = j} {k = k} {most = most} first second onward
+    within count = record {
+      logged = Logged_then a b c xs.items ys.items zs.items j k most first.logged second.logged within;
+      capacity = omega arith;
+      length = omega arith;
+      count = count;
+      ticked = omega arith;
+    }
 
 -- the same, with as many changes as the two may make, and as many reads and writes as the meter tells
 pub Edited_next : {A : Type 0} {a b c : CellsValue} {xs ys zs : Vec Change A} {m0 m1 m2 m3 j s k t : ℕ}
@@ -34,7 +36,8 @@ Edited_within {a = a} {b = b} {xs = xs} {ys = ys} {j = j} {most = most} edited b
 }
 
 -- reads alone
-pub Edited_none : {A : Type 0} {a : CellsValue} {xs : Vec Change A} {m0 m1 most ticks : ℕ} → m0 ≤ m1 → m1 ≤ m0 + ticks → Edited a a xs xs m0 m1 most ticks
+pub Edited_none : {A : Type 0} {a : CellsValue} {xs : Vec Change A} {m0 m1 most ticks : ℕ} → m0 ≤ m1 → m1 ≤ m0 + ticks →
+    Edited a a xs xs m0 m1 most ticks
 Edited_none {a = a} {xs = xs} {most = most} onward count = record {
   logged = Logged_within a a xs.items xs.items 0 most (Logged_none a xs.items) (omega arith);
   capacity = omega arith;

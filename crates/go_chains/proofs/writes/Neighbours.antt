@@ -12,27 +12,36 @@ abbrev pub origin : Point
 origin = record { col = 0; row = 0 }
 
 -- the numbers of the neighbours are those of the points beside
-pub are_beside_by_number : PointsByNumber → (n p : ℕ) (at : Point) (items : List Point) (xs : List ℕ) → p < n * n → at ≡ point_at n p → length items ≤ 4
-    → All (λ q. IsOn n q) items → All (λ q. IsTrue (are_beside at q)) items → ((q : Point) → IsOn n q → IsTrue (are_beside at q) → Contains items q)
+pub are_beside_by_number : PointsByNumber → (n p : ℕ) (at : Point) (items : List Point) (xs : List ℕ) → p < n * n →
+    at ≡ point_at n p → length items ≤ 4
+    → All (λ q. IsOn n q) items → All (λ q. IsTrue (are_beside at q)) items →
+    ((q : Point) → IsOn n q → IsTrue (are_beside at q) → Contains items q)
     → xs ≡ map (number_of n) items → AreBeside n p xs
 are_beside_by_number law n p at items xs p_in at_is few on beside each numbers = record {
   few = let e : length xs ≡ length items = ap length numbers ∙ length-map items (number_of n) in omega arith;
   are = λ i below.
-      let low : i < length items = let e : length xs ≡ length items = ap length numbers ∙ length-map items (number_of n) in omega arith in
+      let low : i < length items = let e : length xs ≡ length items = ap length numbers
+      ∙ length-map items (number_of n) in omega arith in
       let q = get_or items i origin in
-      let is : get_or xs i 0 ≡ number_of n q = ap (λ l. get_or l i 0) numbers ∙ get_or-map (number_of n) items i origin 0 low in
+      let is : get_or xs i 0 ≡ number_of n q = ap (λ l. get_or l i 0) numbers
+      ∙ get_or-map (number_of n) items i origin 0 low in
       let near : IsAdjacent n p (number_of n q) = (
         p_in,
         law.number n q (on i origin low),
-        ap (are_beside (point_at n p)) (law.back n q (on i origin low)) ∙ ap (λ r. are_beside r q) (sym at_is) ∙ beside i origin low,
+        ap (are_beside (point_at n p)) (law.back n q (on i origin low)) ∙ ap (λ r. are_beside r q) (sym at_is)
+            ∙ beside i origin low,
       ) in
       subst (IsAdjacent n p) (sym is) near;
   all = λ k near.
       let q = point_at n k in
       let has = each q (law.on n k near.1) (ap (λ r. are_beside r q) at_is ∙ near.2) in
       let low : has.0 < length items = has.1 in
-      let e : length xs ≡ length items = ap length numbers ∙ length-map items (number_of n) in
-      (has.0, omega arith, ap (λ l. get_or l has.0 0) numbers ∙ get_or-map (number_of n) items has.0 q 0 low ∙ ap (number_of n) has.2 ∙ law.same n k near.1);
+      let e : length xs ≡ length items = ap length numbers ∙ length-map items (number_of n) in (
+        has.0,
+        omega arith,
+        ap (λ l. get_or l has.0 0) numbers ∙ get_or-map (number_of n) items has.0 q 0 low
+            ∙ ap (number_of n) has.2 ∙ law.same n k near.1,
+      );
 }
 
 is_next-self : (a : ℕ) → is_next a a ≡ false
@@ -54,6 +63,8 @@ pub apart : (n p : ℕ) → IsAdjacent n p p → ⊥
 apart n p near =
     let at = point_at n p in
     elim (or_cases (at.row == at.row && is_next at.col at.col) (at.col == at.col && is_next at.row at.row) near.2) [
-      | inl row ↦ (let e = sym (is_next-self at.col) ∙ second_of (at.row == at.row) (is_next at.col at.col) row in absurd (false≢true e))
-      | inr column ↦ (let e = sym (is_next-self at.row) ∙ second_of (at.col == at.col) (is_next at.row at.row) column in absurd (false≢true e))
+      | inl row ↦ (let e = sym (is_next-self at.col) ∙ second_of (at.row == at.row) (is_next at.col at.col) row in
+          absurd (false≢true e))
+      | inr column ↦ (let e = sym (is_next-self at.row) ∙ second_of (at.col == at.col) (is_next at.row at.row) column in
+          absurd (false≢true e))
     ]

@@ -11,8 +11,10 @@ use Rattle.go_chains.specs.inner.Writes.{IsWritten}
 use Rattle.go_chains.specs.inner.Writes.{IsMerged, IsRelabelled}
 use Rattle.go_chains.proofs.tables.Rings.{steps-add}
 
-pub IsRelabelled_more : (next : ℕ → ℕ) (old mid new : List ℕ) (from i to at : ℕ) → at < MAX_POINTS → at ≡ steps next i from
-    → IsRelabelled next old mid from i to → IsWritten mid new (LABELS + at) to → IsRelabelled next old new from (i + 1) to
+pub IsRelabelled_more : (next : ℕ → ℕ) (old mid new : List ℕ) (from i to at : ℕ) → at < MAX_POINTS →
+    at ≡ steps next i from
+    → IsRelabelled next old mid from i to → IsWritten mid new (LABELS + at) to →
+    IsRelabelled next old new from (i + 1) to
 IsRelabelled_more next old mid new from i to at at_in at_is so_far w = record {
   low = λ k below. w.others k (omega arith) ∙ so_far.low k below;
   high = λ k above. w.others k (omega arith) ∙ so_far.high k above;
@@ -29,12 +31,14 @@ IsRelabelled_more next old mid new from i to at at_in at_is so_far w = record {
 }
 
 -- the ring link read after a write is the one that stood before
-pub relabelled_link : (old new : List ℕ) (from i to at read : ℕ) → at ≡ steps (next_of old) i from → IsRelabelled (next_of old) old new from (i + 1) to
+pub relabelled_link : (old new : List ℕ) (from i to at read : ℕ) → at ≡ steps (next_of old) i from →
+    IsRelabelled (next_of old) old new from (i + 1) to
     → read ≡ slice_index new (LINKS + at) → read ≡ steps (next_of old) (i + 1) from
 relabelled_link old new from i to at read at_is now read_is =
     read_is ∙ now.high (LINKS + at) (omega arith) ∙ ap (next_of old) at_is ∙ sym (steps-add (next_of old) i 1 from)
 
-pub IsMerged_more : (old mid new : List ℕ) (keep gone i here there : ℕ) → keep < MAX_POINTS → gone < MAX_POINTS → keep ≢ gone → i < WORDS
+pub IsMerged_more : (old mid new : List ℕ) (keep gone i here there : ℕ) → keep < MAX_POINTS → gone < MAX_POINTS →
+    keep ≢ gone → i < WORDS
     → here ≡ word_of mid keep i → there ≡ word_of mid gone i → IsMerged old mid keep gone i
     → IsWritten mid new (LIBERTIES + WORDS * keep + i) (bit_or here there) → IsMerged old new keep gone (i + 1)
 IsMerged_more old mid new keep gone i here there keep_in gone_in apart i_in here_is there_is so_far w = record {

@@ -21,7 +21,8 @@ map_lone : {A B : Type 0} (f : A → B) (b : Bool) (a : A) (x : B) → (b ≡ tr
 map_lone f true a x is = ap (λ y. y ∷ []) (is refl)
 map_lone f false a x is = refl
 
-map_append : {A B : Type 0} (f : A → B) (xs ys : List A) (vs ws : List B) → vs ≡ map f xs → ws ≡ map f ys → vs ++ ws ≡ map f (xs ++ ys)
+map_append : {A B : Type 0} (f : A → B) (xs ys : List A) (vs ws : List B) → vs ≡ map f xs → ws ≡ map f ys → vs
+    ++ ws ≡ map f (xs ++ ys)
 map_append f xs ys vs ws left right = ap₂ (λ s t. s ++ t) left right ∙ sym (map-append f xs ys)
 
 length_lone : {A : Type 0} (b : Bool) (a : A) → length (lone b a) ≤ 1
@@ -58,31 +59,45 @@ next_cases a b next = elim (or_cases (a + 1 == b) (b + 1 == a) next) [
 abbrev point : ℕ → ℕ → Point
 point col row = record { col = col; row = row }
 
-side_columns : (col other row : ℕ) → (col + 1 ≡ other) ⊎ (other + 1 ≡ col) → are_beside (point col row) (point other row) ≡ true
-side_columns col other row (inl up) = or_left _ _ (and_from _ _ (eq-eqb row row refl) (or_left _ _ (eq-eqb (col + 1) other up)))
-side_columns col other row (inr down) = or_left _ _ (and_from _ _ (eq-eqb row row refl) (or_right _ _ (eq-eqb (other + 1) col down)))
+side_columns : (col other row : ℕ) → (col + 1 ≡ other) ⊎ (other + 1 ≡ col) →
+    are_beside (point col row) (point other row) ≡ true
+side_columns col other row (inl up) =
+    or_left _ _ (and_from _ _ (eq-eqb row row refl) (or_left _ _ (eq-eqb (col + 1) other up)))
+side_columns col other row (inr down) =
+    or_left _ _ (and_from _ _ (eq-eqb row row refl) (or_right _ _ (eq-eqb (other + 1) col down)))
 
-side_rows : (col row other : ℕ) → (row + 1 ≡ other) ⊎ (other + 1 ≡ row) → are_beside (point col row) (point col other) ≡ true
-side_rows col row other (inl up) = or_right _ _ (and_from _ _ (eq-eqb col col refl) (or_left _ _ (eq-eqb (row + 1) other up)))
-side_rows col row other (inr down) = or_right _ _ (and_from _ _ (eq-eqb col col refl) (or_right _ _ (eq-eqb (other + 1) row down)))
+side_rows : (col row other : ℕ) → (row + 1 ≡ other) ⊎ (other + 1 ≡ row) →
+    are_beside (point col row) (point col other) ≡ true
+side_rows col row other (inl up) =
+    or_right _ _ (and_from _ _ (eq-eqb col col refl) (or_left _ _ (eq-eqb (row + 1) other up)))
+side_rows col row other (inr down) =
+    or_right _ _ (and_from _ _ (eq-eqb col col refl) (or_right _ _ (eq-eqb (other + 1) row down)))
 
 -- which of the four sides a point beside another one is on
 beside_cases : (p q : Point) → are_beside p q ≡ true
     → (((0 < p.row) × (below p ≡ q)) ⊎ ((0 < p.col) × (left p ≡ q))) ⊎ ((right p ≡ q) ⊎ (above p ≡ q))
-beside_cases p q near = elim (or_cases (p.row == q.row && is_next p.col q.col) (p.col == q.col && is_next p.row q.row) near) [
-  | inl row ↦ (
-      let same : p.row ≡ q.row = eqb-true p.row q.row ((and_parts (p.row == q.row) (is_next p.col q.col) row).0) in
-      elim (next_cases p.col q.col ((and_parts (p.row == q.row) (is_next p.col q.col) row).1)) [
-        | inl up ↦ inr (inl (ap₂ (λ c r. point c r) up same))
-        | inr down ↦ inl (inr (omega (arith, down), ap₂ (λ c r. point c r) (let e : p.col - 1 ≡ q.col = omega (arith, down) in e) same))
-      ])
-  | inr column ↦ (
-      let same : p.col ≡ q.col = eqb-true p.col q.col ((and_parts (p.col == q.col) (is_next p.row q.row) column).0) in
-      elim (next_cases p.row q.row ((and_parts (p.col == q.col) (is_next p.row q.row) column).1)) [
-        | inl up ↦ inr (inr (ap₂ (λ c r. point c r) same up))
-        | inr down ↦ inl (inl (omega (arith, down), ap₂ (λ c r. point c r) same (let e : p.row - 1 ≡ q.row = omega (arith, down) in e)))
-      ])
-]
+beside_cases p q near = elim (or_cases (p.row == q.row && is_next p.col q.col) (p.col == q.col && is_next p.row q.row)
+    near) [
+      | inl row ↦ (
+          let same : p.row ≡ q.row = eqb-true p.row q.row ((and_parts (p.row == q.row) (is_next p.col q.col) row).0) in
+          elim (next_cases p.col q.col ((and_parts (p.row == q.row) (is_next p.col q.col) row).1)) [
+            | inl up ↦ inr (inl (ap₂ (λ c r. point c r) up same))
+            | inr down ↦ inl (inr (
+              omega (arith, down),
+              ap₂ (λ c r. point c r) (let e : p.col - 1 ≡ q.col = omega (arith, down) in e) same,
+            ))
+          ])
+      | inr column ↦ (
+          let same : p.col ≡ q.col = eqb-true p.col q.col
+          ((and_parts (p.col == q.col) (is_next p.row q.row) column).0) in
+          elim (next_cases p.row q.row ((and_parts (p.col == q.col) (is_next p.row q.row) column).1)) [
+            | inl up ↦ inr (inr (ap₂ (λ c r. point c r) same up))
+            | inr down ↦ inl (inl (
+              omega (arith, down),
+              ap₂ (λ c r. point c r) same (let e : p.row - 1 ≡ q.row = omega (arith, down) in e),
+            ))
+          ])
+    ]
 
 -- each point and its number
 row_less : (n r : ℕ) → 0 < r → r * n ≡ (r - 1) * n + n
@@ -91,7 +106,8 @@ row_less n r some =
     ap (λ k. k * n) e ∙ (let k = r - 1 in let z : (k + 1) * n ≡ k * n + n = omega arith in z)
 
 pub sides : PointsByNumber → (n : ℕ) (p : Point) (xs : List ℕ) → IsOn n p
-    → (let k = number_of n p in xs ≡ four (nat_lt 0 p.row) (nat_lt 0 p.col) (nat_lt (p.col + 1) n) (nat_lt (p.row + 1) n) (k - n) (k - 1) (k + 1) (k + n))
+    → (let k = number_of n p in xs ≡ four (nat_lt 0 p.row) (nat_lt 0 p.col) (nat_lt (p.col + 1) n)
+    (nat_lt (p.row + 1) n) (k - n) (k - 1) (k + 1) (k + n))
     → AreBeside n (number_of n p) xs
 sides law n p xs on is =
     let k = number_of n p in
@@ -111,11 +127,15 @@ sides law n p xs on is =
     let lt₃ : b₃ ≡ true → p.col + 1 < n = ltb-true (p.col + 1) n in
     let lt₄ : b₄ ≡ true → p.row + 1 < n = ltb-true (p.row + 1) n in
     let lengths : length all ≤ 4 = (
-    let l₁ = length_lone b₁ (below p) in let l₂ = length_lone b₂ (left p) in let l₃ = length_lone b₃ (right p) in let l₄ = length_lone b₄ (above p) in
+    let l₁ = length_lone b₁ (below p) in let l₂ = length_lone b₂ (left p) in let l₃ = length_lone b₃ (right p) in
+    let l₄ = length_lone b₄ (above p) in
     let e₂ = length-append w₁ w₂ in let e₃ = length-append two w₃ in let e₄ = length-append three w₄ in
     omega arith) in
-    let of_all : (P : Point → Type 0) → (b₁ ≡ true → P (below p)) → (b₂ ≡ true → P (left p)) → (b₃ ≡ true → P (right p)) → (b₄ ≡ true → P (above p)) → All P all =
-    λ P h₁ h₂ h₃ h₄. All-append P three w₄ (All-append P two w₃ (All-append P w₁ w₂ (All_lone P b₁ (below p) h₁) (All_lone P b₂ (left p) h₂)) (All_lone P b₃ (right p) h₃)) (All_lone P b₄ (above p) h₄) in
+    let of_all : (P : Point → Type 0) → (b₁ ≡ true → P (below p)) → (b₂ ≡ true → P (left p)) →
+    (b₃ ≡ true → P (right p)) → (b₄ ≡ true → P (above p)) → All P all =
+    λ P h₁ h₂ h₃ h₄. All-append P three w₄
+    (All-append P two w₃ (All-append P w₁ w₂ (All_lone P b₁ (below p) h₁) (All_lone P b₂ (left p) h₂))
+    (All_lone P b₃ (right p) h₃)) (All_lone P b₄ (above p) h₄) in
     are_beside_by_number law n k p all xs
     (law.number n p on) (sym (law.back n p on)) lengths
     (of_all (IsOn n)
@@ -130,12 +150,21 @@ sides law n p xs on is =
     (λ e. side_rows p.col p.row (p.row + 1) (inl refl)))
     (λ q q_on near. elim (beside_cases p q near) [
       | inl before ↦ elim before [
-        | inl b ↦ Contains-append_left three w₄ q (Contains-append_left two w₃ q (Contains-append_left w₁ w₂ q (Contains_lone b₁ (below p) q (lt-ltb 0 p.row b.0) b.1)))
-        | inr l ↦ Contains-append_left three w₄ q (Contains-append_left two w₃ q (Contains-append_right w₁ w₂ q (Contains_lone b₂ (left p) q (lt-ltb 0 p.col l.0) l.1)))
+        | inl b ↦ Contains-append_left three w₄ q
+            (Contains-append_left two w₃ q (Contains-append_left w₁ w₂ q
+            (Contains_lone b₁ (below p) q (lt-ltb 0 p.row b.0) b.1)))
+        | inr l ↦ Contains-append_left three w₄ q
+            (Contains-append_left two w₃ q (Contains-append_right w₁ w₂ q
+            (Contains_lone b₂ (left p) q (lt-ltb 0 p.col l.0) l.1)))
       ]
       | inr after ↦ elim after [
-        | inl r ↦ Contains-append_left three w₄ q (Contains-append_right two w₃ q (Contains_lone b₃ (right p) q (lt-ltb (p.col + 1) n (let e = ap (λ (s : Point). s.col) r in omega (arith, q_on.0))) r))
-        | inr a ↦ Contains-append_right three w₄ q (Contains_lone b₄ (above p) q (lt-ltb (p.row + 1) n (let e = ap (λ (s : Point). s.row) a in omega (arith, q_on.1))) a)
+        | inl r ↦ Contains-append_left three w₄ q
+            (Contains-append_right two w₃ q
+            (Contains_lone b₃ (right p) q (lt-ltb (p.col + 1) n
+            (let e = ap (λ (s : Point). s.col) r in omega (arith, q_on.0))) r))
+        | inr a ↦ Contains-append_right three w₄ q
+            (Contains_lone b₄ (above p) q (lt-ltb (p.row + 1) n
+            (let e = ap (λ (s : Point). s.row) a in omega (arith, q_on.1))) a)
       ]
     ])
     (is ∙ map_append (number_of n) three w₄ _ _

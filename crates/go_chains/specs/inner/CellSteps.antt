@@ -18,20 +18,21 @@ AreTidy n cells = IsTidy (n * n) (IsAdjacent n) (tables_of cells.numbers)
 abbrev pub AreWhole : ℕ → CellsValue → Type 0
 AreWhole n cells = AreChainsWhole (n * n) (IsAdjacent n) (tables_of cells.numbers)
 
--- a stone stands at p
+-- p holds a stone
 abbrev pub HasStone : ℕ → CellsValue → ℕ → Type 0
 HasStone n cells p = IsStone (n * n) (tables_of cells.numbers) p
 
 -- each stone has one of two colours
 abbrev pub HasTwoColours : ℕ → CellsValue → ℕ → ℕ → Type 0
-HasTwoColours n cells own other = (s : ℕ) → HasStone n cells s → (code_at cells.numbers s ≡ own) ⊎ (code_at cells.numbers s ≡ other)
+HasTwoColours n cells taken rest = (s : ℕ) → HasStone n cells s → (code_at cells.numbers s ≡ taken)
+    ⊎ (code_at cells.numbers s ≡ rest)
 
 -- two numbers of colours, of which each stone has one
-pub record AreColours (n : ℕ) (cells : CellsValue) (own other : ℕ) : Type 0 where
-  pub own_some : 0 < own
-  pub other_some : 0 < other
-  pub apart : own ≢ other
-  pub two : HasTwoColours n cells own other
+pub record AreColours (n : ℕ) (cells : CellsValue) (taken rest : ℕ) : Type 0 where
+  pub taken_some : 0 < taken
+  pub rest_some : 0 < rest
+  pub apart : taken ≢ rest
+  pub two : HasTwoColours n cells taken rest
 
 -- where p has this colour its label names a point
 abbrev pub FitsWith : CellsValue → ℕ → ℕ → Type 0
@@ -55,7 +56,8 @@ Connects n old new p near = IsConnected (n * n) (tables_of old.numbers) (tables_
 
 -- the chain at p has taken in those at all listed points, as far as they have its colour
 abbrev pub ConnectsAll : ℕ → CellsValue → CellsValue → ℕ → List ℕ → Type 0
-ConnectsAll n old new p beside = IsConnectedTo (n * n) (tables_of old.numbers) (tables_of new.numbers) p beside (length beside)
+ConnectsAll n old new p beside =
+    IsConnectedTo (n * n) (tables_of old.numbers) (tables_of new.numbers) p beside (length beside)
 
 -- the chain of r is taken off
 abbrev pub Removes : ℕ → CellsValue → CellsValue → ℕ → Type 0
@@ -68,13 +70,15 @@ Captures n old new own = IsCapturing (n * n) (IsAdjacent n) (tables_of old.numbe
 -- where such chains were taken off before, more of them are
 abbrev pub CapturesMore : ℕ → CellsValue → CellsValue → ℕ → Type 0
 CapturesMore n old new own = (t : Tables) → IsTidy (n * n) (IsAdjacent n) t
-    → IsCapturing (n * n) (IsAdjacent n) t (tables_of old.numbers) own → IsCapturing (n * n) (IsAdjacent n) t (tables_of new.numbers) own
+    → IsCapturing (n * n) (IsAdjacent n) t (tables_of old.numbers) own →
+    IsCapturing (n * n) (IsAdjacent n) t (tables_of new.numbers) own
 
 -- p is empty now, if it had a stone of a colour in a chain with no liberty
 abbrev pub TakesDead : ℕ → CellsValue → CellsValue → ℕ → ℕ → Type 0
-TakesDead n old new own p = code_at old.numbers p ≡ own → IsDead (n * n) (tables_of old.numbers) (label_of old.numbers p) → code_at new.numbers p ≡ 0
+TakesDead n old new own p = code_at old.numbers p ≡ own →
+    IsDead (n * n) (tables_of old.numbers) (label_of old.numbers p) → code_at new.numbers p ≡ 0
 
--- so many stones of a colour are taken off
+-- `taken` stones of a colour are taken off
 abbrev pub TakesStones : ℕ → CellsValue → CellsValue → ℕ → ℕ → Type 0
 TakesStones n old new own taken = CountsTaken (n * n) (tables_of old.numbers) (tables_of new.numbers) own taken
 
@@ -84,7 +88,7 @@ Relabels old new from count to = IsRelabelled (next_of old.numbers) old.numbers 
 
 -- one label has the liberties of two, as many words of them as the board has
 abbrev pub Merges : ℕ → CellsValue → CellsValue → ℕ → ℕ → Type 0
-Merges n old new keep gone = IsMerged old.numbers new.numbers keep gone (words_for (n * n))
+Merges n old new kept gone = IsMerged old.numbers new.numbers kept gone (words_for (n * n))
 
 -- the words of one label's liberties are as given, as many as the board has
 abbrev pub Fills : ℕ → CellsValue → CellsValue → ℕ → List ℕ → Type 0
@@ -92,19 +96,23 @@ Fills n old new label words = IsFilled old.numbers new.numbers label words (word
 
 -- a point is no liberty any more of the stone at another, if one is there
 abbrev pub DeprivesAt : CellsValue → CellsValue → ℕ → ℕ → Type 0
-DeprivesAt old new point near = IsDeprived old.numbers new.numbers point (λ l. (0 < code_at old.numbers near) × (label_of old.numbers near ≡ l))
+DeprivesAt old new point near =
+    IsDeprived old.numbers new.numbers point (λ l. (0 < code_at old.numbers near) × (label_of old.numbers near ≡ l))
 
 -- a point is no liberty any more of the stones at the listed ones
 abbrev pub DeprivesAll : CellsValue → CellsValue → ℕ → List ℕ → Type 0
-DeprivesAll old new point beside = IsDeprived old.numbers new.numbers point (IsStoneBeside old.numbers beside (length beside))
+DeprivesAll old new point beside =
+    IsDeprived old.numbers new.numbers point (IsStoneBeside old.numbers beside (length beside))
 
 -- a point is a liberty too of the stone at another, if one of this colour is there
 abbrev pub GivesAt : CellsValue → CellsValue → ℕ → ℕ → ℕ → Type 0
-GivesAt old new point near colour = IsGiven old.numbers new.numbers point (λ l. (code_at old.numbers near ≡ colour) × (label_of old.numbers near ≡ l))
+GivesAt old new point near colour =
+    IsGiven old.numbers new.numbers point (λ l. (code_at old.numbers near ≡ colour) × (label_of old.numbers near ≡ l))
 
 -- a point is a liberty too of the stones of this colour at the listed ones
 abbrev pub GivesAll : CellsValue → CellsValue → ℕ → List ℕ → ℕ → Type 0
-GivesAll old new point beside colour = IsGiven old.numbers new.numbers point (IsGivenBeside old.numbers beside colour (length beside))
+GivesAll old new point beside colour =
+    IsGiven old.numbers new.numbers point (IsGivenBeside old.numbers beside colour (length beside))
 
 -- how many stones the chain of a stone has
 abbrev pub chain_size : List ℕ → ℕ → ℕ

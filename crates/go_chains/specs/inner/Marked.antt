@@ -7,8 +7,8 @@ use Rattle.go_board.specs.Packs.{colour_coded}
 use Rattle.go_board.specs.PointSets.{points_from}
 use Rattle.go_chains.specs.Boards.{BoardValue, shown}
 use Rattle.go_chains.specs.Cells.{code_at, label_of}
-use Rattle.go_chains.specs.declared.chain_points.Given.{Given}
-use Rattle.go_chains.specs.declared.chain_points.Given.TheVariants.{Nothing, First, Before}
+use Rattle.go_chains.specs.declared.chain_points.Progress.{Progress}
+use Rattle.go_chains.specs.declared.chain_points.Progress.TheVariants.{Fresh, FirstGiven, Walking}
 use Rattle.go_chains.specs.declared.chain_points.Part.{Part}
 use Rattle.go_chains.specs.declared.chain_points.Part.TheVariants.{Stones, Liberties}
 
@@ -18,10 +18,10 @@ points_of b Stones p = chain_stones (shown b) p
 points_of b Liberties p = chain_liberties (shown b) p
 
 -- the points of this part that are to come: all, all but the first, or those in a set from number k on
-abbrev pub to_come : BoardValue → Part → Point → List ℕ → Given → List Point
-to_come b part p set Nothing = points_of b part p
-to_come b part p set First = drop 1 (points_of b part p)
-to_come b part p set (Before k) = points_from b.lines set k
+abbrev pub to_come : BoardValue → Part → Point → List ℕ → Progress → List Point
+to_come b part p set Fresh = points_of b part p
+to_come b part p set FirstGiven = drop 1 (points_of b part p)
+to_come b part p set (Walking k) = points_from b.lines set k
 
 -- a point of this colour and label is a stone with label l
 abbrev pub is_labelled : Option Colour → ℕ → ℕ → Bool

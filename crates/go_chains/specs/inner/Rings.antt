@@ -1,7 +1,7 @@
 -- Where a map leads from a point, step by step, until it is back. For the contracts of private functions.
 use Rattle.std.specs.Prelude.{ℕ, zero, suc, ◌≡◌, ◌<◌}
 
--- where so many steps along `next` lead from p
+-- where a number of steps along `next` lead from p
 abbrev pub steps : (ℕ → ℕ) → ℕ → ℕ → ℕ
 steps next zero p = p
 steps next (suc i) p = next (steps next i p)

@@ -47,8 +47,10 @@ pub record IsRemoved (n : ℕ) (adj : ℕ → ℕ → Type 0) (t t' : Tables) (r
   pub labels : (q : ℕ) → q < n → t'.label q ≡ t.label q
   pub nexts : (q : ℕ) → q < n → t'.next q ≡ t.next q
   pub sizes : (l : ℕ) → l < n → t'.size l ≡ t.size l
-  pub lib_kept : (s q : ℕ) → IsStone n t s → t.label s ≢ t.label r → q < n → t.lib (t.label s) q ≡ 1 → t'.lib (t.label s) q ≡ 1
-  pub lib_given : (s q : ℕ) → IsStone n t s → t.label s ≢ t.label r → IsStone n t q → t.label q ≡ t.label r → adj s q → t'.lib (t.label s) q ≡ 1
+  pub lib_kept : (s q : ℕ) → IsStone n t s → t.label s ≢ t.label r → q < n → t.lib (t.label s) q ≡ 1 →
+      t'.lib (t.label s) q ≡ 1
+  pub lib_given : (s q : ℕ) → IsStone n t s → t.label s ≢ t.label r → IsStone n t q → t.label q ≡ t.label r → adj s q →
+      t'.lib (t.label s) q ≡ 1
   pub lib_was : (s q : ℕ) → IsStone n t s → t.label s ≢ t.label r → q < n → t'.lib (t.label s) q ≡ 1
       → (t.lib (t.label s) q ≡ 1) ⊎ (IsStone n t q × (t.label q ≡ t.label r) × Touches n adj t (t.label s) q)
 
@@ -58,15 +60,17 @@ pub record IsCleared (n : ℕ) (adj : ℕ → ℕ → Type 0) (f g : ℕ → ℕ
   pub dead : (p : ℕ) → p < n → f p ≡ c → (ReachesEmpty n adj f p → ⊥) → g p ≡ 0
   pub others : (p : ℕ) → p < n → f p ≢ c → g p ≡ f p
 
--- some chains of colour o that had no liberty are taken off, and all else stands
+-- some chains of colour o that had no liberty are taken off, and all else stays
 pub record IsCapturing (n : ℕ) (adj : ℕ → ℕ → Type 0) (t t' : Tables) (o : ℕ) : Type 0 where
   pub tidy : IsTidy n adj t'
   pub whole : AreChainsWhole n adj t'
   pub labels : (x : ℕ) → x < n → t'.label x ≡ t.label x
-  pub colours : (x : ℕ) → x < n → (t'.colour x ≡ t.colour x) ⊎ ((t'.colour x ≡ 0) × (t.colour x ≡ o) × IsDead n t (t.label x))
+  pub colours : (x : ℕ) → x < n → (t'.colour x ≡ t.colour x)
+      ⊎ ((t'.colour x ≡ 0) × (t.colour x ≡ o) × IsDead n t (t.label x))
   pub together : (x y : ℕ) → IsStone n t x → IsStone n t y → t.label x ≡ t.label y → t'.colour x ≡ 0 → t'.colour y ≡ 0
   pub lib_kept : (q x : ℕ) → IsStone n t' q → x < n → t.lib (t.label q) x ≡ 1 → t'.lib (t.label q) x ≡ 1
-  pub lib_was : (q x : ℕ) → IsStone n t' q → t'.colour q ≡ o → x < n → t'.lib (t.label q) x ≡ 1 → t.lib (t.label q) x ≡ 1
+  pub lib_was : (q x : ℕ) → IsStone n t' q → t'.colour q ≡ o → x < n → t'.lib (t.label q) x ≡ 1 →
+      t.lib (t.label q) x ≡ 1
 
 -- the chain at a point has taken in the one beside it, if that has its colour
 pub record IsConnected (n : ℕ) (t t' : Tables) (point near : ℕ) : Type 0 where
@@ -75,14 +79,15 @@ pub record IsConnected (n : ℕ) (t t' : Tables) (point near : ℕ) : Type 0 whe
   pub done : t.colour near ≡ t.colour point → t'.label near ≡ t'.label point
   pub grows : t.size (t.label point) ≤ t'.size (t'.label point)
 
--- the chain at a point has taken in those at the first so many listed points, as far as they have its colour
+-- the chain at a point has taken in those at the first `upto` listed points, as far as they have its colour
 pub record IsConnectedTo (n : ℕ) (t t' : Tables) (point : ℕ) (beside : List ℕ) (upto : ℕ) : Type 0 where
   pub colours : (p : ℕ) → p < n → t'.colour p ≡ t.colour p
   pub together : (x y : ℕ) → IsStone n t x → IsStone n t y → t.label x ≡ t.label y → t'.label x ≡ t'.label y
-  pub done : (i : ℕ) → i < upto → t.colour (slice_index beside i) ≡ t.colour point → t'.label (slice_index beside i) ≡ t'.label point
+  pub done : (i : ℕ) → i < upto → t.colour (slice_index beside i) ≡ t.colour point →
+      t'.label (slice_index beside i) ≡ t'.label point
   pub grows : t.size (t.label point) ≤ t'.size (t'.label point)
 
--- so many of the first n points lost this colour, and no point has it that hadn't
+-- `taken` of the first n points lost this colour, and no point has it that hadn't
 abbrev pub CountsTaken : ℕ → Tables → Tables → ℕ → ℕ → Type 0
 CountsTaken n t t' own taken = (gone : List ℕ) × (length gone ≡ taken) × AllPairs (λ x y. x ≢ y) gone
     × ((q : ℕ) → Contains gone q ↔ ((q < n) × (t.colour q ≡ own) × (t'.colour q ≢ own)))

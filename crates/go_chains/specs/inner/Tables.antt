@@ -33,7 +33,7 @@ Links adj colour p (x ∷ xs) q = adj p x × (colour x ≡ colour p) × Links ad
 abbrev pub IsJoined : (ℕ → ℕ → Type 0) → (ℕ → ℕ) → ℕ → ℕ → Type 0
 IsJoined adj colour p q = (via : List ℕ) × Links adj colour p via q
 
--- a stone with this label stands beside q
+-- a stone with this label is beside q
 abbrev pub Touches : ℕ → (ℕ → ℕ → Type 0) → Tables → ℕ → ℕ → Type 0
 Touches n adj t l q = (s : ℕ) × IsStone n t s × (t.label s ≡ l) × adj s q
 
@@ -44,15 +44,20 @@ pub record IsTidy (n : ℕ) (adj : ℕ → ℕ → Type 0) (t : Tables) : Type 0
   pub head_colour : (p : ℕ) → IsStone n t p → t.colour (t.label p) ≡ t.colour p
   pub head_label : (p : ℕ) → IsStone n t p → t.label (t.label p) ≡ t.label p
   pub ring : (p : ℕ) → IsStone n t p → IsRing t.next (t.size (t.label p)) p
-  pub on_ring : (p q : ℕ) → IsStone n t p → IsOnRing t.next (t.size (t.label p)) p q → IsStone n t q × (t.label q ≡ t.label p)
-  pub ring_has : (p q : ℕ) → IsStone n t p → IsStone n t q → t.label q ≡ t.label p → IsOnRing t.next (t.size (t.label p)) p q
-  pub lib_is : (p q : ℕ) → IsStone n t p → q < n → t.lib (t.label p) q ≡ 1 → (t.colour q ≡ 0) × Touches n adj t (t.label p) q
-  pub has_lib : (p q : ℕ) → IsStone n t p → q < n → t.colour q ≡ 0 → Touches n adj t (t.label p) q → t.lib (t.label p) q ≡ 1
+  pub on_ring : (p q : ℕ) → IsStone n t p → IsOnRing t.next (t.size (t.label p)) p q → IsStone n t q
+      × (t.label q ≡ t.label p)
+  pub ring_has : (p q : ℕ) → IsStone n t p → IsStone n t q → t.label q ≡ t.label p →
+      IsOnRing t.next (t.size (t.label p)) p q
+  pub lib_is : (p q : ℕ) → IsStone n t p → q < n → t.lib (t.label p) q ≡ 1 → (t.colour q ≡ 0)
+      × Touches n adj t (t.label p) q
+  pub has_lib : (p q : ℕ) → IsStone n t p → q < n → t.colour q ≡ 0 → Touches n adj t (t.label p) q →
+      t.lib (t.label p) q ≡ 1
   pub joined : (p q : ℕ) → IsStone n t p → IsStone n t q → t.label p ≡ t.label q → IsJoined adj t.colour p q
 
 -- neighbours of one colour are of one chain
 abbrev pub AreChainsWhole : ℕ → (ℕ → ℕ → Type 0) → Tables → Type 0
-AreChainsWhole n adj t = (p q : ℕ) → IsStone n t p → IsStone n t q → adj p q → t.colour p ≡ t.colour q → t.label p ≡ t.label q
+AreChainsWhole n adj t = (p q : ℕ) → IsStone n t p → IsStone n t q → adj p q → t.colour p ≡ t.colour q →
+    t.label p ≡ t.label q
 
 -- a path over points of p's colour leads to a point beside an empty one
 abbrev pub ReachesEmpty : ℕ → (ℕ → ℕ → Type 0) → (ℕ → ℕ) → ℕ → Type 0
@@ -64,4 +69,5 @@ IsDead n t l = (x : ℕ) → x < n → t.lib l x ≡ 1 → ⊥
 
 -- neighbours of one colour are of one chain, but for the stone at this point
 abbrev pub IsWholeBut : ℕ → (ℕ → ℕ → Type 0) → Tables → ℕ → Type 0
-IsWholeBut n adj t point = (p q : ℕ) → IsStone n t p → IsStone n t q → p ≢ point → q ≢ point → adj p q → t.colour p ≡ t.colour q → t.label p ≡ t.label q
+IsWholeBut n adj t point = (p q : ℕ) → IsStone n t p → IsStone n t q → p ≢ point → q ≢ point → adj p q →
+    t.colour p ≡ t.colour q → t.label p ≡ t.label q

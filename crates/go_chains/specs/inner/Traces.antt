@@ -6,4 +6,5 @@ use Rattle.go_chains.specs.declared.change.Change.{Change}
 -- the writes of a list and the last one, to a place where these were the numbers, or none where there is no list
 abbrev pub writes_of : Option (Snapshot (List Change)) → ℕ → Snapshot (List ℕ) → List Change
 writes_of None place numbers = []
-writes_of (Some before) place numbers = before.value ++ record { place = place; old = slice_index numbers.value place } ∷ []
+writes_of (Some before) place numbers = before.value
+    ++ record { place = place; old = slice_index numbers.value place } ∷ []

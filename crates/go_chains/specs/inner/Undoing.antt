@@ -4,14 +4,14 @@ use Rattle.go_chains.specs.declared.change.Change.{Change}
 use Rattle.go_chains.specs.Cells.{CellsValue}
 use Rattle.go_chains.specs.Rewound.{rewound, undone}
 
--- the last so many changes, and those before them
+-- the last `count` changes, and those before them
 abbrev pub end_of : ℕ → List Change → List Change
 end_of count changes = drop (length changes - count) changes
 
 abbrev pub before_end : ℕ → List Change → List Change
 before_end count changes = take (length changes - count) changes
 
--- the last play of a log is put back: the cells stand as before it, nothing else was written to them, the log has
+-- the last play of a log is put back: the cells are as before it, nothing else was written to them, the log has
 -- lost it alone, and the meter counted its changes
 pub record IsPutBack (old new : CellsValue) (log earlier : List (List Change)) (changes : List Change)
     (before after : ℕ) : Type 0 where

@@ -28,9 +28,10 @@ pub record IsGiven (old new : List ℕ) (point : ℕ) (to : ℕ → Type 0) : Ty
   pub low : (k : ℕ) → k < LIBERTIES → slice_index new k ≡ slice_index old k
   pub kept : (l q : ℕ) → l < MAX_POINTS → q < MAX_POINTS → lib_of old l q ≡ 1 → lib_of new l q ≡ 1
   pub given : (l : ℕ) → l < MAX_POINTS → to l → lib_of new l point ≡ 1
-  pub was : (l q : ℕ) → l < MAX_POINTS → q < MAX_POINTS → lib_of new l q ≡ 1 → (lib_of old l q ≡ 1) ⊎ ((q ≡ point) × to l)
+  pub was : (l q : ℕ) → l < MAX_POINTS → q < MAX_POINTS → lib_of new l q ≡ 1 → (lib_of old l q ≡ 1)
+      ⊎ ((q ≡ point) × to l)
 
--- one of the first so many listed points has this colour and the label
+-- one of the first `upto` listed points has this colour and the label
 abbrev pub IsGivenBeside : List ℕ → List ℕ → ℕ → ℕ → ℕ → Type 0
 IsGivenBeside cells beside colour upto l =
     (i : ℕ) × (i < upto) × (code_at cells (slice_index beside i) ≡ colour) × (label_of cells (slice_index beside i) ≡ l)
@@ -40,9 +41,11 @@ pub record IsLifted (lines : ℕ) (old new : List ℕ) (point other : ℕ) : Typ
   pub at : code_at new point ≡ 0
   pub low : (k : ℕ) → k < LIBERTIES → k ≢ point → slice_index new k ≡ slice_index old k
   pub kept : (l q : ℕ) → l < MAX_POINTS → q < MAX_POINTS → lib_of old l q ≡ 1 → lib_of new l q ≡ 1
-  pub given : (s : ℕ) → IsAdjacent lines point s → code_at old s ≡ other → label_of old s < MAX_POINTS → lib_of new (label_of old s) point ≡ 1
+  pub given : (s : ℕ) → IsAdjacent lines point s → code_at old s ≡ other → label_of old s < MAX_POINTS →
+      lib_of new (label_of old s) point ≡ 1
   pub was : (l q : ℕ) → l < MAX_POINTS → q < MAX_POINTS → lib_of new l q ≡ 1
-      → (lib_of old l q ≡ 1) ⊎ ((q ≡ point) × ((s : ℕ) × IsAdjacent lines point s × (code_at old s ≡ other) × (label_of old s ≡ l)))
+      → (lib_of old l q ≡ 1) ⊎ ((q ≡ point)
+      × ((s : ℕ) × IsAdjacent lines point s × (code_at old s ≡ other) × (label_of old s ≡ l)))
 
 -- the first `upto` stones along `next` from a stone are taken off
 pub record IsRingLifted (lines : ℕ) (next : ℕ → ℕ) (old new : List ℕ) (stone upto other : ℕ) : Type 0 where
@@ -51,9 +54,11 @@ pub record IsRingLifted (lines : ℕ) (next : ℕ → ℕ) (old new : List ℕ) 
   pub either : (p : ℕ) → p < MAX_POINTS → (code_at new p ≡ 0) ⊎ (code_at new p ≡ code_at old p)
   pub above : (k : ℕ) → LABELS ≤ k → k < LIBERTIES → slice_index new k ≡ slice_index old k
   pub kept : (l q : ℕ) → l < MAX_POINTS → q < MAX_POINTS → lib_of old l q ≡ 1 → lib_of new l q ≡ 1
-  pub given : (j s : ℕ) → j < upto → IsAdjacent lines (steps next j stone) s → code_at old s ≡ other → label_of old s < MAX_POINTS → lib_of new (label_of old s) (steps next j stone) ≡ 1
+  pub given : (j s : ℕ) → j < upto → IsAdjacent lines (steps next j stone) s → code_at old s ≡ other →
+      label_of old s < MAX_POINTS → lib_of new (label_of old s) (steps next j stone) ≡ 1
   pub was : (l q : ℕ) → l < MAX_POINTS → q < MAX_POINTS → lib_of new l q ≡ 1
-      → (lib_of old l q ≡ 1) ⊎ (((j : ℕ) × (j < upto) × (steps next j stone ≡ q)) × ((s : ℕ) × IsAdjacent lines q s × (code_at old s ≡ other) × (label_of old s ≡ l)))
+      → (lib_of old l q ≡ 1) ⊎ (((j : ℕ) × (j < upto) × (steps next j stone ≡ q))
+      × ((s : ℕ) × IsAdjacent lines q s × (code_at old s ≡ other) × (label_of old s ≡ l)))
 
 -- one point is no liberty of these labels any more, and nothing else is written
 pub record IsDeprived (old new : List ℕ) (point : ℕ) (of : ℕ → Type 0) : Type 0 where
@@ -68,7 +73,7 @@ pub record IsFilled (old new : List ℕ) (label : ℕ) (words : List ℕ) (upto 
   pub above : (k : ℕ) → LIBERTIES + WORDS * label + WORDS ≤ k → slice_index new k ≡ slice_index old k
   pub words_are : (w : ℕ) → w < upto → w < WORDS → word_of new label w ≡ slice_index words w
 
--- one of the first so many listed points has a stone of the label
+-- one of the first `upto` listed points has a stone of the label
 abbrev pub IsStoneBeside : List ℕ → List ℕ → ℕ → ℕ → Type 0
 IsStoneBeside cells beside upto l =
     (i : ℕ) × (i < upto) × (0 < code_at cells (slice_index beside i)) × (label_of cells (slice_index beside i) ≡ l)
@@ -79,10 +84,11 @@ pub record MarksOne (cells old new : List ℕ) (near : ℕ) : Type 0 where
   pub given : code_at cells near ≡ 0 → HasPoint new near
   pub was : (q : ℕ) → q < MAX_POINTS → HasPoint new q → HasPoint old q ⊎ ((q ≡ near) × (code_at cells near ≡ 0))
 
--- the marked points are exactly the empty ones among the first so many listed
+-- the marked points are exactly the empty ones among the first `upto` listed
 pub record MarksEmpty (cells set beside : List ℕ) (upto : ℕ) : Type 0 where
   pub are : (i : ℕ) → i < upto → code_at cells (slice_index beside i) ≡ 0 → HasPoint set (slice_index beside i)
-  pub only : (q : ℕ) → q < MAX_POINTS → HasPoint set q → ((i : ℕ) × (i < upto) × (slice_index beside i ≡ q)) × (code_at cells q ≡ 0)
+  pub only : (q : ℕ) → q < MAX_POINTS → HasPoint set q → ((i : ℕ) × (i < upto) × (slice_index beside i ≡ q))
+      × (code_at cells q ≡ 0)
 
 -- one cell is written
 pub record IsWritten (old new : List ℕ) (place value : ℕ) : Type 0 where

@@ -1,4 +1,4 @@
-//! What a board tells of its chains and their liberties.
+//! Questions about a board's chains and their liberties.
 ghost use Rattle.std.specs.Prelude.{◌≡◌, ◌<◌, ◌+◌, ◌*◌, ◌/◌, ◌∷◌, if◌then◌else◌, None, Some, drop, replicate};
 ghost use Rattle.go_board.specs.Points.{IsOn, number_of, point_at};
 ghost use Rattle.go_board.specs.PointSets.{points_from};
@@ -118,22 +118,22 @@ impl Board<Open> {
         lowest_on_ring(&self.cells, usize::from(p.index(self.size)), stones) as u16
     }
 
-    /// Makes a set the points of a part of the chain of a stone, and gives the number from which on
-    /// they are to come: the one behind the first point, where that was passed. It stays out of the
-    /// loop that walks over the set, which is short without it.
+    /// Fills a set with the points of a part of a stone's chain, and gives the number where the walk over
+    /// them goes on: after the first point, if that was given. Not inlined, so that the loop that walks over
+    /// the set stays short.
     #[inline(never)]
-    pub(crate) fn mark(&self, part: Part, p: Point, passed: bool, set: &mut PointSet) -> u16
+    pub(crate) fn fill(&self, part: Part, p: Point, first_given: bool, set: &mut PointSet) -> u16
         requires on { IsOn self.now.lines p }
         requires stone { HoldsStone self.now p }
         ensures { points_from self.now.lines set.new result
-            ≡ (if passed then drop 1 (points_of self.now part p) else points_of self.now part p) }
+            ≡ (if first_given then drop 1 (points_of self.now part p) else points_of self.now part p) }
     {
         *set = PointSet::new();
         match part {
-            Part::Stones => self.mark_stones(p, set),
-            Part::Liberties => self.mark_liberties(p, set),
+            Part::Stones => self.fill_stones(p, set),
+            Part::Liberties => self.fill_liberties(p, set),
         }
-        if !passed {
+        if !first_given {
             return 0;
         }
         match set.next(self.size, 0) {
@@ -143,7 +143,7 @@ impl Board<Open> {
     }
 
     /// Puts the stones of the chain of a stone into a set that has none.
-    fn mark_stones(&self, p: Point, set: &mut PointSet)
+    fn fill_stones(&self, p: Point, set: &mut PointSet)
         requires on { IsOn self.now.lines p }
         requires stone { HoldsStone self.now p }
         requires none { set.old ≡ replicate WORDS 0 }
@@ -159,7 +159,7 @@ impl Board<Open> {
     }
 
     /// Puts the liberties of the chain of a stone into a set that has none.
-    fn mark_liberties(&self, p: Point, set: &mut PointSet)
+    fn fill_liberties(&self, p: Point, set: &mut PointSet)
         requires on { IsOn self.now.lines p }
         requires stone { HoldsStone self.now p }
         requires none { set.old ≡ replicate WORDS 0 }

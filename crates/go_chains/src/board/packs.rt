@@ -22,8 +22,8 @@ impl Board<Open> {
         packed
     }
 
-    /// Writes the colours in two bits a point over a pack, as [`Board::pack`] gives them. Each play
-    /// makes a key of them, and a pack that was given back would be copied into it.
+    /// Writes the colours in two bits a point over a pack, as [`Board::pack`] gives them. Each play makes a
+    /// key of them, and a pack that was returned would be copied into it.
     pub fn write_pack(&self, packed: &mut Packed)
         ensures { bytes_of packed.new ≡ packed_of (grid_of self.now) }
     {
@@ -36,15 +36,15 @@ impl Board<Open> {
         }
     }
 
-    /// The pack of the colours as if the board had the most lines: it has the bytes of this one's
-    /// points, but for the last, and then those of points that an earlier board had.
+    /// The pack of the colours as if the board had the most lines. It has the bytes of this board's points
+    /// except the last byte, and then bytes of points that an earlier board had.
     fn largest_pack(&self) -> &Packed
         ensures { bytes_of result.now ≡ packed_of (colouring_of MAX_LINES self.now.cells) }
     {
         self.cells.pack()
     }
 
-    /// The last byte: of the points that are left where the others are taken four by four.
+    /// The last byte, of the points after the last four that fill a byte.
     fn last_byte(&self) -> u8
         ensures { result ≡ byte_of (grid_of self.now) (self.now.lines * self.now.lines / 4) }
     {

@@ -1,4 +1,4 @@
-//! Plays and their way back, and stones that would take nothing.
+//! Plays, taking them back, and stones that would take nothing.
 ghost use Rattle.std.specs.Prelude.{◌≡◌, ◌<◌, ◌≤◌, ◌+◌, ◌↔◌, IfOk, IsErrOf, IsTrue, OnOk, Some, length, slice_set};
 ghost use Rattle.go_board.specs.Chains.{liberties};
 ghost use Rattle.go_board.specs.Colours.{other};
@@ -21,9 +21,9 @@ use go_board::{Colour, Meter, Point, PointSet, Taken};
 use std::alloc::Allocator;
 
 impl<K> Board<K> {
-    /// Places a stone, takes off the opponent's chains that have no liberty then, and after them
-    /// the stone's own chain if that has none. It says how many stones were taken off. Repetitions
-    /// aren't looked for, and suicide is a play. The log gets the play's changes.
+    /// Places a stone, takes off the opponent's chains that have no liberty then, and after them the
+    /// stone's own chain if it has none. It gives the numbers of stones that were taken off. Repetitions
+    /// aren't looked for, and suicide is allowed. The log gets the play's changes.
     pub fn play<A: Allocator + Copy>(
         &mut self,
         log: &mut Log<A>,
@@ -49,8 +49,8 @@ impl<K> Board<K> {
             return Err(PlaceError::Occupied);
         }
         reserve_play(&mut log.changes, &mut log.lengths, ROOM)?;
-        let mut near = ArrayVec::new();
-        put_beside(size, p, &mut near);
+        let mut beside = ArrayVec::new();
+        put_beside(size, p, &mut beside);
         let before = log.changes.len();
         let taken = place(
             &mut self.cells,
@@ -59,7 +59,7 @@ impl<K> Board<K> {
             size,
             colour,
             point,
-            near.as_slice(),
+            beside.as_slice(),
         );
         let count = log.changes.len() - before;
         seal(&mut log.lengths, count);
@@ -79,8 +79,8 @@ impl<K> Board<K> {
         reaches_by_a_path();
         liberty_by_a_path();
         let size = self.size();
-        let mut near = ArrayVec::new();
-        put_beside(size, p, &mut near);
+        let mut beside = ArrayVec::new();
+        put_beside(size, p, &mut beside);
         let point = usize::from(p.index(size));
         takes_nothing(
             &self.cells,
@@ -88,7 +88,7 @@ impl<K> Board<K> {
             size,
             colour.code(),
             point,
-            near.as_slice(),
+            beside.as_slice(),
         )
     }
 
@@ -105,8 +105,8 @@ impl<K> Board<K> {
         points_by_number();
         liberty_by_a_path();
         let size = self.size();
-        let mut near = ArrayVec::new();
-        put_beside(size, p, &mut near);
+        let mut beside = ArrayVec::new();
+        put_beside(size, p, &mut beside);
         let point = usize::from(p.index(size));
         let mut lent = PointSet::new();
         put_lent(
@@ -115,7 +115,7 @@ impl<K> Board<K> {
             size,
             colour.code(),
             point,
-            near.as_slice(),
+            beside.as_slice(),
             &mut lent,
         );
         lent.count(size)

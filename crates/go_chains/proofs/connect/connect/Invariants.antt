@@ -13,6 +13,8 @@ invariant-loop-near g l =
     let grown = growth l.fn.cells l.cells l.fn.point in
     record {
       tidy : IsTidy (n * n) (IsAdjacent n) (tables_of l.cells.numbers);
-      connected : IsConnectedTo (n * n) (tables_of l.fn.cells.numbers) (tables_of l.cells.numbers) l.fn.point l.fn.beside l.near-index;
-      edited : Edited l.fn.cells l.cells l.fn.changes l.changes l.fn.meter l.meter (grown + l.near-index * (WORDS + 3)) (3 * grown + l.near-index * (3 * WORDS + 15));
+      connected : IsConnectedTo (n * n) (tables_of l.fn.cells.numbers) (tables_of l.cells.numbers) l.fn.point
+          l.fn.beside l.near-index;
+      edited : Edited l.fn.cells l.cells l.fn.changes l.changes l.fn.meter l.meter (grown + l.near-index * (WORDS + 3))
+          (3 * grown + l.near-index * (3 * WORDS + 15));
     }

@@ -8,14 +8,18 @@ use Rattle.go_chains.proofs.join.merge_words.Goals as goal
 
 pub loop-word-preserved : goal.loop-word-preserved
 loop-word-preserved g c = record {
-  merged = IsMerged_more c.args.cells.now.numbers c.loop-word.cells.numbers c.replace.new.cells.numbers c.args.keep c.args.gone c.loop-word.word c.get-here.result c.get-there.result
-      c.requires.keep c.requires.gone c.requires.apart (omega arith)
+  merged = IsMerged_more c.args.cells.now.numbers c.loop-word.cells.numbers c.replace.new.cells.numbers c.args.kept
+      c.args.gone c.loop-word.word c.get-here.result c.get-there.result
+      c.requires.kept c.requires.gone c.requires.apart (omega arith)
       (c.get-here.ensures.value ∙ ap (slice_index c.loop-word.cells.numbers) c.word_place-place.ensures.value)
       (c.get-there.ensures.value ∙ ap (slice_index c.loop-word.cells.numbers) c.word_place.ensures.value)
       c.loop-word.invariant.merged
-      (let P : ℕ → Type 0 = λ k. IsWritten c.loop-word.cells.numbers c.replace.new.cells.numbers k (bit_or c.get-here.result c.get-there.result) in subst P c.word_place-place.ensures.value c.replace.ensures.written);
+      (let P : ℕ → Type 0 = λ k. IsWritten c.loop-word.cells.numbers c.replace.new.cells.numbers k
+      (bit_or c.get-here.result c.get-there.result) in
+      subst P c.word_place-place.ensures.value c.replace.ensures.written);
   edited = Edited_then c.loop-word.invariant.edited c.replace.ensures.edited (omega arith) (omega arith) (omega arith);
 }
 
 pub returns-clause-edited : goal.returns-clause-edited
-returns-clause-edited g c = Edited_within c.loop-word.invariant.edited (omega arith) (omega arith) (omega arith) (omega arith)
+returns-clause-edited g c = Edited_within c.loop-word.invariant.edited (omega arith) (omega arith) (omega arith)
+    (omega arith)

@@ -5,6 +5,6 @@ use Rattle.go_chains.proofs.join.merge_words.Given as goal
 
 abbrev pub invariant-loop-word : goal.invariant-loop-word
 invariant-loop-word g l = record {
-  merged : IsMerged l.fn.cells.numbers l.cells.numbers l.fn.keep l.fn.gone l.word;
+  merged : IsMerged l.fn.cells.numbers l.cells.numbers l.fn.kept l.fn.gone l.word;
   edited : Edited l.fn.cells l.cells l.fn.changes l.changes l.fn.meter l.meter l.word (3 * l.word);
 }

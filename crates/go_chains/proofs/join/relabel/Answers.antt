@@ -9,10 +9,13 @@ loop-preserved g c =
     let i = c.loop.counter in
     let inv = c.loop.invariant in
     let at_in = c.requires.on i c.loop-test.true in
-    let relabelled = IsRelabelled_more (next_of c.args.cells.now.numbers) c.args.cells.now.numbers c.loop.cells.numbers c.put.new.cells.numbers c.args.from i c.args.to c.loop.at
+    let relabelled = IsRelabelled_more (next_of c.args.cells.now.numbers) c.args.cells.now.numbers c.loop.cells.numbers
+    c.put.new.cells.numbers c.args.from i c.args.to c.loop.at
     (let e = inv.at in omega arith) inv.at inv.relabelled c.put.ensures.written in
     record {
-      at = relabelled_link c.args.cells.now.numbers c.put.new.cells.numbers c.args.from i c.args.to c.loop.at c.get-at.result inv.at relabelled c.get-at.ensures.value;
+      at = relabelled_link c.args.cells.now.numbers c.put.new.cells.numbers c.args.from i c.args.to c.loop.at
+          c.get-at.result inv.at relabelled c.get-at.ensures.value;
       relabelled = relabelled;
-      edited = Edited_within (Edited_next inv.edited c.put.ensures.edited (omega arith)) (omega arith) (omega arith) (omega arith) (omega arith);
+      edited = Edited_within (Edited_next inv.edited c.put.ensures.edited (omega arith)) (omega arith) (omega arith)
+          (omega arith) (omega arith);
     }

@@ -9,6 +9,8 @@ loop-near-preserved g c =
     let one = c.give_one.ensures in
     let i = c.loop-near.near-index in
     record {
-      given = IsGiven_more c.args.cells.now.numbers c.loop-near.cells.numbers c.give_one.new.cells.numbers c.args.point c.args.beside.now c.args.colour i c.requires.point (c.requires.on i 0 c.loop-near-test.true) inv.given one.given;
+      given = IsGiven_more c.args.cells.now.numbers c.loop-near.cells.numbers c.give_one.new.cells.numbers c.args.point
+          c.args.beside.now c.args.colour i c.requires.point (c.requires.on i 0 c.loop-near-test.true) inv.given
+          one.given;
       edited = Edited_then inv.edited one.edited (omega arith) (omega arith) (omega arith);
     }

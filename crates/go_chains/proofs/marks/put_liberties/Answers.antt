@@ -11,7 +11,8 @@ loop-word-preserved g c =
     let k = c.loop-word.word in
     let inv = c.loop-word.invariant in
     let put = c.put_word.ensures in
-    let read : c.get.result ≡ word_of cells label k = c.get.ensures.value ∙ ap (slice_index cells) c.word_place.ensures.value in
+    let read : c.get.result ≡ word_of cells label k = c.get.ensures.value
+    ∙ ap (slice_index cells) c.word_place.ensures.value in
     let bit : (q : ℕ) → q / 64 ≡ k → bit_at c.get.result (q % 64) ≡ lib_of cells label q = λ q at.
     ap (λ w. bit_at w (q % 64)) read ∙ ap (λ j. bit_at (word_of cells label j) (q % 64)) (sym at) in
     record {
@@ -36,5 +37,9 @@ pub returns-clause-put : goal.returns-clause-put
 returns-clause-put g c q low =
     let inv = c.loop-word.invariant in (
       λ set. elim ((inv.put q).0 set) [ inl old ↦ inl old | inr lib ↦ inr lib.1 ],
-      λ either. (inv.put q).1 (elim either [ inl old ↦ inl old | inr lib ↦ inr (omega (arith, low, c.words_of-word-end.ensures.value, c.loop-word-test.false), lib) ]),
+      λ either. (inv.put q).1 (elim either [
+        | inl old ↦ inl old
+        | inr lib ↦
+            inr (omega (arith, low, c.words_of-word-end.ensures.value, c.loop-word-test.false), lib)
+      ]),
     )

@@ -21,7 +21,8 @@ loop-preserved c =
         ],
         λ on. elim (cases_lt on.0 k) [
           | inl less ↦ (put q).1 (inr ((inv.marked q).1 (on.0, less, on.2)))
-          | inr past ↦ (let is : on.0 ≡ k = omega (arith, past, on.1) in (put q).1 (inl (sym on.2 ∙ ap (λ m. steps next m from) is ∙ sym inv.at)))
+          | inr past ↦ (let is : on.0 ≡ k = omega (arith, past, on.1) in
+              (put q).1 (inl (sym on.2 ∙ ap (λ m. steps next m from) is ∙ sym inv.at)))
         ],
       );
     }

@@ -11,7 +11,8 @@ returns-then-point-word c i low =
     let at = c.args.point % 64 in
     elim (cases_eq i at) [
       | inl same ↦
-          let gone = ap (bit_at (bit_and mask (bit_not w64 (1 * 2 ^ at % 2 ^ 64)))) same ∙ bit_at_clear_same w64 mask at (omega arith) in (
+          let gone = ap (bit_at (bit_and mask (bit_not w64 (1 * 2 ^ at % 2 ^ 64)))) same
+          ∙ bit_at_clear_same w64 mask at (omega arith) in (
             λ one. omega (arith, gone, one),
             λ both. absurd (both.1 (omega (arith, same))),
           )
@@ -20,7 +21,8 @@ returns-then-point-word c i low =
             λ one. (
               elim (cases_lt (64 * c.args.word + i) c.args.points) [
                 | inl inside ↦ inside
-                | inr out ↦ absurd (let none = c.mask_of-mask.ensures.outside i low out in omega (arith, kept, none, one))
+                | inr out ↦ absurd (let none = c.mask_of-mask.ensures.outside i low out in
+                    omega (arith, kept, none, one))
               ],
               omega (arith, off),
             ),

@@ -9,6 +9,8 @@ loop-near-preserved g c =
     let one = c.deprive_one.ensures in
     let i = c.loop-near.near-index in
     record {
-      deprived = IsDeprived_more c.args.cells.now.numbers c.loop-near.cells.numbers c.deprive_one.new.cells.numbers c.args.point c.args.beside.now i c.requires.point (c.requires.on i 0 c.loop-near-test.true) inv.deprived one.deprived;
+      deprived = IsDeprived_more c.args.cells.now.numbers c.loop-near.cells.numbers c.deprive_one.new.cells.numbers
+          c.args.point c.args.beside.now i c.requires.point (c.requires.on i 0 c.loop-near-test.true) inv.deprived
+          one.deprived;
       edited = Edited_then inv.edited one.edited (omega arith) (omega arith) (omega arith);
     }

@@ -18,13 +18,15 @@ loop-near-preserved g c =
     record {
       lent = λ q low. (
         λ set. elim ((c.add_own.ensures.added q low).0 set) [
-          | inl was ↦ elim ((kept.lent q low).0 was) [ inl empty ↦ inl empty | inr lends ↦ inr (lends.0, omega (arith, lends.1), lends.2, lends.3) ]
+          | inl was ↦ elim ((kept.lent q low).0 was)
+              [ inl empty ↦ inl empty | inr lends ↦ inr (lends.0, omega (arith, lends.1), lends.2, lends.3) ]
           | inr lends ↦ inr (k, omega arith, lends.0, lends.1)
         ],
         λ either. (c.add_own.ensures.added q low).1 (elim either [
           | inl empty ↦ inl ((kept.lent q low).1 (inl empty))
           | inr lends ↦ elim (cases_eq lends.0 k) [
-            | inl at ↦ inr (subst (λ (j : ℕ). Lends cells c.args.own q (slice_index c.args.beside.now j)) at (lends.2, lends.3))
+            | inl at ↦ inr (subst (λ (j : ℕ). Lends cells c.args.own q (slice_index c.args.beside.now j)) at
+                (lends.2, lends.3))
             | inr off ↦ inl ((kept.lent q low).1 (inr (lends.0, omega (arith, lends.1, off), lends.2, lends.3)))
           ]
         ]),
@@ -42,7 +44,12 @@ returns-clause-lent g c q low =
         (left.0 set).0,
         elim (is.0 (left.0 set).1) [
           | inl empty ↦ inl empty
-          | inr lends ↦ inr (slice_index c.args.beside.now lends.0, c.requires.beside.are lends.0 (omega (arith, lends.1, c.loop-near.auto.near-index-end)), lends.2, lends.3)
+          | inr lends ↦ inr (
+            slice_index c.args.beside.now lends.0,
+            c.requires.beside.are lends.0 (omega (arith, lends.1, c.loop-near.auto.near-index-end)),
+            lends.2,
+            lends.3,
+          )
         ],
       ),
       λ both. left.1 (

@@ -18,12 +18,14 @@ loop-near-preserved g c =
     elim c.match-outlook_on.branch [
       | in-Stays w ↦ record {
         stay = λ i low. elim (cases_eq i k) [
-          | inl at ↦ subst (λ (j : ℕ). StaysAt n cells c.args.point c.args.own (slice_index c.args.beside.now j)) (sym at) w.in-Stays.ensures.outlook.0
+          | inl at ↦ subst (λ (j : ℕ). StaysAt n cells c.args.point c.args.own (slice_index c.args.beside.now j))
+              (sym at) w.in-Stays.ensures.outlook.0
           | inr off ↦ kept.stay i (omega (arith, low, off))
         ];
         breathes = λ is. (let h = kept.breathes (sym w.breathes-is ∙ is) in (h.0, omega (arith, h.1), h.2));
         silent = λ is i low. elim (cases_eq i k) [
-          | inl at ↦ subst (λ (j : ℕ). BreathesAt n cells c.args.point c.args.own (slice_index c.args.beside.now j) → ⊥) (sym at) w.in-Stays.ensures.outlook.1
+          | inl at ↦ subst (λ (j : ℕ). BreathesAt n cells c.args.point c.args.own (slice_index c.args.beside.now j) → ⊥)
+              (sym at) w.in-Stays.ensures.outlook.1
           | inr off ↦ kept.silent (sym w.breathes-is ∙ is) i (omega (arith, low, off))
         ];
         count = omega (arith, kept.count, c.outlook_on.ensures.count);
@@ -31,7 +33,8 @@ loop-near-preserved g c =
       }
       | in-Breathes w ↦ record {
         stay = λ i low. elim (cases_eq i k) [
-          | inl at ↦ subst (λ (j : ℕ). StaysAt n cells c.args.point c.args.own (slice_index c.args.beside.now j)) (sym at)
+          | inl at ↦ subst (λ (j : ℕ). StaysAt n cells c.args.point c.args.own (slice_index c.args.beside.now j))
+              (sym at)
               (stays n cells c.args.point c.args.own (slice_index c.args.beside.now k) w.in-Breathes.ensures.outlook)
           | inr off ↦ kept.stay i (omega (arith, low, off))
         ];

@@ -5,9 +5,12 @@ use Rattle.go_chains.proofs.quiet.takes_nothing.Given as goal
 
 abbrev pub invariant-loop-near : goal.invariant-loop-near
 invariant-loop-near g l = record {
-  stay : (i : ℕ) → i < l.near-index → StaysAt l.fn.size l.fn.cells.numbers l.fn.point l.fn.own (slice_index l.fn.beside i);
-  breathes : l.breathes ≡ true → (i : ℕ) × (i < l.near-index) × BreathesAt l.fn.size l.fn.cells.numbers l.fn.point l.fn.own (slice_index l.fn.beside i);
-  silent : l.breathes ≡ false → (i : ℕ) → i < l.near-index → BreathesAt l.fn.size l.fn.cells.numbers l.fn.point l.fn.own (slice_index l.fn.beside i) → ⊥;
+  stay : (i : ℕ) → i < l.near-index →
+      StaysAt l.fn.size l.fn.cells.numbers l.fn.point l.fn.own (slice_index l.fn.beside i);
+  breathes : l.breathes ≡ true → (i : ℕ) × (i < l.near-index)
+      × BreathesAt l.fn.size l.fn.cells.numbers l.fn.point l.fn.own (slice_index l.fn.beside i);
+  silent : l.breathes ≡ false → (i : ℕ) → i < l.near-index →
+      BreathesAt l.fn.size l.fn.cells.numbers l.fn.point l.fn.own (slice_index l.fn.beside i) → ⊥;
   count : l.meter ≤ l.fn.meter + l.near-index * (WORDS + 3);
   onward : l.fn.meter ≤ l.meter;
 }

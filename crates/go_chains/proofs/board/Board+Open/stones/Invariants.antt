@@ -10,6 +10,8 @@ abbrev pub invariant-loop-row : goal.invariant-loop-row
 invariant-loop-row l = record {
   black_whole : length l.stones.black ≡ ROWS;
   white_whole : length l.stones.white ≡ ROWS;
-  black_done : (row col : ℕ) → IsIn l.stones.black row col ↔ ((row < l.row) × (col < l.self.lines) × (colour_at (grid_of l.self) (row * l.self.lines + col) ≡ Some Black));
-  white_done : (row col : ℕ) → IsIn l.stones.white row col ↔ ((row < l.row) × (col < l.self.lines) × (colour_at (grid_of l.self) (row * l.self.lines + col) ≡ Some White));
+  black_done : (row col : ℕ) → IsIn l.stones.black row col
+      ↔ ((row < l.row) × (col < l.self.lines) × (colour_at (grid_of l.self) (row * l.self.lines + col) ≡ Some Black));
+  white_done : (row col : ℕ) → IsIn l.stones.white row col
+      ↔ ((row < l.row) × (col < l.self.lines) × (colour_at (grid_of l.self) (row * l.self.lines + col) ≡ Some White));
 }

@@ -19,7 +19,11 @@ returns-clause-quiet g c =
     let held = ap (λ (b : BoardValue). b.cells) c.self.view_is in
     let point = c.from-point.ensures ∙ c.index.ensures.value ∙ ap (λ (k : ℕ). number_of k c.args.p) lines in (
       λ is. quiet_moved n cells kept c.args.colour own p low vacant coded
-          (quiet_on c.size-size.result n c.from-point.result p own c.self.inside.cells.numbers cells lines held point (c.takes_nothing.ensures.quiet.0 is)) c.reaches_by_a_path.ensures,
-      λ same. c.takes_nothing.ensures.quiet.1 (quiet_on n c.size-size.result p c.from-point.result own cells c.self.inside.cells.numbers (sym lines) (sym held) (sym point)
-          (moved_quiet n cells kept c.args.colour own p low vacant coded c.reaches_by_a_path.ensures c.liberty_by_a_path.ensures (omega (arith, c.code.ensures.range)) same)),
+          (quiet_on c.size-size.result n c.from-point.result p own c.self.inside.cells.numbers cells lines held point
+          (c.takes_nothing.ensures.quiet.0 is)) c.reaches_by_a_path.ensures,
+      λ same. c.takes_nothing.ensures.quiet.1
+          (quiet_on n c.size-size.result p c.from-point.result own cells c.self.inside.cells.numbers (sym lines)
+          (sym held) (sym point)
+          (moved_quiet n cells kept c.args.colour own p low vacant coded c.reaches_by_a_path.ensures
+          c.liberty_by_a_path.ensures (omega (arith, c.code.ensures.range)) same)),
     )

@@ -23,9 +23,13 @@ returns-clause-liberties g c =
     let test = is_liberty_of n (slice_set (grid_of c.args.self.now) p (Some c.args.colour)) p in
     let set = c.put_lent.new.set in
     let told : (q : ℕ) → q < n * n → HasPoint set q ↔ ((q ≢ p) × IsLent n cells p own q) =
-    λ q q_low. lent_on c.size-size.result n c.from-point.result p own q c.self.inside.cells.numbers cells lines (ap (λ (b : BoardValue). b.cells) c.self.view_is) point (bit_of set q) (c.put_lent.ensures.lent q (subst (λ (k : ℕ). q < k * k) (sym lines) q_low)) in
-    let law : (q : ℕ) → q < n * n → ((q ≢ p) × IsLent n cells p own q) ↔ IsTrue (test q) = λ q q_low. lent_is n cells kept c.args.colour own p low (vacant_code n cells kept p low c.requires.empty)
-    (ap colour_coded c.code.ensures.value ∙ coded_back c.args.colour) c.liberty_by_a_path.ensures (omega (arith, c.code.ensures.range)) q q_low in
+    λ q q_low. lent_on c.size-size.result n c.from-point.result p own q c.self.inside.cells.numbers cells lines
+    (ap (λ (b : BoardValue). b.cells) c.self.view_is) point (bit_of set q)
+    (c.put_lent.ensures.lent q (subst (λ (k : ℕ). q < k * k) (sym lines) q_low)) in
+    let law : (q : ℕ) → q < n * n → ((q ≢ p) × IsLent n cells p own q) ↔ IsTrue (test q) = λ q q_low.
+    lent_is n cells kept c.args.colour own p low (vacant_code n cells kept p low c.requires.empty)
+    (ap colour_coded c.code.ensures.value ∙ coded_back c.args.colour) c.liberty_by_a_path.ensures
+    (omega (arith, c.code.ensures.range)) q q_low in
     let same : (q : ℕ) → q < n * n → has_point set q ≡ test q = λ q q_low. same_answer (has_point set q) (test q)
     (λ e. (law q q_low).0 ((told q q_low).0 (eqb-true (bit_of set q) 1 e)))
     (λ t. eq-eqb (bit_of set q) 1 ((told q q_low).1 ((law q q_low).1 t))) in

@@ -18,14 +18,18 @@ loop-place-init c =
     let full = c.from-full.result / 4 in
     let f : ℕ → ℕ = byte_of (grid_of c.args.self.now) in
     let small = c.size.ensures.kept.small in
-    let all : c.from-full.result ≡ n * n = c.from-full.ensures ∙ c.points.ensures.value ∙ ap (λ (k : ℕ). k * k) c.size.ensures.lines in
+    let all : c.from-full.result ≡ n * n = c.from-full.ensures ∙ c.points.ensures.value
+    ∙ ap (λ (k : ℕ). k * k) c.size.ensures.lines in
     let whole : length bytes ≡ PACK_BYTES = ap length c.largest_pack.ensures ∙ length-pack _ in
     let last : c.last_byte.result ≡ f full = c.last_byte.ensures ∙ ap (λ (k : ℕ). f (k / 4)) (sym all) in
-    let set : bytes_of c.set.new.self ≡ slice_set bytes full (f full) = c.set.ensures ∙ ap (slice_set bytes full) last in
-    let front : (k : ℕ) → k < full → slice_index_or bytes k 0 ≡ f k = λ k low. largest-at n cells bytes k small (square-le n small) (omega (arith, all)) c.largest_pack.ensures in
+    let set : bytes_of c.set.new.self ≡ slice_set bytes full (f full) = c.set.ensures
+    ∙ ap (slice_set bytes full) last in
+    let front : (k : ℕ) → k < full → slice_index_or bytes k 0 ≡ f k = λ k low.
+    largest-at n cells bytes k small (square-le n small) (omega (arith, all)) c.largest_pack.ensures in
     record {
       whole = ap length set ∙ length-set bytes full _ ∙ whole;
-      done = λ k low. ap (λ (b : List ℕ). slice_index_or b k 0) set ∙ fill_by_more f bytes full 0 (omega (arith, whole, c.points.ensures.range, c.from-full.ensures)) front k low;
+      done = λ k low. ap (λ (b : List ℕ). slice_index_or b k 0) set
+          ∙ fill_by_more f bytes full 0 (omega (arith, whole, c.points.ensures.range, c.from-full.ensures)) front k low;
     }
 
 pub loop-place-preserved : goal.loop-place-preserved
@@ -35,15 +39,19 @@ loop-place-preserved c =
     let bytes = bytes_of c.loop-place.packed in
     let place = c.loop-place.place in
     let f : ℕ → ℕ = byte_of (grid_of c.args.self.now) in
-    let all : c.from-full.result ≡ n * n = c.from-full.ensures ∙ c.points.ensures.value ∙ ap (λ (k : ℕ). k * k) c.size.ensures.lines in
+    let all : c.from-full.result ≡ n * n = c.from-full.ensures ∙ c.points.ensures.value
+    ∙ ap (λ (k : ℕ). k * k) c.size.ensures.lines in
     let none : f place ≡ 0 = byte_none n c.args.self.now.cells place (omega (arith, all, c.loop-place.auto.place)) in
-    let set : bytes_of c.set-in-loop-place.new.self ≡ slice_set bytes place (f place) = c.set-in-loop-place.ensures ∙ ap (slice_set bytes place) (sym none) in
+    let set : bytes_of c.set-in-loop-place.new.self ≡ slice_set bytes place (f place) = c.set-in-loop-place.ensures
+    ∙ ap (slice_set bytes place) (sym none) in
     record {
       whole = ap length set ∙ length-set bytes place _ ∙ kept.whole;
-      done = λ k low. ap (λ (b : List ℕ). slice_index_or b k 0) set ∙ fill_by_more f bytes place 0 (omega (arith, kept.whole, c.loop-place-test.true)) kept.done k low;
+      done = λ k low. ap (λ (b : List ℕ). slice_index_or b k 0) set
+          ∙ fill_by_more f bytes place 0 (omega (arith, kept.whole, c.loop-place-test.true)) kept.done k low;
     }
 
 pub returns : goal.returns
 returns c =
     let kept = c.loop-place.invariant in
-    c.bytes_make_a_pack.ensures (grid_of c.args.self.now) (bytes_of c.loop-place.packed) kept.whole (λ i i_in. kept.done i (omega (arith, i_in, c.loop-place-test.false)))
+    c.bytes_make_a_pack.ensures (grid_of c.args.self.now) (bytes_of c.loop-place.packed) kept.whole
+    (λ i i_in. kept.done i (omega (arith, i_in, c.loop-place-test.false)))

@@ -1,6 +1,6 @@
 use Rattle.std.proofs.Common.{arith}
 use Rattle.std.proofs.lemmas.Grind.{common_steps}
-use Rattle.go_chains.proofs.quiet.has_other.Goals as goal
+use Rattle.go_chains.proofs.masks.has_liberty_but.Goals as goal
 
 pub returns-then-has_liberty_in-clause-other : goal.returns-then-has_liberty_in-clause-other
 returns-then-has_liberty_in-clause-other g c = grind (arith, common_steps)
