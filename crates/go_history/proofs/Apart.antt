@@ -15,14 +15,17 @@ swapped xs ys apart q = elim (apart q) [
 ]
 
 -- what the one list has, where the other has nothing, and where it has something
-pub in_first_only : (first further : List (Key × ℕ)) (k : Key) → lookup (key_eq k) further ≡ None → lookup (key_eq k) first ≡ lookup (key_eq k) (first ++ further)
-in_first_only first further k none = sym (in_parts first further k ∙ ap (option_or (lookup (key_eq k) first)) none ∙ or_none (lookup (key_eq k) first))
+pub in_first_only : (first further : List (Key × ℕ)) (k : Key) → lookup (key_eq k) further ≡ None →
+    lookup (key_eq k) first ≡ lookup (key_eq k) (first ++ further)
+in_first_only first further k none =
+    sym (in_parts first further k ∙ ap (option_or (lookup (key_eq k) first)) none ∙ or_none (lookup (key_eq k) first))
   where
     or_none : (o : Option ℕ) → option_or o None ≡ o
     or_none None = refl
     or_none (Some n) = refl
 
-pub in_further_only : (first further : List (Key × ℕ)) (k : Key) (n : ℕ) → AreApart first further → Some n ≡ lookup (key_eq k) further → Some n ≡ lookup (key_eq k) (first ++ further)
+pub in_further_only : (first further : List (Key × ℕ)) (k : Key) (n : ℕ) → AreApart first further →
+    Some n ≡ lookup (key_eq k) further → Some n ≡ lookup (key_eq k) (first ++ further)
 in_further_only first further k n apart is = elim (apart k) [
   | inl none ↦ is ∙ in_further first further k none
   | inr none ↦ absurd (let bad = is ∙ none in cc)
@@ -40,15 +43,21 @@ noted_apart old new other p n apart lacks updates q = here (key_eq p q) refl
       | inr none ↦ inr none
     ]
 
-pub apart_after : {E : Type 0} (result : Result (Option ℕ) E) (old new : TreeValue) (other : List (Key × ℕ)) (p : Key) (n : ℕ) → AreApart old.noted other → lookup (key_eq p) other ≡ None
-    → (result ≡ Ok None → (q : Key) → lookup (key_eq q) new.noted ≡ cond (key_eq p q) (Some n) (lookup (key_eq q) old.noted))
+pub apart_after : {E : Type 0} (result : Result (Option ℕ) E) (old new : TreeValue) (other : List (Key × ℕ)) (p : Key)
+    (n : ℕ) → AreApart old.noted other → lookup (key_eq p) other ≡ None
+    → (result ≡ Ok None → (q : Key) →
+    lookup (key_eq q) new.noted ≡ cond (key_eq p q) (Some n) (lookup (key_eq q) old.noted))
     → ((k : ℕ) → result ≡ Ok (Some k) → new ≡ old) → OnErr result (new ≡ old) → AreApart new.noted other
-apart_after (Ok None) old new other p n apart lacks noted stood err = noted_apart old.noted new.noted other p n apart lacks (noted refl)
-apart_after (Ok (Some k)) old new other p n apart lacks noted stood err = subst (λ (v : TreeValue). AreApart v.noted other) (sym (stood k refl)) apart
-apart_after (Err e) old new other p n apart lacks noted stood err = subst (λ (v : TreeValue). AreApart v.noted other) (sym err) apart
+apart_after (Ok None) old new other p n apart lacks noted stood err =
+    noted_apart old.noted new.noted other p n apart lacks (noted refl)
+apart_after (Ok (Some k)) old new other p n apart lacks noted stood err =
+    subst (λ (v : TreeValue). AreApart v.noted other) (sym (stood k refl)) apart
+apart_after (Err e) old new other p n apart lacks noted stood err =
+    subst (λ (v : TreeValue). AreApart v.noted other) (sym err) apart
 
 -- still none in both, once a key was taken out of both
-pub apart_without : (xs xs' ys ys' : List (Key × ℕ)) (p : Key) → AreApart xs ys → ((q : Key) → lookup (key_eq q) xs' ≡ cond (key_eq p q) None (lookup (key_eq q) xs))
+pub apart_without : (xs xs' ys ys' : List (Key × ℕ)) (p : Key) → AreApart xs ys →
+    ((q : Key) → lookup (key_eq q) xs' ≡ cond (key_eq p q) None (lookup (key_eq q) xs))
     → ((q : Key) → lookup (key_eq q) ys' ≡ cond (key_eq p q) None (lookup (key_eq q) ys)) → AreApart xs' ys'
 apart_without xs xs' ys ys' p apart less less' q = elim (apart q) [
   | inl none ↦ inl (less q ∙ ap (cond (key_eq p q) None) none ∙ nothing (key_eq p q))

@@ -13,7 +13,7 @@ pub record HistoryValue : Type 0 where
 abbrev pub later_at : HistoryValue → Key → Option ℕ
 later_at h p = lookup (key_eq p) h.later
 
--- after how many moves what has this key stood first
+-- after how many moves the position of this key first came
 abbrev pub number_at : HistoryValue → Key → Option ℕ
 number_at h p = cond (key_eq h.start p) (Some 0) (later_at h p)
 

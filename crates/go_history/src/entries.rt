@@ -8,7 +8,7 @@ ghost use Rattle.go_history.specs.declared.entries.Entry.{Entry};
 ghost use Rattle.go_history.specs.inner.Trees.{IsOwn};
 
 use crate::Key;
-use crate::ranked::Ranked;
+use crate::hashed::Hashed;
 use go_board::{Colour, Packed};
 use std::alloc::{AllocError, Allocator};
 use std::marker::Model;
@@ -16,10 +16,10 @@ use std::marker::Model;
 /// A key of a tree as contracts see it.
 #[derive(Clone, Copy)]
 pub struct Entry {
-    pub ranked: Ranked,
+    pub hashed: Hashed,
     /// The number that the key was noted with, or none once it was taken out.
     pub number: Option<usize>,
-    /// The link that leads to it. None leads to the first.
+    /// The slot among the links that leads to it. None leads to the first.
     pub link: Option<usize>,
 }
 
@@ -31,13 +31,13 @@ pub struct Rest {
     pub link: Option<usize>,
 }
 
-/// Entries in the order in which they were noted. A long game has many, so of each pack only the
-/// first bytes are kept, as many of each, behind which all are 0, and no hash is.
+/// Entries in the order in which they were noted. A long game has many, so only the first `width` bytes
+/// of each pack are kept, after which all are 0, and no hash is.
 #[derive(Drop)]
 pub struct Entries<A: Allocator + Copy> {
     /// How many bytes are kept of each pack.
     width: usize,
-    fronts: Vec<u8, A>,
+    prefixes: Vec<u8, A>,
     rests: Vec<Rest, A>,
 }
 
@@ -50,15 +50,15 @@ impl<A: Allocator + Copy> Model for Entries<A> {
 
     ghost view = { λ e. record {
       width = e.width;
-      list = entries_of e.width e.fronts.items e.rests.items;
+      list = entries_of e.width e.prefixes.items e.rests.items;
     } };
 
     ghost invariant = { λ e. (e.width ≤ PACK_BYTES)
-        × (length e.fronts.items ≡ e.width * length e.rests.items) };
+        × (length e.prefixes.items ≡ e.width * length e.rests.items) };
 }
 
 impl<A: Allocator + Copy> Entries<A> {
-    /// No entry, of packs of which so many bytes are kept. It takes no memory.
+    /// No entries. Of each pack it will keep `width` bytes. It takes no memory.
     pub fn new(alloc: A, width: usize) -> Entries<A>
         requires { width ≤ PACK_BYTES }
         ensures width { result.width ≡ width }
@@ -66,7 +66,7 @@ impl<A: Allocator + Copy> Entries<A> {
     {
         Entries {
             width,
-            fronts: Vec::new(alloc),
+            prefixes: Vec::new(alloc),
             rests: Vec::new(alloc),
         }
     }
@@ -82,24 +82,24 @@ impl<A: Allocator + Copy> Entries<A> {
     pub fn is_of(&self, at: usize, key: &Key) -> bool
         requires { at < length self.now.list }
         ensures { (d : Entry) → result
-            ≡ key_eq key.now (slice_index_or self.now.list at d).ranked.key }
+            ≡ key_eq key.now (slice_index_or self.now.list at d).hashed.key }
     {
         let own = Key {
-            pack: Packed::of_front(self.front(at)),
+            pack: Packed::of_front(self.prefix(at)),
             mover: self.rests[at].mover,
         };
         *key == own
     }
 
     /// The bytes that are kept of an entry's pack.
-    fn front(&self, at: usize) -> &[u8]
+    fn prefix(&self, at: usize) -> &[u8]
         requires { at < length self.now.list }
         ensures few { length result.now ≤ PACK_BYTES }
         ensures pack { (d : Entry) → pack_of_front result.now
-            ≡ (slice_index_or self.now.list at d).ranked.key.pack }
+            ≡ (slice_index_or self.now.list at d).hashed.key.pack }
     {
-        let behind = self.fronts.as_slice().split_at(self.width * at).1;
-        behind.split_at(self.width).0
+        let rest = self.prefixes.as_slice().split_at(self.width * at).1;
+        rest.split_at(self.width).0
     }
 
     /// The number that an entry's key was noted with, or none once it was taken out.
@@ -110,7 +110,7 @@ impl<A: Allocator + Copy> Entries<A> {
         self.rests[at].number
     }
 
-    /// The link that leads to an entry. None leads to the first.
+    /// The slot that leads to an entry. None leads to the first.
     pub fn link(&self, at: usize) -> Option<usize>
         requires { at < length self.now.list }
         ensures { (d : Entry) → result ≡ (slice_index_or self.now.list at d).link }
@@ -123,7 +123,7 @@ impl<A: Allocator + Copy> Entries<A> {
         requires { at < length self.old.list }
         ensures width { self.new.width ≡ self.old.width }
         ensures list { (d : Entry) → self.new.list ≡ slice_set self.old.list at (record {
-          ranked = (slice_index_or self.old.list at d).ranked;
+          hashed = (slice_index_or self.old.list at d).hashed;
           number = number;
           link = (slice_index_or self.old.list at d).link;
         }) }
@@ -131,26 +131,26 @@ impl<A: Allocator + Copy> Entries<A> {
         self.rests[at].number = number;
     }
 
-    /// Puts the entry of a key behind the others, noted with this number.
+    /// Adds the entry of a key after the others, noted with this number.
     pub fn push(
         &mut self,
-        ranked: &Ranked,
-        front: &[u8],
+        hashed: &Hashed,
+        prefix: &[u8],
         number: usize,
         link: Option<usize>,
     ) -> Result<(), AllocError>
-        requires own { IsOwn ranked.now }
-        requires width { length front.now ≡ self.old.width }
-        requires pack { pack_of_front front.now ≡ ranked.now.key.pack }
+        requires own { IsOwn hashed.now }
+        requires width { length prefix.now ≡ self.old.width }
+        requires pack { pack_of_front prefix.now ≡ hashed.now.key.pack }
         ensures width { self.new.width ≡ self.old.width }
         ensures added { OnOk result (self.new.list ≡ self.old.list
-            ++ record { ranked = ranked.now; number = Some number; link = link } ∷ []) }
+            ++ record { hashed = hashed.now; number = Some number; link = link } ∷ []) }
         ensures err { OnErr result (self.new.list ≡ self.old.list) }
     {
         self.rests.reserve(1)?;
-        self.fronts.extend_from_slice(front)?;
+        self.prefixes.extend_from_slice(prefix)?;
         let pushed = self.rests.push(Rest {
-            mover: ranked.key.mover,
+            mover: hashed.key.mover,
             number: Some(number),
             link,
         });
@@ -166,6 +166,6 @@ impl<A: Allocator + Copy> Entries<A> {
         ensures list { self.new.list ≡ take (length self.old.list - 1) self.old.list }
     {
         self.rests.pop();
-        self.fronts.truncate(self.width * self.rests.len());
+        self.prefixes.truncate(self.width * self.rests.len());
     }
 }

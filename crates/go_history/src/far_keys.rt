@@ -6,8 +6,8 @@ ghost use Rattle.go_history.specs.Keys.{key_eq};
 ghost use Rattle.go_history.specs.declared.key.Key.{Key};
 
 use crate::Key;
+use crate::hashed::Hashed;
 use crate::key_tree::KeyTree;
-use crate::ranked::Ranked;
 use go_board::PACK_BYTES;
 use std::alloc::{AllocError, Allocator};
 use std::marker::Model;
@@ -15,11 +15,11 @@ use std::marker::Model;
 /// How many bytes the pack of a board of 19 lines, the usual size, has before those that are 0.
 const NARROW_BYTES: usize = 91;
 
-/// The keys that were noted behind the first ones, with their numbers, in two trees, so that those
-/// of the usual boards take no more room than they need.
+/// The keys that were noted after the first ones, with their numbers. The keys of the usual boards have a
+/// tree of their own, so that they take no more room than they need.
 #[derive(Drop)]
 pub struct FarKeys<A: Allocator + Copy> {
-    /// Keys whose packs are 0 behind so many bytes.
+    /// Keys whose packs are 0 after `NARROW_BYTES` bytes.
     narrow: KeyTree<A>,
     /// The others.
     wide: KeyTree<A>,
@@ -53,7 +53,7 @@ impl<A: Allocator + Copy> FarKeys<A> {
         }
     }
 
-    /// Whether no key was noted, but for those that were taken out in the opposite order.
+    /// Whether its trees have no entry. Keys that are removed in the opposite order leave none.
     pub fn is_empty(&self) -> bool
         ensures { IsTrue result → self.now ≡ [] }
     {
@@ -64,14 +64,14 @@ impl<A: Allocator + Copy> FarKeys<A> {
     pub fn get(&self, key: &Key) -> Option<usize>
         ensures { result ≡ lookup (key_eq key.now) self.now }
     {
-        let ranked = Ranked::new(key);
-        if let Some(number) = self.narrow.get(&ranked) {
+        let hashed = Hashed::new(key);
+        if let Some(number) = self.narrow.get(&hashed) {
             return Some(number);
         }
-        self.wide.get(&ranked)
+        self.wide.get(&hashed)
     }
 
-    /// The number of a key, or none where it has none, and then it is noted with this one.
+    /// The number of a key, or none where it has none, and then the key is noted with this number.
     pub fn note(&mut self, key: &Key, number: usize) -> Result<Option<usize>, AllocError>
         ensures known { IfOk result (λ known. known ≡ lookup (key_eq key.now) self.old) }
         ensures noted { result ≡ Ok None → (q : Key) → lookup (key_eq q) self.new
@@ -79,17 +79,17 @@ impl<A: Allocator + Copy> FarKeys<A> {
         ensures stood { (k : ℕ) → result ≡ Ok (Some k) → self.new ≡ self.old }
         ensures err { OnErr result (self.new ≡ self.old) }
     {
-        let ranked = Ranked::new(key);
-        if let Some(front) = key.pack.front(NARROW_BYTES) {
-            if let Some(known) = self.wide.get(&ranked) {
+        let hashed = Hashed::new(key);
+        if let Some(prefix) = key.pack.front(NARROW_BYTES) {
+            if let Some(known) = self.wide.get(&hashed) {
                 return Ok(Some(known));
             }
-            return self.narrow.note(&ranked, front, number);
+            return self.narrow.note(&hashed, prefix, number);
         }
-        if let Some(known) = self.narrow.get(&ranked) {
+        if let Some(known) = self.narrow.get(&hashed) {
             return Ok(Some(known));
         }
-        self.wide.note(&ranked, key.pack.bytes(), number)
+        self.wide.note(&hashed, key.pack.bytes(), number)
     }
 
     /// Takes a key out. It takes no memory.
@@ -97,8 +97,8 @@ impl<A: Allocator + Copy> FarKeys<A> {
         ensures { (q : Key) → lookup (key_eq q) self.new
             ≡ cond (key_eq key.now q) None (lookup (key_eq q) self.old) }
     {
-        let ranked = Ranked::new(key);
-        self.narrow.remove(&ranked);
-        self.wide.remove(&ranked);
+        let hashed = Hashed::new(key);
+        self.narrow.remove(&hashed);
+        self.wide.remove(&hashed);
     }
 }

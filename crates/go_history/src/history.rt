@@ -13,23 +13,22 @@ use std::collections::HashMap;
 use std::hash::{BuildHasherDefault, FoldHasher};
 use std::marker::Model;
 
-/// How many keys are kept by their hashes: more than a game has moves. The seed is fixed, so
-/// somebody may pick moves whose keys lie side by side, and a look-up there goes past them all.
+/// How many keys the hash table has at most: more than a game has moves. The seed is fixed, so somebody
+/// may pick moves whose keys lie side by side, and a look-up there goes past them all.
 const FIRST_KEYS: usize = 4_096;
 
-/// For how many keys a history that begins anew keeps its room, where it has no more.
+/// A history that begins anew keeps the memory of its hash table up to this many keys.
 const KEPT_KEYS: usize = 1_024;
 
-/// After how many moves what each key is of stood first. The start's is kept beside the others, so
-/// that a game without moves takes no memory. It takes memory as keys are noted, from the allocator
-/// that it was made with.
+/// After how many moves each position first came. The start's key is kept beside the others, so that a
+/// game without moves takes no memory. It takes memory as keys are noted, from the allocator that it was
+/// made with.
 pub struct History<A: Allocator + Copy> {
-    /// What stood after no move.
+    /// The position after no move.
     start: Key,
-    /// After how many moves each other key stood first, of the first so many.
+    /// After how many moves each other key first came, for the first `FIRST_KEYS` keys.
     first: HashMap<Key, usize, BuildHasherDefault<FoldHasher>, A>,
-    /// The same of the keys that were noted behind them, in trees, so that no choice of moves makes a
-    /// look-up long.
+    /// The same of the keys that were noted after them.
     further: FarKeys<A>,
     alloc: A,
 }
@@ -72,7 +71,7 @@ impl<A: Allocator + Copy> History<A> {
         }
     }
 
-    /// After how many moves what has this key stood first, or none where it didn't stand.
+    /// After how many moves the position of this key first came, or none where it didn't come.
     pub fn look_up(&self, key: &Key) -> Option<usize>
         ensures { result ≡ number_at self.now key.now }
     {
@@ -82,7 +81,7 @@ impl<A: Allocator + Copy> History<A> {
         self.look_up_later(key)
     }
 
-    /// After how many moves what has this key stood first, but for the start.
+    /// The same without the start.
     fn look_up_later(&self, key: &Key) -> Option<usize>
         ensures { result ≡ later_at self.now key.now }
     {
@@ -95,8 +94,8 @@ impl<A: Allocator + Copy> History<A> {
         self.further.get(key)
     }
 
-    /// After how many moves what has this key stood first; or none where it didn't stand, and then
-    /// it is noted with this number.
+    /// After how many moves the position of this key first came; or none where it didn't come, and then
+    /// the key is noted with this number.
     pub fn note(&mut self, key: &Key, number: usize) -> Result<Option<usize>, AllocError>
         ensures known { IfOk result (λ known. known ≡ number_at self.old key.now) }
         ensures noted { result ≡ Ok None → IsChangedAt self.old self.new key.now (Some number) }
@@ -150,7 +149,7 @@ impl<A: Allocator + Copy> History<A> {
     }
 }
 
-/// What a key has among the first, or none where it has nothing, and then it is noted there with
+/// The number of a key among the first, or none where it has none, and then the key is noted there with
 /// this number.
 fn note_first<A: Allocator + Copy>(
     first: &mut HashMap<Key, usize, BuildHasherDefault<FoldHasher>, A>,

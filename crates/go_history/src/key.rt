@@ -19,7 +19,7 @@ impl Hash for Key {
 
     ghost respects_eq = { Prim.search (hashing, rules) };
 
-    // The pack alone: few colourings of a game stand with either colour to move.
+    // The pack alone: few colourings of a game come with either colour to move.
     fn hash<H: Hasher>(&self, state: &mut H) {
         self.pack.hash(state);
     }

@@ -1,8 +1,8 @@
-//! After how many moves each position of a game stood first, found by its key: the pack of its
+//! After how many moves each position of a game first came, found by its key: the pack of its
 //! colouring, and the colour to move where that tells positions apart.
 //!
 //! - [`Key`]: a position.
-//! - [`History`]: the number that stands at each key that was noted.
+//! - [`History`]: the number of each key that was noted.
 //!
 //! A position that came after three moves is noted, unless an earlier one is there:
 //!
@@ -17,10 +17,10 @@
 
 mod entries;
 mod far_keys;
+mod hashed;
 mod history;
 mod key;
 mod key_tree;
-mod ranked;
 
 pub use history::History;
 pub use key::Key;

@@ -1,9 +1,9 @@
--- What a tree keeps of its entries, and the entries that it stands for.
+-- What a tree keeps of its entries, and the entries that this means.
 use Rattle.std.specs.Prelude.{ℕ, List, [], ◌∷◌, take, drop}
 use Rattle.go_board.specs.PackBytes.{pack_of_front}
 use Rattle.go_history.specs.declared.entries.Entry.{Entry}
 use Rattle.go_history.specs.declared.entries.Rest.{Rest}
-use Rattle.go_history.specs.inner.Trees.{ranked}
+use Rattle.go_history.specs.inner.Trees.{hashed}
 
 -- what contracts see: how many bytes are kept of each pack, and the entries
 pub record EntriesValue : Type 0 where
@@ -12,13 +12,14 @@ pub record EntriesValue : Type 0 where
 
 -- an entry, by the first bytes of its pack and the rest
 abbrev pub entry_of : List ℕ → Rest → Entry
-entry_of front rest = record {
-  ranked = ranked (record { pack = pack_of_front front; mover = rest.mover });
+entry_of prefix rest = record {
+  hashed = hashed (record { pack = pack_of_front prefix; mover = rest.mover });
   number = rest.number;
   link = rest.link;
 }
 
--- entries, whose packs' first bytes stand one behind the other, as many of each
+-- entries, from the first `width` bytes of each pack, one after the other
 abbrev pub entries_of : ℕ → List ℕ → List Rest → List Entry
-entries_of width fronts [] = []
-entries_of width fronts (rest ∷ rests) = entry_of (take width fronts) rest ∷ entries_of width (drop width fronts) rests
+entries_of width prefixes [] = []
+entries_of width prefixes (rest ∷ rests) =
+    entry_of (take width prefixes) rest ∷ entries_of width (drop width prefixes) rests

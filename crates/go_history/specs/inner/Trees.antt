@@ -5,66 +5,69 @@ use Rattle.std.specs.Hash.FoldHasher.{initial, write, finish}
 use Rattle.go_board.specs.PackBytes.{bytes_of}
 use Rattle.go_history.specs.declared.key.Key.{Key}
 use Rattle.go_history.specs.declared.entries.Entry.{Entry}
-use Rattle.go_history.specs.declared.ranked.Ranked.{Ranked}
+use Rattle.go_history.specs.declared.hashed.Hashed.{Hashed}
 use Rattle.go_history.specs.Keys.{key_eq}
 
--- a key behind the hash of its pack
-abbrev pub ranked : Key → Ranked
-ranked k = record { rank = finish (write initial (bytes_of k.pack)); key = k }
+-- a key with the hash of its pack
+abbrev pub hashed : Key → Hashed
+hashed k = record { hash = finish (write initial (bytes_of k.pack)); key = k }
 
-abbrev pub ranked_eq : Ranked → Ranked → Bool
-ranked_eq a b = nat_eq a.rank b.rank && key_eq a.key b.key
+abbrev pub hashed_eq : Hashed → Hashed → Bool
+hashed_eq a b = nat_eq a.hash b.hash && key_eq a.key b.key
 
--- a key behind its own hash
-abbrev pub IsOwn : Ranked → Type 0
-IsOwn r = r ≡ ranked r.key
+-- the hash is that of the key
+abbrev pub IsOwn : Hashed → Type 0
+IsOwn r = r ≡ hashed r.key
 
 -- the digit of a hash at a depth
-unfoldable pub digit_of : Ranked → ℕ → ℕ
-digit_of r depth = r.rank / 2 ^ (2 * (depth % 32)) % 4
+unfoldable pub digit_of : Hashed → ℕ → ℕ
+digit_of r depth = r.hash / 2 ^ (2 * (depth % 32)) % 4
 
--- where an entry's rank stands among the links, before those of its ways
-abbrev pub rank_place : ℕ → ℕ
-rank_place i = 5 * i
+-- the place of an entry's hash among the links, before the slots of its children
+abbrev pub hash_place : ℕ → ℕ
+hash_place i = 5 * i
 
--- the link of an entry's way
-abbrev pub way : ℕ → ℕ → ℕ
-way i digit = 5 * i + 1 + digit
+-- the slot of an entry's child
+abbrev pub slot : ℕ → ℕ → ℕ
+slot i digit = 5 * i + 1 + digit
 
--- where the digits of a hash lead in so many steps
-abbrev pub at_depth : List ℕ → Ranked → ℕ → ℕ
+-- the entry that the first digits of a hash lead to
+abbrev pub at_depth : List ℕ → Hashed → ℕ → ℕ
 at_depth links r zero = 0
-at_depth links r (suc d) = slice_index links (way (at_depth links r d) (digit_of r d))
+at_depth links r (suc d) = slice_index links (slot (at_depth links r d) (digit_of r d))
 
--- the link of the last of so many steps
-abbrev pub link_to : List ℕ → Ranked → ℕ → Option ℕ
+-- the slot of the last of these steps
+abbrev pub link_to : List ℕ → Hashed → ℕ → Option ℕ
 link_to links r zero = None
-link_to links r (suc d) = Some (way (at_depth links r d) (digit_of r d))
+link_to links r (suc d) = Some (slot (at_depth links r d) (digit_of r d))
 
--- a link of an entry before i leads to i
+-- the slot of an entry before i leads to i
 pub record IsLinkTo (links : List ℕ) (place i : ℕ) : Type 0 where
   pub before : place < 5 * i
-  pub no_rank : (j : ℕ) → place ≢ rank_place j
+  pub no_hash : (j : ℕ) → place ≢ hash_place j
   pub to : slice_index links place ≡ i
 
--- so many steps lead to entry i, each to an entry behind the one before
-pub record Leads (links : List ℕ) (r : Ranked) (d i : ℕ) : Type 0 where
+-- d steps lead to entry i, each to a later entry
+pub record Leads (links : List ℕ) (r : Hashed) (d i : ℕ) : Type 0 where
   pub there : at_depth links r d ≡ i
   pub onward : (e : ℕ) → e < d → at_depth links r e < at_depth links r (suc e)
 
 -- the key of an entry
 abbrev pub key_at : List Entry → ℕ → Entry → Key
-key_at entries i d = (slice_index_or entries i d).ranked.key
+key_at entries i d = (slice_index_or entries i d).hashed.key
 
--- each key stands once, behind its own hash, where the digits of that lead, with the link of the last step; its hash is
--- among the links too
+-- each key has one entry, which the digits of its hash lead to, with the slot of the last step; the links have its hash
+-- too
 pub record IsTree (entries : List Entry) (links : List ℕ) : Type 0 where
   pub sized : length links ≡ 5 * length entries
-  pub ranks : (i : ℕ) (d : Entry) → i < length entries → slice_index links (rank_place i) ≡ (slice_index_or entries i d).ranked.rank
-  pub own : (i : ℕ) (d : Entry) → i < length entries → IsOwn (slice_index_or entries i d).ranked
+  pub hashes : (i : ℕ) (d : Entry) → i < length entries →
+      slice_index links (hash_place i) ≡ (slice_index_or entries i d).hashed.hash
+  pub own : (i : ℕ) (d : Entry) → i < length entries → IsOwn (slice_index_or entries i d).hashed
   pub led : (i : ℕ) (d : Entry) → i < length entries
-      → (n : ℕ) × (Leads links (ranked (key_at entries i d)) n i × ((slice_index_or entries i d).link ≡ link_to links (ranked (key_at entries i d)) n))
-  pub apart : (i j : ℕ) (d : Entry) → i < length entries → j < length entries → key_eq (key_at entries i d) (key_at entries j d) ≡ true → i ≡ j
+      → (n : ℕ) × (Leads links (hashed (key_at entries i d)) n i
+      × ((slice_index_or entries i d).link ≡ link_to links (hashed (key_at entries i d)) n))
+  pub apart : (i j : ℕ) (d : Entry) → i < length entries → j < length entries →
+      key_eq (key_at entries i d) (key_at entries j d) ≡ true → i ≡ j
 
 -- what an entry notes: nothing once its key was taken out
 abbrev pub noted_by : Key → Option ℕ → List (Key × ℕ)
@@ -74,36 +77,36 @@ noted_by k (Some n) = (k, n) ∷ []
 -- the keys with their numbers
 abbrev pub noted : List Entry → List (Key × ℕ)
 noted [] = []
-noted (e ∷ entries) = noted_by e.ranked.key e.number ++ noted entries
+noted (e ∷ entries) = noted_by e.hashed.key e.number ++ noted entries
 
 -- the key of each entry
 abbrev pub places_of : List Entry → List Key
-places_of entries = map (λ e. e.ranked.key) entries
+places_of entries = map (λ e. e.hashed.key) entries
 
--- what contracts see of a tree: how many bytes are kept of each pack, the keys with their numbers, and the keys that have places, also those without a number,
--- in the order in which they were noted
+-- what contracts see of a tree: how many bytes are kept of each pack, the keys with their numbers, and the keys that
+-- have entries, also those without a number, in the order in which they were noted
 pub record TreeValue : Type 0 where
   pub width : ℕ
   pub noted : List (Key × ℕ)
   pub places : List Key
 
--- so many steps, of which the last leads to no entry of so many; none, where there is no entry
-pub record EndsAt (links : List ℕ) (count : ℕ) (r : Ranked) (n : ℕ) : Type 0 where
+-- n steps, of which the last leads to none of the `count` entries; no step, where there is no entry
+pub record EndsAt (links : List ℕ) (count : ℕ) (r : Hashed) (n : ℕ) : Type 0 where
   pub onward : (e : ℕ) → suc e < n → at_depth links r e < at_depth links r (suc e)
   pub inside : (e : ℕ) → e < n → at_depth links r e < count
   pub out : (e : ℕ) → n ≡ suc e → at_depth links r e < at_depth links r n → count ≤ at_depth links r n
   pub bare : n ≡ 0 → count ≡ 0
 
--- the entry of a key, and a link that leads to it
-pub record StandsAt (entries : List Entry) (links : List ℕ) (k : Key) (i : ℕ) (link : Option ℕ) : Type 0 where
+-- the entry of a key, and the slot that leads to it
+pub record IsFoundAt (entries : List Entry) (links : List ℕ) (k : Key) (i : ℕ) (link : Option ℕ) : Type 0 where
   pub within : i < length entries
   pub same : (d : Entry) → key_eq k (key_at entries i d) ≡ true
-  pub by : (n : ℕ) × (Leads links (ranked k) n i × (link ≡ link_to links (ranked k) n))
+  pub by : (n : ℕ) × (Leads links (hashed k) n i × (link ≡ link_to links (hashed k) n))
 
--- no entry has the key, and the digits of its hash end at a link to none
-pub record StandsNowhere (entries : List Entry) (links : List ℕ) (k : Key) (link : Option ℕ) : Type 0 where
+-- no entry has the key, and the digits of its hash end at a slot without a child
+pub record IsMissing (entries : List Entry) (links : List ℕ) (k : Key) (link : Option ℕ) : Type 0 where
   pub none : (i : ℕ) (d : Entry) → i < length entries → key_eq k (key_at entries i d) ≡ false
-  pub by : (n : ℕ) × (EndsAt links (length entries) (ranked k) n × (link ≡ link_to links (ranked k) n))
+  pub by : (n : ℕ) × (EndsAt links (length entries) (hashed k) n × (link ≡ link_to links (hashed k) n))
 
 -- no key is noted in both
 abbrev pub AreApart : List (Key × ℕ) → List (Key × ℕ) → Type 0

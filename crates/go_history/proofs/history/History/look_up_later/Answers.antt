@@ -12,12 +12,14 @@ returns-in-Some g c =
 pub returns-then-is_empty : goal.returns-then-is_empty
 returns-then-is_empty g c =
     sym (in_first_alone c.self.inside.first.entries c.self.inside.further c.args.key.now (search rules)
-    ∙ sym (alike c.self.inside.first.entries c.args.key.now) ∙ sym c.get.ensures.value ∙ sym c.copied.ensures ∙ c.in_default.is)
+    ∙ sym (alike c.self.inside.first.entries c.args.key.now) ∙ sym c.get.ensures.value ∙ sym c.copied.ensures
+    ∙ c.in_default.is)
     ∙ ap (λ (v : HistoryValue). later_at v c.args.key.now) c.self.view_is
 
 pub returns : goal.returns
 returns g c =
     c.get-2.ensures
     ∙ in_further c.self.inside.first.entries c.self.inside.further c.args.key.now
-    (sym (alike c.self.inside.first.entries c.args.key.now) ∙ sym c.get.ensures.value ∙ sym c.copied.ensures ∙ c.in_default.is)
+    (sym (alike c.self.inside.first.entries c.args.key.now) ∙ sym c.get.ensures.value ∙ sym c.copied.ensures
+    ∙ c.in_default.is)
     ∙ ap (λ (v : HistoryValue). later_at v c.args.key.now) c.self.view_is

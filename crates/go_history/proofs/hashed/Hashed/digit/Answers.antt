@@ -1,6 +1,6 @@
 use Rattle.std.proofs.Common.{refl}
 use Rattle.go_history.specs.inner.Trees.{digit_of}
-use Rattle.go_history.proofs.ranked.Ranked.digit.Goals as goal
+use Rattle.go_history.proofs.hashed.Hashed.digit.Goals as goal
 
 pub returns-clause-value : goal.returns-clause-value
 unfolding digit_of
