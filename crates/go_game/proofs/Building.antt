@@ -10,11 +10,12 @@ use Rattle.go_board.specs.declared.colour.Colour.TheVariants.{Black, White}
 use Rattle.go_board.specs.Colours.{Colouring, colour_at, other}
 use Rattle.go_board.specs.Paths.{IsAdjacent, Leads, Reaches}
 use Rattle.go_board.specs.Living.{AreAlive}
-use Rattle.go_game.specs.inner.Building.{IsFront, IsPart}
+use Rattle.go_game.specs.inner.Building.{IsFilledTo, IsPart}
 use Rattle.go_board.specs.Reaching.{after_clearing, cleared, has_colour, is_same, is_taken, moved, reaches}
 
 -- a path to an empty point of the whole comes to one of the part, sooner or later
-follow : (n : ℕ) (f g : Colouring) → IsPart f g → (p : ℕ) (via : List ℕ) (q r : ℕ) → colour_at f p ≡ colour_at g p → Leads n g p via q → IsAdjacent n q r → colour_at g r ≡ None → Reaches n f p None
+follow : (n : ℕ) (f g : Colouring) → IsPart f g → (p : ℕ) (via : List ℕ) (q r : ℕ) → colour_at f p ≡ colour_at g p →
+    Leads n g p via q → IsAdjacent n q r → colour_at g r ≡ None → Reaches n f p None
 follow n f g part p [] q r same leads near empty =
     let near_p : IsAdjacent n p r = subst (λ (k : ℕ). IsAdjacent n k r) (sym leads) near in
     (p, r, ([], refl), near_p, elim (part r) [ inl is ↦ is ∙ empty | inr none ↦ none ])
@@ -36,7 +37,8 @@ same-true (Some Black) c e = refl
 same-true (Some White) c e = refl
 
 -- so no stone of a part is taken
-part_lives : ReachesByPath → (n : ℕ) (f g : Colouring) → AreAlive n g → IsPart f g → (c : Colour) (k : ℕ) → k < n * n → is_taken n f c k ≡ false
+part_lives : ReachesByPath → (n : ℕ) (f g : Colouring) → AreAlive n g → IsPart f g → (c : Colour) (k : ℕ) → k < n * n →
+    is_taken n f c k ≡ false
 part_lives law n f g alive part c k low = elim (cases_Bool (is_taken n f c k)) [
   | inr stays ↦ stays
   | inl taken ↦
@@ -47,25 +49,30 @@ part_lives law n f g alive part c k low = elim (cases_Bool (is_taken n f c k)) [
         | inl same ↦
             let in_g : is_same (colour_at g k) None ≡ false = ap (λ v. is_same v None) (sym same) ∙ stone in
             elim (cases_Bool (reaches n g k None)) [
-              | inr dead ↦ absurd (false≢true (sym (alive k low) ∙ ap (λ b. not b && not (reaches n g k None)) in_g ∙ ap not dead))
+              | inr dead ↦ absurd (false≢true
+                  (sym (alive k low) ∙ ap (λ b. not b && not (reaches n g k None)) in_g ∙ ap not dead))
               | inl lives ↦
                   let path = (law n g k None low).0 lives in
-                  absurd (not-true (reaches n f k None) parts.1 ((law n f k None low).1 (follow n f g part k path.2.0 path.0 path.1 same path.2.1 path.3 path.4)))
+                  absurd (not-true (reaches n f k None) parts.1
+                  ((law n f k None low).1 (follow n f g part k path.2.0 path.0 path.1 same path.2.1 path.3 path.4)))
             ]
       ]
 ]
 
 -- clearing takes nothing where nothing is taken
-clears_none : (n : ℕ) (f : Colouring) (c : Colour) → length f ≡ n * n → ((k : ℕ) → k < n * n → is_taken n f c k ≡ false) → cleared n f c ≡ f
+clears_none : (n : ℕ) (f : Colouring) (c : Colour) → length f ≡ n * n →
+    ((k : ℕ) → k < n * n → is_taken n f c k ≡ false) → cleared n f c ≡ f
 unfolding cleared
 clears_none n f c whole none =
     let size = length-map-range_with_len (after_clearing n f c) 0 (n * n) in
     ext_get_or None (cleared n f c) f (size ∙ sym whole) (λ k below.
     let low : k < n * n = omega (arith, size) in
-    get_or-map-range_with_len (after_clearing n f c) 0 (n * n) k k None low (omega arith) ∙ ap (λ b. let v : Option Colour = cond b None (colour_at f k) in v) (none k low))
+    get_or-map-range_with_len (after_clearing n f c) 0 (n * n) k k None low (omega arith)
+    ∙ ap (λ b. let v : Option Colour = cond b None (colour_at f k) in v) (none k low))
 
 -- a stone of a living grid, placed on a part of it, takes nothing
-pub moved_part : ReachesByPath → (n : ℕ) (f g : Colouring) (c : Colour) (p : ℕ) → length f ≡ n * n → AreAlive n g → IsPart (slice_set f p (Some c)) g → moved n f c p ≡ slice_set f p (Some c)
+pub moved_part : ReachesByPath → (n : ℕ) (f g : Colouring) (c : Colour) (p : ℕ) → length f ≡ n * n → AreAlive n g →
+    IsPart (slice_set f p (Some c)) g → moved n f c p ≡ slice_set f p (Some c)
 unfolding moved
 moved_part law n f g c p whole alive part =
     let h = slice_set f p (Some c) in
@@ -74,24 +81,25 @@ moved_part law n f g c p whole alive part =
     ∙ clears_none n h c size (part_lives law n h g alive part c)
 
 -- one stone more of the grid
-pub front_stone : (n : ℕ) (g now : Colouring) (i : ℕ) (c : Colour) → i < n * n → length g ≡ n * n
-    → colour_at g i ≡ Some c → IsFront n g i now → IsFront n g (i + 1) (slice_set now i (Some c)) × IsPart (slice_set now i (Some c)) g
-front_stone n g now i c low whole is front = (next, part)
+pub filled_stone : (n : ℕ) (g now : Colouring) (i : ℕ) (c : Colour) → i < n * n → length g ≡ n * n
+    → colour_at g i ≡ Some c → IsFilledTo n g i now → IsFilledTo n g (i + 1) (slice_set now i (Some c))
+    × IsPart (slice_set now i (Some c)) g
+filled_stone n g now i c low whole is filled = (next, part)
   where
     size : length (slice_set now i (Some c)) ≡ n * n
-    size = length-set now i (Some c) ∙ front.whole
+    size = length-set now i (Some c) ∙ filled.whole
 
     here : colour_at (slice_set now i (Some c)) i ≡ Some c
-    here = get_or-set_same now i (Some c) None (omega (arith, front.whole))
+    here = get_or-set_same now i (Some c) None (omega (arith, filled.whole))
 
-    next : IsFront n g (i + 1) (slice_set now i (Some c))
+    next : IsFilledTo n g (i + 1) (slice_set now i (Some c))
     next = record {
       whole = size;
       there = λ k below k_low. elim (cases_eq k i) [
         | inl at ↦ ap (colour_at (slice_set now i (Some c))) at ∙ here ∙ sym is ∙ ap (colour_at g) (sym at)
-        | inr off ↦ get_or-set_other now i k (Some c) None off ∙ front.there k (omega arith) k_low
+        | inr off ↦ get_or-set_other now i k (Some c) None off ∙ filled.there k (omega arith) k_low
       ];
-      empty = λ k past. get_or-set_other now i k (Some c) None (omega arith) ∙ front.empty k (omega arith);
+      empty = λ k past. get_or-set_other now i k (Some c) None (omega arith) ∙ filled.empty k (omega arith);
     }
 
     part : IsPart (slice_set now i (Some c)) g
@@ -101,17 +109,19 @@ front_stone n g now i c low whole is front = (next, part)
     ]
 
 -- all of it
-pub front_all : (n : ℕ) (g now : Colouring) (i : ℕ) → n * n ≤ i → length g ≡ n * n → IsFront n g i now → now ≡ g
-front_all n g now i all whole front =
-    ext_get_or None now g (front.whole ∙ sym whole) (λ k below. front.there k (omega (arith, front.whole)) (omega (arith, front.whole)))
+pub filled_all : (n : ℕ) (g now : Colouring) (i : ℕ) → n * n ≤ i → length g ≡ n * n → IsFilledTo n g i now → now ≡ g
+filled_all n g now i all whole filled =
+    ext_get_or None now g (filled.whole ∙ sym whole)
+    (λ k below. filled.there k (omega (arith, filled.whole)) (omega (arith, filled.whole)))
 
 -- nothing of it on the empty board
-pub front_none : (n : ℕ) (g now : Colouring) → now ≡ replicate (n * n) None → IsFront n g 0 now
-front_none n g now is = record {
+pub filled_none : (n : ℕ) (g now : Colouring) → now ≡ replicate (n * n) None → IsFilledTo n g 0 now
+filled_none n g now is = record {
   whole = ap length is ∙ length-replicate {A = Option Colour} (n * n) None;
   there = λ k below. absurd (omega arith);
   empty = λ k past. ap (λ (h : Colouring). colour_at h k) is ∙ elim (cases_lt k (n * n)) [
     | inl low ↦ get_or-replicate (n * n) k None None low
-    | inr high ↦ get_or_past (replicate (n * n) None) k None (let size = length-replicate {A = Option Colour} (n * n) None in omega (arith, size))
+    | inr high ↦ get_or_past (replicate (n * n) None) k None
+        (let size = length-replicate {A = Option Colour} (n * n) None in omega (arith, size))
   ];
 }

@@ -52,15 +52,19 @@ outranks_test a b c d (inl over) = by_lead a b c d over
 outranks_test a b c d (inr level) = by_liberties a b c d level.0 level.1
 
 module _ (s : Standing) (c : Colour)
-    (low : (n : ℕ) (p : Point) → IsOn n p → number_of n p < n * n) (back : (n : ℕ) (p : Point) → IsOn n p → point_at n (number_of n p) ≡ p)
-    (on : (n k : ℕ) → k < n * n → IsOn n (point_at n k)) (same : (n k : ℕ) → k < n * n → number_of n (point_at n k) ≡ k) where
+    (low : (n : ℕ) (p : Point) → IsOn n p → number_of n p < n * n)
+    (back : (n : ℕ) (p : Point) → IsOn n p → point_at n (number_of n p) ≡ p)
+    (on : (n k : ℕ) → k < n * n → IsOn n (point_at n k))
+    (same : (n k : ℕ) → k < n * n → number_of n (point_at n k) ≡ k) where
   better_test : (p q : Point) → IsBetter s c p q → is_better s c (number_of s.lines p) (number_of s.lines q) ≡ true
   better_test p q =
-      outranks_test (lead_after s c (number_of s.lines p)) (liberties_after s c (number_of s.lines p)) (lead_after s c (number_of s.lines q)) (liberties_after s c (number_of s.lines q))
+      outranks_test (lead_after s c (number_of s.lines p)) (liberties_after s c (number_of s.lines p))
+      (lead_after s c (number_of s.lines q)) (liberties_after s c (number_of s.lines q))
 
   better_when : (p q : Point) → is_better s c (number_of s.lines p) (number_of s.lines q) ≡ true → IsBetter s c p q
   better_when p q =
-      outranks_when (lead_after s c (number_of s.lines p)) (liberties_after s c (number_of s.lines p)) (lead_after s c (number_of s.lines q)) (liberties_after s c (number_of s.lines q))
+      outranks_when (lead_after s c (number_of s.lines p)) (liberties_after s c (number_of s.lines p))
+      (lead_after s c (number_of s.lines q)) (liberties_after s c (number_of s.lines q))
 
   -- legal plays by their points, and by their numbers
   passes : (p : Point) → IsLegal s c (At p) → may_play s c (number_of s.lines p) ≡ true
@@ -74,10 +78,13 @@ module _ (s : Standing) (c : Colour)
   unfolding chosen
   only Pass h =
       pick_pass s.lines (s.lines * s.lines) (may_play s c) (raises_margin s c) (is_better s c)
-      (λ q below legal. no_less_test (lead_of s c) (lead_after s c q) (subst (λ k. lead_after s c k ≤ℤ lead_of s c) (same s.lines q below) (h (point_at s.lines q) (legal_at q legal))))
+      (λ q below legal. no_less_test (lead_of s c) (lead_after s c q)
+      (subst (λ k. lead_after s c k ≤ℤ lead_of s c) (same s.lines q below)
+      (h (point_at s.lines q) (legal_at q legal))))
   only (At p) h =
       ap (λ (q : Point). At q) (sym (back s.lines p h.legal.0))
-      ∙ pick_first s.lines (s.lines * s.lines) (may_play s c) (raises_margin s c) (is_better s c) (number_of s.lines p) here (passes p h.legal)
+      ∙ pick_first s.lines (s.lines * s.lines) (may_play s c) (raises_margin s c) (is_better s c) (number_of s.lines p)
+      here (passes p h.legal)
       (less_test (lead_of s c) (lead_after s c (number_of s.lines p)) h.raises) best first
     where
       here : number_of s.lines p < s.lines * s.lines
@@ -86,13 +93,17 @@ module _ (s : Standing) (c : Colour)
       best : (q : ℕ) → q < s.lines * s.lines → may_play s c q ≡ true → is_better s c q (number_of s.lines p) ≡ false
       best q below legal =
           false_from_ne_true (is_better s c q (number_of s.lines p))
-          (λ over. h.best (point_at s.lines q) (legal_at q legal) (better_when (point_at s.lines q) p (ap (λ j. is_better s c j (number_of s.lines p)) (same s.lines q below) ∙ over)))
+          (λ over. h.best (point_at s.lines q) (legal_at q legal)
+          (better_when (point_at s.lines q) p
+          (ap (λ j. is_better s c j (number_of s.lines p)) (same s.lines q below) ∙ over)))
 
       first : (q : ℕ) → q < number_of s.lines p → may_play s c q ≡ true → is_better s c (number_of s.lines p) q ≡ true
       first q before legal =
           let number = same s.lines q (omega (arith, before, here)) in
           ap (is_better s c (number_of s.lines p)) (sym number)
-          ∙ better_test p (point_at s.lines q) (h.first (point_at s.lines q) (legal_at q legal) (subst (λ k. k < number_of s.lines p) (sym number) before))
+          ∙ better_test p (point_at s.lines q)
+          (h.first (point_at s.lines q) (legal_at q legal)
+          (subst (λ k. k < number_of s.lines p) (sym number) before))
 
   -- there is a best one among so many points, if one of them may be played
   best_to : (i : ℕ) → (best : Option Trial) × IsBestTrial s c i best
@@ -103,40 +114,55 @@ module _ (s : Standing) (c : Colour)
       let one : i + 1 ≡ suc i = omega arith in
       (better_of rest.0 (tried s c i), subst (λ k. IsBestTrial s c k (better_of rest.0 (tried s c i))) one next)
 
-  chosen_at : (t : Trial) (p : ℕ) → IsBestBelow s c (s.lines * s.lines) p → t ≡ trial_at s c p → int_lt (lead_of s c) t.lead ≡ true → IsChosenPlay s c (point_at s.lines p)
+  chosen_at : (t : Trial) (p : ℕ) → IsBestBelow s c (s.lines * s.lines) p → t ≡ trial_at s c p →
+      int_lt (lead_of s c) t.lead ≡ true → IsChosenPlay s c (point_at s.lines p)
   chosen_at t p h is more = record {
     legal = legal_at p h.legal;
-    raises = subst (λ k. lead_of s c <ℤ lead_after s c k) (sym number) (less (lead_of s c) (lead_after s c p) (ap (λ (u : Trial). int_lt (lead_of s c) u.lead) (sym is) ∙ more));
+    raises = subst (λ k. lead_of s c <ℤ lead_after s c k) (sym number)
+        (less (lead_of s c) (lead_after s c p) (ap (λ (u : Trial). int_lt (lead_of s c) u.lead) (sym is) ∙ more));
     best = λ q legal over.
-        true≢false (sym (better_test q (point_at s.lines p) over) ∙ ap (is_better s c (number_of s.lines q)) number ∙ h.best (number_of s.lines q) (low s.lines q legal.0) (passes q legal));
+        true≢false (sym (better_test q (point_at s.lines p) over) ∙ ap (is_better s c (number_of s.lines q)) number
+        ∙ h.best (number_of s.lines q) (low s.lines q legal.0) (passes q legal));
     first = λ q legal before.
         better_when (point_at s.lines p) q
-        (ap (λ k. is_better s c k (number_of s.lines q)) number ∙ h.first (number_of s.lines q) (subst (λ k. number_of s.lines q < k) number before) (passes q legal));
+        (ap (λ k. is_better s c k (number_of s.lines q)) number
+        ∙ h.first (number_of s.lines q) (subst (λ k. number_of s.lines q < k) number before) (passes q legal));
   }
     where
       number : number_of s.lines (point_at s.lines p) ≡ p
       number = same s.lines p h.below
 
-  none_raises : (t : Trial) (p q : ℕ) → t ≡ trial_at s c p → int_lt (lead_of s c) t.lead ≡ false → is_better s c q p ≡ false → lead_after s c q ≤ℤ lead_of s c
-  none_raises t p q is none worse = no_less (lead_of s c) (lead_after s c q) (false_from_ne_true (raises_margin s c q) (λ more. true≢false (sym (over more) ∙ worse)))
+  none_raises : (t : Trial) (p q : ℕ) → t ≡ trial_at s c p → int_lt (lead_of s c) t.lead ≡ false →
+      is_better s c q p ≡ false → lead_after s c q ≤ℤ lead_of s c
+  none_raises t p q is none worse =
+      no_less (lead_of s c) (lead_after s c q)
+      (false_from_ne_true (raises_margin s c q) (λ more. true≢false (sym (over more) ∙ worse)))
     where
       over : raises_margin s c q ≡ true → is_better s c q p ≡ true
       over more =
-          outranks-greater (lead_of s c) (lead_after s c q) (liberties_after s c q) (lead_after s c p) (liberties_after s c p) more (ap (λ (u : Trial). int_lt (lead_of s c) u.lead) (sym is) ∙ none)
+          outranks-greater (lead_of s c) (lead_after s c q) (liberties_after s c q) (lead_after s c p)
+          (liberties_after s c p) more (ap (λ (u : Trial). int_lt (lead_of s c) u.lead) (sym is) ∙ none)
 
   rule_at : (best : Option Trial) → IsBestTrial s c (s.lines * s.lines) best → IsChoice s c (chosen s c)
   rule_at None none =
-      subst (IsChoice s c) (chosen_none s c None refl none) (λ p legal. absurd (true≢false (sym (passes p legal) ∙ none (number_of s.lines p) (low s.lines p legal.0))))
+      subst (IsChoice s c) (chosen_none s c None refl none)
+      (λ p legal. absurd (true≢false (sym (passes p legal) ∙ none (number_of s.lines p) (low s.lines p legal.0))))
   rule_at (Some t) h = elim (cases_Bool (int_lt (lead_of s c) t.lead)) [
     | inl more ↦
-        subst (IsChoice s c) (ap (λ (u : Trial). At u.point) (sym h.2) ∙ chosen_play s c (Some t) t (lead_of s c) t.lead refl h refl refl more) (chosen_at t h.0 h.1 h.2 more)
+        subst (IsChoice s c) (ap (λ (u : Trial). At u.point) (sym h.2)
+        ∙ chosen_play s c (Some t) t (lead_of s c) t.lead refl h refl refl more) (chosen_at t h.0 h.1 h.2 more)
     | inr none ↦
         subst (IsChoice s c) (chosen_pass s c (Some t) t (lead_of s c) t.lead refl h refl refl none)
-        (λ q legal. none_raises t h.0 (number_of s.lines q) h.2 none (h.1.best (number_of s.lines q) (low s.lines q legal.0) (passes q legal)))
+        (λ q legal. none_raises t h.0 (number_of s.lines q) h.2 none
+        (h.1.best (number_of s.lines q) (low s.lines q legal.0) (passes q legal)))
   ]
 
   pub choice_rule : (v : Vertex) → (v ≡ chosen s c) ↔ IsChoice s c v
-  choice_rule v = ((λ e. let found = best_to (s.lines * s.lines) in subst (IsChoice s c) (sym e) (rule_at found.0 found.1)), only v)
+  choice_rule v = (
+    (λ e. let found = best_to (s.lines * s.lines) in
+        subst (IsChoice s c) (sym e) (rule_at found.0 found.1)),
+    only v,
+  )
 
 pub rule_legal : (s : Standing) (c : Colour) (v : Vertex) → IsChoice s c v → IsLegal s c v
 rule_legal s c Pass h = tt

@@ -12,16 +12,19 @@ within new spare most few = omega (arith, few)
 
 by_pass : OfTurns (λ made result old new. made.vertex ≡ Pass → new.count ≡ old.count)
 by_pass made (Ok taken) old new costs pass =
-    let few = subst (λ (v : Vertex). let f : Type 0 = new.count + spare_for v ≤ old.count + 3 * most_for old.standing made.colour v in f) pass costs.count in
+    let few = subst (λ (v : Vertex). let f : Type 0 =
+    new.count + spare_for v ≤ old.count + 3 * most_for old.standing made.colour v in f) pass costs.count in
     omega (arith, few, costs.logged.ticked)
 by_pass made (Err error) old new costs pass =
-    let few = subst (λ (v : Vertex). let f : Type 0 = new.count + spare_for v ≤ old.count + 4 * most_for old.standing made.colour v in f) pass costs.refused in
+    let few = subst (λ (v : Vertex). let f : Type 0 =
+    new.count + spare_for v ≤ old.count + 4 * most_for old.standing made.colour v in f) pass costs.refused in
     omega (arith, few, costs.err.onward)
 
 pub costs : CostsOfATurn
 costs = record {
   count = λ made result old new costs. on_ok_weaker result (within new.count (spare_for made.vertex) _) costs.count;
-  refused = λ made result old new costs. on_err_weaker result (within new.count (spare_for made.vertex) _) costs.refused;
+  refused = λ made result old new costs.
+      on_err_weaker result (within new.count (spare_for made.vertex) _) costs.refused;
   uncounted = λ made result old new costs which. ap (λ (v : GameValue). v.count) (costs.idle which);
   unwritten = λ made result old new costs which. ap (λ (v : GameValue). v.trace) (costs.idle which);
   pass = by_pass;

@@ -12,7 +12,7 @@ use Rattle.go_chains.specs.Rewound.{IsRewound, PlayLogged, rewound, undone}
 use Rattle.go_chains.specs.Boards.{BoardValue}
 use Rattle.go_history.specs.Histories.{HistoryValue}
 use Rattle.go_game.specs.declared.step.Step.{Step}
-use Rattle.go_game.specs.Changes.{changes_of, own_changes, plays_behind}
+use Rattle.go_game.specs.Changes.{changes_of, own_changes, plays_after}
 use Rattle.go_game.specs.Counts.{AreLogged, AreTakenBack, IsAsBefore, IsLogged, IsTakenBack}
 use Rattle.go_game.specs.inner.Held.{IsKeeping, Start, made_of, standing_of}
 use Rattle.go_game.specs.Standings.{GameValue, Standing, with_move, without_last}
@@ -21,48 +21,66 @@ use Rattle.go_game.proofs.Played.{made_push}
 use Rattle.go_game.proofs.TakenBack.{taken_back}
 
 own_more : (n : ℕ) (cells : List ℕ) (c : Colour) (v : Vertex) (plays : List (List Change)) (next : List ℕ)
-    (rest tail : List (List Change)) → IsTurn n cells c v plays next rest → own_changes v (plays ++ tail) ≡ own_changes v plays
+    (rest tail : List (List Change)) → IsTurn n cells c v plays next rest →
+    own_changes v (plays ++ tail) ≡ own_changes v plays
 own_more n cells c Pass plays next rest tail turn = refl
 own_more n cells c (At p) plays next rest tail turn =
-    ap (λ (l : List (List Change)). own_changes (At p) (l ++ tail)) turn.1 ∙ sym (ap (λ (l : List (List Change)). own_changes (At p) l) turn.1)
+    ap (λ (l : List (List Change)). own_changes (At p) (l ++ tail)) turn.1
+    ∙ sym (ap (λ (l : List (List Change)). own_changes (At p) l) turn.1)
 
 behind_is : (n : ℕ) (cells : List ℕ) (c : Colour) (v : Vertex) (plays : List (List Change)) (next : List ℕ)
-    (rest : List (List Change)) → IsTurn n cells c v plays next rest → plays_behind v plays ≡ rest
+    (rest : List (List Change)) → IsTurn n cells c v plays next rest → plays_after v plays ≡ rest
 behind_is n cells c Pass plays next rest turn = sym turn.1
-behind_is n cells c (At p) plays next rest turn = ap (λ (l : List (List Change)). plays_behind (At p) l) turn.1
+behind_is n cells c (At p) plays next rest turn = ap (λ (l : List (List Change)). plays_after (At p) l) turn.1
 
 behind_more : (n : ℕ) (cells : List ℕ) (c : Colour) (v : Vertex) (plays : List (List Change)) (next : List ℕ)
-    (rest tail : List (List Change)) → IsTurn n cells c v plays next rest → plays_behind v (plays ++ tail) ≡ rest ++ tail
+    (rest tail : List (List Change)) → IsTurn n cells c v plays next rest → plays_after v (plays ++ tail) ≡ rest
+    ++ tail
 behind_more n cells c Pass plays next rest tail turn = ap (λ (l : List (List Change)). l ++ tail) (sym turn.1)
-behind_more n cells c (At p) plays next rest tail turn = ap (λ (l : List (List Change)). plays_behind (At p) (l ++ tail)) turn.1
+behind_more n cells c (At p) plays next rest tail turn =
+    ap (λ (l : List (List Change)). plays_after (At p) (l ++ tail)) turn.1
 
 -- one move more has its changes behind those of the earlier ones
-changes_push : (n : ℕ) (first : List ℕ) (moves : List Move) (plays : List (List Change)) (last : List ℕ) (m : Move) (tail : List (List Change))
-    → WentThrough n first moves plays last → changes_of (moves ++ m ∷ []) (plays ++ tail) ≡ changes_of moves plays ++ own_changes m.vertex tail ∷ []
-changes_push n first [] plays last m tail went = ap (λ (l : List (List Change)). own_changes m.vertex (l ++ tail) ∷ []) went.0
+changes_push : (n : ℕ) (first : List ℕ) (moves : List Move) (plays : List (List Change)) (last : List ℕ) (m : Move)
+    (tail : List (List Change))
+    → WentThrough n first moves plays last → changes_of (moves ++ m ∷ []) (plays ++ tail) ≡ changes_of moves plays
+    ++ own_changes m.vertex tail ∷ []
+changes_push n first [] plays last m tail went =
+    ap (λ (l : List (List Change)). own_changes m.vertex (l ++ tail) ∷ []) went.0
 changes_push n first (x ∷ moves) plays last m tail went =
     let own : List Change = own_changes x.vertex plays in
     ap₂ (λ (mine : List Change) (l : List (List Change)). mine ∷ changes_of (moves ++ m ∷ []) l)
     (own_more n first x.colour x.vertex plays went.0 went.1 tail went.2)
     (behind_more n first x.colour x.vertex plays went.0 went.1 tail went.2)
     ∙ ap (λ (l : List (List Change)). own ∷ l) (changes_push n went.0 moves went.1 last m tail went.3)
-    ∙ ap (λ (l : List (List Change)). own ∷ changes_of moves l ++ own_changes m.vertex tail ∷ []) (sym (behind_is n first x.colour x.vertex plays went.0 went.1 went.2))
+    ∙ ap (λ (l : List (List Change)). own ∷ changes_of moves l ++ own_changes m.vertex tail ∷ [])
+    (sym (behind_is n first x.colour x.vertex plays went.0 went.1 went.2))
 
 -- each move has its changes
 pub as_many : (moves : List Move) (plays : List (List Change)) → length (changes_of moves plays) ≡ length moves
 as_many [] plays = refl
-as_many (m ∷ moves) plays = let same = as_many moves (plays_behind m.vertex plays) in omega (arith, same)
+as_many (m ∷ moves) plays = let same = as_many moves (plays_after m.vertex plays) in omega (arith, same)
 
 -- what contracts see of what a game keeps
 abbrev pub seen : Start → List Step → BoardValue → List (List Change) → ℕ → GameValue
-seen start steps b log count = record { standing = standing_of start steps; cells = b.cells; changes = changes_of (map made_of steps) log; trace = b.trace; count = count }
+seen start steps b log count = record {
+  standing = standing_of start steps;
+  cells = b.cells;
+  changes = changes_of (map made_of steps) log;
+  trace =
+      b.trace;
+  count = count;
+}
 
-module _ {start : Start} {steps : List Step} {b : BoardValue} {log : List (List Change)} {history : HistoryValue} {black white : ℕ}
-    (k : IsKeeping start steps b log history black white) (more : List Step) (s : Step) (is : more ≡ steps ++ s ∷ []) where
+module _ {start : Start} {steps : List Step} {b : BoardValue} {log : List (List Change)} {history : HistoryValue}
+    {black white : ℕ}
+    (k : IsKeeping start steps b log history black white) (more : List Step) (s : Step)
+    (is : more ≡ steps ++ s ∷ []) where
   all : map made_of more ≡ map made_of steps ++ made_of s ∷ []
   all = ap (λ (xs : List Step). map made_of xs) is ∙ made_push steps s
 
-  changes_pass : s.made.vertex ≡ Pass → changes_of (map made_of more) log ≡ changes_of (map made_of steps) log ++ [] ∷ []
+  changes_pass : s.made.vertex ≡ Pass → changes_of (map made_of more) log ≡ changes_of (map made_of steps) log
+      ++ [] ∷ []
   changes_pass pass =
       ap (λ (ms : List Move). changes_of ms log) all
       ∙ ap (λ (l : List (List Change)). changes_of (map made_of steps ++ made_of s ∷ []) l) (sym (append-nil log))
@@ -76,10 +94,20 @@ module _ {start : Start} {steps : List Step} {b : BoardValue} {log : List (List 
       ∙ changes_push start.lines k.tracked.first (map made_of steps) log b.cells (made_of s) (own ∷ []) k.tracked.went
       ∙ ap (λ (v : Vertex). changes_of (map made_of steps) log ++ own_changes v (own ∷ []) ∷ []) at
 
-  pub logged_pass : s.made.vertex ≡ Pass → (count : ℕ) → IsLogged (seen start steps b log count) (seen start more b log count) 0
-  logged_pass pass count = record { own = []; gained = changes_pass pass; traced = sym (append-nil b.trace); back = refl; few = omega arith; ticked = omega arith }
+  pub logged_pass : s.made.vertex ≡ Pass → (count : ℕ) →
+      IsLogged (seen start steps b log count) (seen start more b log count) 0
+  logged_pass pass count = record {
+    own = [];
+    gained = changes_pass pass;
+    traced = sym (append-nil b.trace);
+    back = refl;
+    few = omega arith;
+    ticked = omega arith;
+  }
 
-  pub logged_put : (p : Point) → s.made.vertex ≡ At p → (b' : BoardValue) (log' : List (List Change)) (most most' count count' : ℕ) → PlayLogged b b' log log' most → most ≡ most'
+  pub logged_put : (p : Point) → s.made.vertex ≡ At p →
+      (b' : BoardValue) (log' : List (List Change)) (most most' count count' : ℕ) → PlayLogged b b' log log' most →
+      most ≡ most'
       → ((own : List Change) → log' ≡ log ++ own ∷ [] → count + length own ≤ count')
       → IsLogged (seen start steps b log count) (seen start more b' log' count') most'
   logged_put p at b' log' most most' count count' logged is_most ticked = record {
@@ -92,14 +120,17 @@ module _ {start : Start} {steps : List Step} {b : BoardValue} {log : List (List 
   }
 
   -- the move taken back again
-  pub taken_back_pass : s.made.vertex ≡ Pass → (count : ℕ) → IsTakenBack (seen start more b log count) (seen start steps b log count)
-  taken_back_pass pass count = record { own = []; lost = changes_pass pass; cells = refl; traced = sym (append-nil b.trace); count = omega arith }
+  pub taken_back_pass : s.made.vertex ≡ Pass → (count : ℕ) →
+      IsTakenBack (seen start more b log count) (seen start steps b log count)
+  taken_back_pass pass count = record
+      { own = []; lost = changes_pass pass; cells = refl; traced = sym (append-nil b.trace); count = omega arith }
 
   pub taken_back_put : (p : Point) → s.made.vertex ≡ At p
       → (b' : BoardValue) (log' : List (List Change)) (own : List Change) (count count' : ℕ) → log' ≡ log ++ own ∷ []
       → b.cells ≡ rewound b'.cells own → b.trace ≡ b'.trace ++ undone b'.cells own → count' ≡ count + length own
       → IsTakenBack (seen start more b' log' count) (seen start steps b log count')
-  taken_back_put p at b' log' own count count' gained cells traced ticks = record { own = own; lost = changes_put p at log' own gained; cells = cells; traced = traced; count = ticks }
+  taken_back_put p at b' log' own count count' gained cells traced ticks =
+      record { own = own; lost = changes_put p at log' own gained; cells = cells; traced = traced; count = ticks }
 
 -- as many writes put changes back as they are
 undone-length : (cells : List ℕ) (changes : List Change) → length (undone cells changes) ≡ length changes
@@ -123,7 +154,8 @@ each_twice before then after log log' log'' most ticks ticks' logged back =
     )
 
 -- what a play did after cells were read
-pub logged_later : (old new : GameValue) (count most : ℕ) → old.count ≤ count → IsLogged (record old { count = count }) new most → IsLogged old new most
+pub logged_later : (old new : GameValue) (count most : ℕ) → old.count ≤ count →
+    IsLogged (record old { count = count }) new most → IsLogged old new most
 logged_later old new count most onward logged = record {
   own = logged.own;
   gained = logged.gained;
@@ -134,14 +166,16 @@ logged_later old new count most onward logged = record {
 }
 
 -- behind a move there is one to take back
-pub taken_some : {P : Type 0} (X : Type 0) (s t : Standing) (m : Move) (o : Option Move) → t ≡ with_move s m → IfNone o ((t.moves ≡ []) × X) → IfSome o (λ _. P) → P
+pub taken_some : {P : Type 0} (X : Type 0) (s t : Standing) (m : Move) (o : Option Move) → t ≡ with_move s m →
+    IfNone o ((t.moves ≡ []) × X) → IfSome o (λ _. P) → P
 taken_some X s t m None played none some =
     let long : length t.moves ≡ length (s.moves ++ m ∷ []) = ap (λ (u : Standing). length u.moves) played in
     absurd (omega (arith, long, length-append s.moves (m ∷ []), ap length none.0))
 taken_some X s t m (Some last) played none some = some
 
 -- a play taken back leaves the game as before it
-module _ (old mid new : GameValue) (m : Move) (most : ℕ) (played : mid.standing ≡ with_move old.standing m) (logged : IsLogged old mid most)
+module _ (old mid new : GameValue) (m : Move) (most : ℕ) (played : mid.standing ≡ with_move old.standing m)
+    (logged : IsLogged old mid most)
     (less : new.standing ≡ without_last 1 mid.standing) (back : IsTakenBack mid new) where
   own_is : (new.changes ≡ old.changes) × (back.own ≡ logged.own)
   own_is = same_from_push _ _ _ _ (sym back.lost ∙ logged.gained)
@@ -179,7 +213,8 @@ again_as_before old mid new first second = record {
 }
 
 -- any moves and as many taken back
-pub restored : (n : ℕ) (before then then' after : GameValue) → then'.cells ≡ then.cells → then'.changes ≡ then.changes → AreLogged n before then → AreTakenBack n then' after
+pub restored : (n : ℕ) (before then then' after : GameValue) → then'.cells ≡ then.cells → then'.changes ≡ then.changes →
+    AreLogged n before then → AreTakenBack n then' after
     → (after.cells ≡ before.cells) × (after.changes ≡ before.changes)
 restored zero before then then' after cells changes same back = (
   ap (λ (v : GameValue). v.cells) (sym back) ∙ cells

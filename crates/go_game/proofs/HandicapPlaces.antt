@@ -32,8 +32,10 @@ module _ (n : ℕ) (big : 6 < n) where
   corners_on =
       let a = near_low n big in
       let b = far_low n big in
-      All-append (IsOn n) (crossing (near n) (near n) ∷ crossing (far n) (far n) ∷ []) (crossing (near n) (far n) ∷ crossing (far n) (near n) ∷ [])
-      (two_on (crossing (near n) (near n)) (crossing (far n) (far n)) (a, a) (b, b)) (two_on (crossing (near n) (far n)) (crossing (far n) (near n)) (a, b) (b, a))
+      All-append (IsOn n) (crossing (near n) (near n) ∷ crossing (far n) (far n) ∷ [])
+      (crossing (near n) (far n) ∷ crossing (far n) (near n) ∷ [])
+      (two_on (crossing (near n) (near n)) (crossing (far n) (far n)) (a, a) (b, b))
+      (two_on (crossing (near n) (far n)) (crossing (far n) (near n)) (a, b) (b, a))
 
   pub handicap_on : (number : ℕ) → All (IsOn n) (handicap_points n number)
   unfolding handicap_points
@@ -47,13 +49,18 @@ module _ (n : ℕ) (big : 6 < n) where
       All-append (IsOn n) ((first ++ second) ++ third) (where_wanted (nat_lt 4 number && number % 2 == 1) (centre n))
       (All-append (IsOn n) (first ++ second) third
       (All-append (IsOn n) first second (All-take (IsOn n) number (corners n) corners_on)
-      (wanted_on (nat_le 6 number) (sides n) (two_on (crossing (near n) (middle n)) (crossing (far n) (middle n)) (a, m) (b, m))))
-      (wanted_on (nat_le 8 number) (ends n) (two_on (crossing (middle n) (near n)) (crossing (middle n) (far n)) (m, a) (m, b))))
-      (wanted_on (nat_lt 4 number && number % 2 == 1) (centre n) (one_more (crossing (middle n) (middle n)) [] (m, m) (All-nil (IsOn n))))
+      (wanted_on (nat_le 6 number) (sides n)
+      (two_on (crossing (near n) (middle n)) (crossing (far n) (middle n)) (a, m) (b, m))))
+      (wanted_on (nat_le 8 number) (ends n)
+      (two_on (crossing (middle n) (near n)) (crossing (middle n) (far n)) (m, a) (m, b))))
+      (wanted_on (nat_lt 4 number && number % 2 == 1) (centre n)
+      (one_more (crossing (middle n) (middle n)) [] (m, m) (All-nil (IsOn n))))
 
 -- a board with places for two stones has more than six lines
 pub big_enough : (n number : ℕ) → 2 ≤ number → number ≤ greatest n → 6 < n
 big_enough n number some few = elim (cases_lt n 7) [
-  | inl small ↦ let none : greatest n ≡ 0 = ap (λ b. if b then 0 else (if n == 7 || n % 2 == 0 then 4 else 9)) (lt-ltb n 7 small) in absurd (omega (arith, some, few, none))
+  | inl small ↦ let none : greatest n ≡ 0 =
+      ap (λ b. if b then 0 else (if n == 7 || n % 2 == 0 then 4 else 9)) (lt-ltb n 7 small) in
+      absurd (omega (arith, some, few, none))
   | inr big ↦ omega arith
 ]

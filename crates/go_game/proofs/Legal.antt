@@ -36,7 +36,8 @@ pub colours_same : (g h : Colouring) → same_colours g h ≡ true → g ≡ h
 colours_same [] [] e = refl
 colours_same [] (b ∷ h) e = cc
 colours_same (a ∷ g) [] e = cc
-colours_same (a ∷ g) (b ∷ h) e = let two = and_parts (is_same a b) (pointwise is_same g h) e in ap₂ (λ x xs. x ∷ xs) (same_is a b two.0) (colours_same g h two.1)
+colours_same (a ∷ g) (b ∷ h) e = let two = and_parts (is_same a b) (pointwise is_same g h) e in
+    ap₂ (λ x xs. x ∷ xs) (same_is a b two.0) (colours_same g h two.1)
 
 pub same_colours_self : (g : Colouring) → same_colours g g ≡ true
 same_colours_self [] = refl
@@ -45,7 +46,8 @@ same_colours_self (a ∷ g) = ap₂ (λ x y. x && y) (is_same_self a) (same_colo
 pub seen_same : (x y : Seen) → same_seen x y ≡ true → x ≡ y
 seen_same x y e =
     let two = and_parts (same_colours x.0 y.0) (is_same x.1 y.1) e in
-    ap₂ (λ (g : Colouring) (c : Option Colour). let seen : Seen = (g, c) in seen) (colours_same x.0 y.0 two.0) (same_is x.1 y.1 two.1)
+    ap₂ (λ (g : Colouring) (c : Option Colour). let seen : Seen = (g, c) in seen) (colours_same x.0 y.0 two.0)
+    (same_is x.1 y.1 two.1)
 
 pub same_seen_self : (x : Seen) → same_seen x x ≡ true
 same_seen_self x = ap₂ (λ a b. a && b) (same_colours_self x.0) (is_same_self x.1)
@@ -54,17 +56,21 @@ any_here : (b : Bool) (g : Seen) (gs : List Seen) (rest : Bool) → b ≡ true �
 any_here true g gs rest e = refl
 any_here false g gs rest e = cc
 
-any_at : (g : Seen) (gs : List Seen) (k : ℕ) → k < length gs → slice_index_or gs k ([], None) ≡ g → list_any (same_seen g) gs ≡ true
+any_at : (g : Seen) (gs : List Seen) (k : ℕ) → k < length gs → slice_index_or gs k ([], None) ≡ g →
+    list_any (same_seen g) gs ≡ true
 any_at g [] k l e = absurd (omega arith)
-any_at g (h ∷ gs) zero l e = any_here (same_seen g h) g gs (list_any (same_seen g) gs) (ap (same_seen g) e ∙ same_seen_self g)
+any_at g (h ∷ gs) zero l e = any_here (same_seen g h) g gs (list_any (same_seen g) gs)
+    (ap (same_seen g) e ∙ same_seen_self g)
 any_at g (h ∷ gs) (suc k) l e = or_right (same_seen g h) (list_any (same_seen g) gs) (any_at g gs k (omega arith) e)
 
 not_stood : (s : Standing) (g : Seen) (b : Bool) → has_stood s g ≡ b → (Contains (stood_of s) g → ⊥) → b ≡ false
 not_stood s g true e h = absurd (h (Contains-from_any seen_same g (stood_of s) e))
 not_stood s g false e h = refl
 
-open_here : (s : Standing) (p : Point) → IsOn s.lines p → colour_at (board_of s) (number_of s.lines p) ≡ None → is_open s (At p) ≡ true
-open_here s p on empty = ap (λ c. (nat_lt p.col s.lines && nat_lt p.row s.lines) && is_same c None) empty ∙ on_test p.col p.row s.lines on.0 on.1
+open_here : (s : Standing) (p : Point) → IsOn s.lines p → colour_at (board_of s) (number_of s.lines p) ≡ None →
+    is_open s (At p) ≡ true
+open_here s p on empty = ap (λ c. (nat_lt p.col s.lines && nat_lt p.row s.lines) && is_same c None) empty
+    ∙ on_test p.col p.row s.lines on.0 on.1
   where
     on_test : (a b n : ℕ) → a < n → b < n → ((nat_lt a n && nat_lt b n) && true) ≡ true
     on_test a b n l m = grind (arith, nat_tests)
@@ -75,10 +81,12 @@ legal_passes s c Pass h = refl
 legal_passes s c (At p) h =
     ap₂ (λ a b. a && not b) (open_here s p h.0 h.1) (not_stood s (seen_after s c (number_of s.lines p)) _ refl h.2)
 
-on_or_off : (a b n : ℕ) → ((a < n) × (b < n) × ((nat_lt a n && nat_lt b n) ≡ true)) ⊎ (((a < n) × (b < n) → ⊥) × ((nat_lt a n && nat_lt b n) ≡ false))
+on_or_off : (a b n : ℕ) → ((a < n) × (b < n) × ((nat_lt a n && nat_lt b n) ≡ true))
+    ⊎ (((a < n) × (b < n) → ⊥) × ((nat_lt a n && nat_lt b n) ≡ false))
 on_or_off a b n = on_at (nat_lt a n) (nat_lt b n) refl refl
   where
-    on_at : (x y : Bool) → nat_lt a n ≡ x → nat_lt b n ≡ y → ((a < n) × (b < n) × ((nat_lt a n && nat_lt b n) ≡ true)) ⊎ (((a < n) × (b < n) → ⊥) × ((nat_lt a n && nat_lt b n) ≡ false))
+    on_at : (x y : Bool) → nat_lt a n ≡ x → nat_lt b n ≡ y → ((a < n) × (b < n) × ((nat_lt a n && nat_lt b n) ≡ true))
+        ⊎ (((a < n) × (b < n) → ⊥) × ((nat_lt a n && nat_lt b n) ≡ false))
     on_at true true e f = inl (ltb-true a n e, ltb-true b n f, ap₂ (λ x y. x && y) e f)
     on_at true false e f = inr ((λ on. let t = lt-ltb b n on.1 in cc), ap₂ (λ x y. x && y) e f)
     on_at false y e f = inr ((λ on. let t = lt-ltb a n on.0 in cc), ap (λ x. x && nat_lt b n) e)
@@ -113,12 +121,15 @@ occupied_fails s c (At p) h = held_at (none_or_some (colour_at (board_of s) (num
         ((colour_at (board_of s) (number_of s.lines p) ≢ None) × (has_colour (board_of s) (number_of s.lines p)
         None ≡ false)) → is_legal s c (At p) ≡ false
     held_at (inl empty) = absurd (h.1 empty)
-    held_at (inr held) = closed s c (At p) (ap (λ b. (nat_lt p.col s.lines && nat_lt p.row s.lines) && b) held.1 ∙ and_false (nat_lt p.col s.lines && nat_lt p.row s.lines))
+    held_at (inr held) = closed s c (At p)
+        (ap (λ b. (nat_lt p.col s.lines && nat_lt p.row s.lines) && b) held.1
+        ∙ and_false (nat_lt p.col s.lines && nat_lt p.row s.lines))
 
 pub repeat_fails : (s : Standing) (c : Colour) (v : Vertex) (k : ℕ) → IsRepeat s c v k → is_legal s c v ≡ false
 repeat_fails s c Pass k h = absurd h
 repeat_fails s c (At p) k h =
-    ap (λ b. is_open s (At p) && not b) (any_at (seen_after s c (number_of s.lines p)) (stood_of s) k h.0 h.1) ∙ and_false (is_open s (At p))
+    ap (λ b. is_open s (At p) && not b) (any_at (seen_after s c (number_of s.lines p)) (stood_of s) k h.0 h.1)
+    ∙ and_false (is_open s (At p))
   where
     and_false : (b : Bool) → (b && false) ≡ false
     and_false true = refl
@@ -129,13 +140,15 @@ pub passes_legal : (s : Standing) (c : Colour) (v : Vertex) → is_legal s c v �
 passes_legal s c Pass e = tt
 passes_legal s c (At p) e =
     let parts = and_parts (is_open s (At p)) (not (is_repeat s c (At p))) e in
-    let empty = and_parts (nat_lt p.col s.lines && nat_lt p.row s.lines) (has_colour (board_of s) (number_of s.lines p) None) parts.0 in
+    let empty = and_parts (nat_lt p.col s.lines && nat_lt p.row s.lines)
+    (has_colour (board_of s) (number_of s.lines p) None) parts.0 in
     let on = and_parts (nat_lt p.col s.lines) (nat_lt p.row s.lines) empty.0 in
     let x = seen_after s c (number_of s.lines p) in (
       (ltb-true p.col s.lines on.0, ltb-true p.row s.lines on.1),
       same_is (colour_at (board_of s) (number_of s.lines p)) None empty.1,
       λ found.
-          let stood = any_at x (stood_of s) found.0 found.1 (get_or_default (stood_of s) found.0 ([], None) x found.1 ∙ found.2) in
+          let stood = any_at x (stood_of s) found.0 found.1
+          (get_or_default (stood_of s) found.0 ([], None) x found.1 ∙ found.2) in
           let wrong : false ≡ true = sym (ap not stood) ∙ parts.1 in
           cc,
     )

@@ -20,28 +20,40 @@ use Rattle.go_game.specs.inner.Placed.{AreOfPlaced, IsOfPlaced}
 use Rattle.go_game.proofs.Turns.{stood_push}
 
 -- clearing puts no stone
-cleared_from : (n : ℕ) (g : Colouring) (c : Colour) (k : ℕ) (d : Colour) → k < n * n → colour_at (cleared n g c) k ≡ Some d → colour_at g k ≡ Some d
+cleared_from : (n : ℕ) (g : Colouring) (c : Colour) (k : ℕ) (d : Colour) → k < n * n →
+    colour_at (cleared n g c) k ≡ Some d → colour_at g k ≡ Some d
 unfolding cleared
-cleared_from n g c k d low e = from (is_taken n g c k) (sym (get_or-map-range_with_len (after_clearing n g c) 0 (n * n) k k None low (let z : 0 + k ≡ k = omega arith in z)) ∙ e)
+cleared_from n g c k d low e = from (is_taken n g c k)
+    (sym (get_or-map-range_with_len (after_clearing n g c) 0 (n * n) k k None low
+    (let z : 0 + k ≡ k = omega arith in z)) ∙ e)
   where
     from : (b : Bool) → ◌≡◌ {A = Option Colour} (if b then None else colour_at g k) (Some d) → colour_at g k ≡ Some d
     from true e = cc
     from false e = e
 
 -- and a play puts one alone
-moved_from : (n : ℕ) (g : Colouring) (c : Colour) (p k : ℕ) (d : Colour) → length g ≡ n * n → k < n * n → colour_at (moved n g c p) k ≡ Some d
+moved_from : (n : ℕ) (g : Colouring) (c : Colour) (p k : ℕ) (d : Colour) → length g ≡ n * n → k < n * n →
+    colour_at (moved n g c p) k ≡ Some d
     → ((k ≡ p) × (d ≡ c)) ⊎ (colour_at g k ≡ Some d)
 unfolding moved
 moved_from n g c p k d whole low e =
-    let with_stone = cleared_from n (slice_set g p (Some c)) (other c) k d low (cleared_from n (cleared n (slice_set g p (Some c)) (other c)) c k d low e) in
+    let with_stone = cleared_from n (slice_set g p (Some c)) (other c) k d low
+    (cleared_from n (cleared n (slice_set g p (Some c)) (other c)) c k d low e) in
     elim (cases_eq k p) [
-      | inl is ↦ inl (is, (let same = sym with_stone ∙ ap (colour_at (slice_set g p (Some c))) is ∙ get_or-set_same g p (Some c) None (omega (arith, is, low, whole)) in cc))
+      | inl is ↦ inl (
+        is,
+        (let same = sym with_stone ∙ ap (colour_at (slice_set g p (Some c))) is
+            ∙ get_or-set_same g p (Some c) None (omega (arith, is, low, whole)) in cc),
+      )
       | inr off ↦ inr (sym (get_or-set_other g p k (Some c) None off) ∙ with_stone)
     ]
 
 -- what a play leaves, where its point is added
-pub placed_put : PointsByNumber → (n : ℕ) (start now : Colouring) (placed placed' : ByColour (List ℕ)) (c : Colour) (p : Point) → length now ≡ n * n → IsOn n p
-    → ((d : Colour) (row col : ℕ) → IsIn (rows_of placed' d) row col ↔ (((d ≡ c) × (row ≡ p.row) × (col ≡ p.col)) ⊎ IsIn (rows_of placed d) row col))
+pub placed_put : PointsByNumber →
+    (n : ℕ) (start now : Colouring) (placed placed' : ByColour (List ℕ)) (c : Colour) (p : Point) → length now ≡ n * n →
+    IsOn n p
+    → ((d : Colour) (row col : ℕ) → IsIn (rows_of placed' d) row col
+    ↔ (((d ≡ c) × (row ≡ p.row) × (col ≡ p.col)) ⊎ IsIn (rows_of placed d) row col))
     → IsOfPlaced n start placed now → IsOfPlaced n start placed' (moved n now c (number_of n p))
 placed_put law n start now placed placed' c p whole on added told row col d row_in col_in stone =
     let q : Point = record { col = col; row = row } in
@@ -53,12 +65,14 @@ placed_put law n start now placed placed' c p whole on added told row col d row_
     ]
   where
     grown : (old new : ByColour (List ℕ)) → (IsIn (rows_of old d) row col → IsIn (rows_of new d) row col)
-        → (colour_at start (row * n + col) ≡ Some d) ⊎ IsIn (rows_of old d) row col → (colour_at start (row * n + col) ≡ Some d) ⊎ IsIn (rows_of new d) row col
+        → (colour_at start (row * n + col) ≡ Some d) ⊎ IsIn (rows_of old d) row col →
+        (colour_at start (row * n + col) ≡ Some d) ⊎ IsIn (rows_of new d) row col
     grown old new more (inl was) = inl was
     grown old new more (inr told) = inr (more told)
 
 -- a set that has what another one has
-pub placed_grown : (n : ℕ) (start : Colouring) (old new : ByColour (List ℕ)) (g : Colouring) → ((c : Colour) (row col : ℕ) → IsIn (rows_of old c) row col → IsIn (rows_of new c) row col)
+pub placed_grown : (n : ℕ) (start : Colouring) (old new : ByColour (List ℕ)) (g : Colouring) →
+    ((c : Colour) (row col : ℕ) → IsIn (rows_of old c) row col → IsIn (rows_of new c) row col)
     → IsOfPlaced n start old g → IsOfPlaced n start new g
 placed_grown n start old new g more told row col c row_in col_in stone = elim (told row col c row_in col_in stone) [
   | inl was ↦ inl was
@@ -67,10 +81,12 @@ placed_grown n start old new g more told row col c row_in col_in stone = elim (t
 
 module _ (rule : Superko) (n : ℕ) (start : Colouring) (first : Colour) where
   -- without a move the start alone was seen
-  pub placed_start : (placed : ByColour (List ℕ)) (moves : List Move) → moves ≡ [] → AreOfPlaced n start placed (stood rule n start first moves)
+  pub placed_start : (placed : ByColour (List ℕ)) (moves : List Move) → moves ≡ [] →
+      AreOfPlaced n start placed (stood rule n start first moves)
   placed_start placed moves none =
       subst (λ (ms : List Move). AreOfPlaced n start placed (stood rule n start first ms)) (sym none)
-      (λ x there row col c row_in col_in stone. inl (ap (λ (g : Colouring). colour_at g (row * n + col)) (start_is x there) ∙ stone))
+      (λ x there row col c row_in col_in stone.
+      inl (ap (λ (g : Colouring). colour_at g (row * n + col)) (start_is x there) ∙ stone))
     where
       start_is : (x : Seen) → Contains (stood rule n start first []) x → start ≡ x.0
       start_is x there = elim (Contains-push_cases [] (seen_by rule (start, first)) x there) [
@@ -85,9 +101,11 @@ module _ (rule : Superko) (n : ℕ) (start : Colouring) (first : Colour) where
     all : stood rule n start first more ≡ stood rule n start first moves ++ last ∷ []
     all = ap (stood rule n start first) is ∙ stood_push rule n start first moves m
 
-    pub placed_more : (old new : ByColour (List ℕ)) → ((c : Colour) (row col : ℕ) → IsIn (rows_of old c) row col → IsIn (rows_of new c) row col)
+    pub placed_more : (old new : ByColour (List ℕ)) →
+        ((c : Colour) (row col : ℕ) → IsIn (rows_of old c) row col → IsIn (rows_of new c) row col)
         → IsOfPlaced n start new (after_move n (board n start moves) m)
-        → AreOfPlaced n start old (stood rule n start first moves) → AreOfPlaced n start new (stood rule n start first more)
+        → AreOfPlaced n start old (stood rule n start first moves) →
+        AreOfPlaced n start new (stood rule n start first more)
     placed_more old new grown here before =
         subst (AreOfPlaced n start new) (sym all)
         (λ x there. elim (Contains-push_cases (stood rule n start first moves) last x there) [
@@ -95,15 +113,20 @@ module _ (rule : Superko) (n : ℕ) (start : Colouring) (first : Colour) where
           | inr same ↦ subst (λ (y : Seen). IsOfPlaced n start new y.0) same here
         ])
 
-    pub placed_less : (placed : ByColour (List ℕ)) → AreOfPlaced n start placed (stood rule n start first more) → AreOfPlaced n start placed (stood rule n start first moves)
-    placed_less placed now x there = now x (subst (λ (xs : List Seen). Contains xs x) (sym all) (Contains-append_left (stood rule n start first moves) (last ∷ []) x there))
+    pub placed_less : (placed : ByColour (List ℕ)) → AreOfPlaced n start placed (stood rule n start first more) →
+        AreOfPlaced n start placed (stood rule n start first moves)
+    placed_less placed now x there =
+        now x (subst (λ (xs : List Seen). Contains xs x) (sym all)
+        (Contains-append_left (stood rule n start first moves) (last ∷ []) x there))
 
 -- what stands now was seen too
-pub placed_now : (rule : Superko) (n : ℕ) (start g : Colouring) (first : Colour) (moves : List Move) (placed : ByColour (List ℕ)) → AreOfPlaced n start placed (stood rule n g first moves)
+pub placed_now : (rule : Superko) (n : ℕ) (start g : Colouring) (first : Colour) (moves : List Move)
+    (placed : ByColour (List ℕ)) → AreOfPlaced n start placed (stood rule n g first moves)
     → IsOfPlaced n start placed (board n g moves)
 placed_now rule n start g first [] placed told = told (seen_by rule (g, first)) (0, omega arith, refl)
 placed_now rule n start g first (m ∷ moves) placed told =
     placed_now rule n start (after_move n g m) (other m.colour) moves placed (λ x there. told x (later x there))
   where
-    later : (x : Seen) → Contains (stood rule n (after_move n g m) (other m.colour) moves) x → Contains (stood rule n g first (m ∷ moves)) x
+    later : (x : Seen) → Contains (stood rule n (after_move n g m) (other m.colour) moves) x →
+        Contains (stood rule n g first (m ∷ moves)) x
     later x there = (suc there.0, (let low = there.1 in omega (arith, low)), there.2)

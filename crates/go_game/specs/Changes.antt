@@ -11,13 +11,13 @@ own_changes Pass plays = []
 own_changes (At p) [] = []
 own_changes (At p) (changes ∷ plays) = changes
 
--- the plays behind a turn
-abbrev pub plays_behind : Vertex → List (List Change) → List (List Change)
-plays_behind Pass plays = plays
-plays_behind (At p) [] = []
-plays_behind (At p) (changes ∷ plays) = plays
+-- the plays after a turn
+abbrev pub plays_after : Vertex → List (List Change) → List (List Change)
+plays_after Pass plays = plays
+plays_after (At p) [] = []
+plays_after (At p) (changes ∷ plays) = plays
 
 -- the changes of each move
 abbrev pub changes_of : List Move → List (List Change) → List (List Change)
 changes_of [] plays = []
-changes_of (m ∷ moves) plays = own_changes m.vertex plays ∷ changes_of moves (plays_behind m.vertex plays)
+changes_of (m ∷ moves) plays = own_changes m.vertex plays ∷ changes_of moves (plays_after m.vertex plays)

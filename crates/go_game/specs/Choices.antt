@@ -20,7 +20,7 @@ may_play s c p = is_legal s c (At (point_at s.lines p))
 abbrev pub legal_plays : Standing → Colour → List ℕ
 legal_plays s c = filter (may_play s c) (points s.lines)
 
--- by how many points a colour is ahead, komi aside
+-- by how many points a colour is ahead, without komi
 abbrev pub lead_on : ℕ → Colouring → Colour → ℤ
 lead_on n g c = pos (area n g c) -ℤ pos (area n g (other c))
 
@@ -39,7 +39,7 @@ liberties_on n g p = if has_colour g p None then 0 else length (liberties n g p)
 abbrev pub liberties_after : Standing → Colour → ℕ → ℕ
 liberties_after s c p = liberties_on s.lines (moved s.lines (board_of s) c p) p
 
--- a lead with so many liberties is better than another: greater, or no less and with more of them
+-- a lead with a number of liberties is better than another: greater, or no less and with more liberties
 abbrev pub outranks : ℤ → ℕ → ℤ → ℕ → Bool
 outranks lead liberties lead' liberties' = int_lt lead' lead || (not (int_lt lead lead') && nat_lt liberties' liberties)
 

@@ -43,8 +43,8 @@ pub record IsAsBefore (old new : GameValue) : Type 0 where
   pub onward : old.count ≤ new.count
   pub counted : old.count + length new.trace ≤ new.count + length old.trace
 
--- a turn's changes came behind those of the earlier moves: at most so many, each of them counted, they are all
--- writes to the cells, and put back they give the cells before it
+-- a turn's changes came after those of the earlier moves: at most `most`, each of them counted; they are all writes to
+-- the cells, and put back they give the cells before it
 pub record IsLogged (old new : GameValue) (most : ℕ) : Type 0 where
   pub own : List Change
   pub gained : new.changes ≡ old.changes ++ own ∷ []
@@ -58,10 +58,11 @@ abbrev pub spare_for : Vertex → ℕ
 spare_for Pass = 0
 spare_for (At p) = reads_around
 
--- What a turn does to a game beside what it stands for: refused it leaves the game as it was, and made it is logged.
+-- What a turn does to a game beside its standing: a refused one leaves the game as it was, and one that is made is
+-- logged.
 -- The reads and writes of the play are counted, at most three times the most changes, and four times where it was
 -- taken back. The look whether the point is empty isn't counted, nor are those that make the key of the board after it.
--- Off the board, and where a stone stands, nothing is counted or written.
+-- Off the board, and on a stone, nothing is counted or written.
 pub record TurnCosts {A : Type 0} (made : Move) (result : Result A PlayError) (old new : GameValue) : Type 0 where
   pub err : OnErr result (IsAsBefore old new)
   pub logged : OnOk result (IsLogged old new (most_for old.standing made.colour made.vertex))
@@ -82,12 +83,12 @@ pub record IsTakenBack (old new : GameValue) : Type 0 where
   pub traced : new.trace ≡ old.trace ++ undone old.cells own
   pub count : new.count ≡ old.count + length own
 
--- so many moves were played, one after the other
+-- a number of moves were played, one after the other
 abbrev pub AreLogged : ℕ → GameValue → GameValue → Type 0
 AreLogged zero old new = old ≡ new
 AreLogged (suc n) old new = (mid : GameValue) × AreLogged n old mid × (most : ℕ) × IsLogged mid new most
 
--- so many were taken back
+-- a number of moves were taken back
 abbrev pub AreTakenBack : ℕ → GameValue → GameValue → Type 0
 AreTakenBack zero old new = old ≡ new
 AreTakenBack (suc n) old new = (mid : GameValue) × IsTakenBack old mid × AreTakenBack n mid new

@@ -1,4 +1,4 @@
--- Where handicap stones stand.
+-- Where handicap stones go.
 use Rattle.std.specs.Prelude.{◌-◌, ◌/◌, ◌%◌, ◌++◌, ◌==◌, ◌&&◌, ◌||◌, ℕ, Bool, List, [], ◌∷◌, Option, Some, None, if◌then◌else◌, map, nat_le, nat_lt, take}
 use Rattle.std.specs.List.{list_any}
 use Rattle.go_board.specs.declared.colour.Colour.TheVariants.{Black}
@@ -44,7 +44,7 @@ centre n = crossing (middle n) (middle n) ∷ []
 abbrev pub where_wanted : Bool → List Point → List Point
 where_wanted wanted points = if wanted then points else []
 
--- the points of so many stones, in order: corners, then sides, then ends, and the centre for an odd
+-- the points of a number of stones, in order: corners, then sides, then ends, and the centre for an odd
 -- number above four
 unfoldable pub handicap_points : ℕ → ℕ → List Point
 handicap_points n number =

@@ -38,7 +38,7 @@ is_repeat s c (At p) = has_stood s (seen_after s c (number_of s.lines p))
 abbrev pub is_legal : Standing → Colour → Vertex → Bool
 is_legal s c v = is_open s v && not (is_repeat s c v)
 
--- a play on an empty point of the board takes nothing, itself included: it leaves what stood with the stone
+-- a play on an empty point of the board takes nothing, itself included: it leaves what was there with the stone
 abbrev pub TakesNothing : Standing → Colour → Point → Type 0
 TakesNothing s c p = IsOn s.lines p × (stone_at (present s) p ≡ None)
     × (after_vertex s.lines (board_of s) c (At p) ≡ slice_set (board_of s) (number_of s.lines p) (Some c))

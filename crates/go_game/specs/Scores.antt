@@ -13,13 +13,13 @@ area_of s c = area s.lines (board_of s) c
 abbrev pub margin_of : Standing → ℤ
 margin_of s = (pos (100 * area_of s Black) -ℤ pos (100 * area_of s White)) -ℤ s.komi
 
--- a point and so many hundredths, without zeros at the end
+-- a point and these hundredths, without zeros at the end
 abbrev pub decimals_of : ℕ → List ℕ
 decimals_of n =
     if n == 0 then []
     else (if n % 10 == 0 then codes "." ++ (48 + n / 10) ∷ [] else codes "." ++ (48 + n / 10) ∷ (48 + n % 10) ∷ [])
 
--- so many hundredths as a decimal number
+-- a number of hundredths as a decimal number
 unfoldable pub size_text : ℕ → List ℕ
 size_text n = decimal (n / 100) ++ decimals_of (n % 100)
 

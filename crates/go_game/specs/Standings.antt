@@ -1,4 +1,4 @@
--- What a game stands for: its start and its moves.
+-- The standing of a game: its start and its moves.
 use Rattle.std.specs.Prelude.{◌≡◌, ◌≢◌, ◌<◌, ◌≤◌, ◌-◌, ◌*◌, ◌++◌, ◌&&◌, ◌==◌, ℕ, ℤ, Bool, not, is_some, pos, List, [], ◌∷◌, Option, Some, None, IsTrue, Contains, length, map, replicate, slice_index_or, take}
 use Rattle.std.specs.List.{list_any}
 use Rattle.go_board.specs.declared.colour.Colour.{Colour}
@@ -25,7 +25,7 @@ pub record Standing : Type 0 where
   pub first : Colour
   pub moves : List Move
 
--- what contracts see of a game: what it stands for, the cells of its board, the changes of each move that stands,
+-- what contracts see of a game: its standing, the cells of its board, the changes of each of its moves,
 -- all writes to the cells so far, and how many cells were read or written
 pub record GameValue : Type 0 where
   pub standing : Standing
@@ -58,7 +58,7 @@ board n g (m ∷ moves) = board n (after_move n g m) moves
 abbrev pub board_of : Standing → Colouring
 board_of s = board s.lines s.start s.moves
 
--- the grid that stands now, as it is asked about points
+-- the grid after the last move, as it is asked about points
 abbrev pub present : Standing → GridValue
 present s = record { lines = s.lines; colours = board_of s }
 
@@ -66,7 +66,7 @@ present s = record { lines = s.lines; colours = board_of s }
 abbrev pub with_move : Standing → Move → Standing
 with_move s m = record s { moves = s.moves ++ m ∷ [] }
 
--- the standing with these moves played after those that stand
+-- the standing with these moves played after its own
 abbrev pub with_moves : Standing → List Move → Standing
 with_moves s [] = s
 with_moves s (m ∷ moves) = with_moves (with_move s m) moves
@@ -84,11 +84,11 @@ abbrev pub empty_start : ℕ → ℤ → Superko → Standing
 empty_start n komi rule =
     record { lines = n; komi = komi; rule = rule; start = replicate (n * n) None; first = Black; moves = [] }
 
--- neither a stone nor a move stands
+-- there is neither a stone nor a move
 abbrev pub is_vacant_standing : Standing → Bool
 is_vacant_standing s = not (list_any is_some s.start) && length s.moves == 0
 
--- no move stands over the colours of this grid, and the rule is the positional one
+-- no move was played on the colours of this grid, and the rule is the positional one
 abbrev pub started : GridValue → Colour → Standing
 started grid first =
     record { lines = grid.lines; komi = pos 0; rule = Positional; start = grid.colours; first = first; moves = [] }
@@ -145,7 +145,7 @@ abbrev pub IsOccupied : Standing → Vertex → Type 0
 IsOccupied s Pass = ⊥
 IsOccupied s (At p) = IsOn s.lines p × (colour_at (board_of s) (number_of s.lines p) ≢ None)
 
--- what is seen stood after k moves, and not after fewer
+-- this was seen after k moves, and not after fewer
 abbrev pub IsFirstAt : List Seen → Seen → ℕ → Type 0
 IsFirstAt xs x k =
     (k < length xs) × (slice_index_or xs k ([], None) ≡ x) × ((j : ℕ) → j < k → slice_index_or xs j ([], None) ≢ x)

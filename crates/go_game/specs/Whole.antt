@@ -1,4 +1,4 @@
--- Everything that a game holds, as a function of what it stands for.
+-- Everything that a game holds, as a function of its standing.
 use Rattle.std.specs.Prelude.{◌+◌, ℕ, List, [], ◌∷◌, Option, Some, None, if◌then◌else◌}
 use Rattle.go_board.specs.declared.colour.Colour.{Colour}
 use Rattle.go_board.specs.Colours.{Colouring}

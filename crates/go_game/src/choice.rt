@@ -1,5 +1,5 @@
 //! What is legal, and the plain choice of a play. Plays that take nothing are judged without being
-//! played; others are tried on the game itself, and taken back.
+//! played. Others are tried on the game itself, and taken back.
 ghost use Rattle.std.specs.Prelude.{◌≡◌, ◌≢◌, ◌<◌, ◌≤◌, ◌+◌, ◌*◌, ◌↔◌, false, true, Contains, IfOk, IsTrue, OnErr, None, Some, slice_set};
 ghost use Rattle.go_game.specs.inner.Trials.{better_of};
 
@@ -15,15 +15,15 @@ pub enum Judged {
     Illegal,
     /// It is legal and takes nothing. It wasn't played.
     Quiet,
-    /// It is legal, takes stones, and stands as the last move.
-    Played,
+    /// It is legal and takes stones. Its stone is still placed: the caller takes it back.
+    StillPlaced,
 }
 
-/// A play, and what it comes to for its colour.
+/// A play, and what its colour gains by it.
 #[derive(Clone, Copy)]
 pub struct Trial {
     pub point: Point,
-    /// By how many points the colour is ahead after the play, komi aside.
+    /// By how many points the colour is ahead after the play, without komi.
     pub lead: i32,
     /// How many liberties the placed stone's chain has then, and 0 if it is gone.
     pub liberties: u16,
@@ -62,9 +62,9 @@ impl<A: Allocator + Copy> Game<A> {
     ghost use Rattle.go_board.specs.Grids.{stone_at};
     ghost use Rattle.go_board.specs.Points.{IsOn, number_of};
 
-    /// Whether the rules allow a move; one off the board isn't legal. A play that takes stones is
-    /// tried on the game, and taken back also where there was no memory for it. There is memory for
-    /// all else: a pass, a point off the board or with a stone, and a play that takes nothing.
+    /// Whether the rules allow a move; one off the board isn't legal. A play that takes stones is tried on
+    /// the game, and taken back also where there was no memory for it. No other move needs memory: a pass,
+    /// a point off the board or with a stone, and a play that takes nothing.
     pub fn legal(&mut self, made: Move) -> Result<bool, AllocError>
         ensures rules { IfOk result
             (λ legal. IsTrue legal ↔ IsLegal self.old.standing made.colour made.vertex) }
@@ -86,7 +86,7 @@ impl<A: Allocator + Copy> Game<A> {
             Vertex::At(p) => match self.judge(made.colour, p)? {
                 Judged::Illegal => Ok(false),
                 Judged::Quiet => Ok(true),
-                Judged::Played => {
+                Judged::StillPlaced => {
                     self.undo();
                     Ok(true)
                 }
@@ -103,7 +103,7 @@ impl<A: Allocator + Copy> Game<A> {
         p.on(self.size()) && self.colour_at(p).is_none()
     }
 
-    /// Judges a play on an empty point: by a glance where it takes nothing, and else by playing it.
+    /// Judges a play on an empty point: by its neighbours where it takes nothing, else by playing it.
     fn judge(&mut self, colour: Colour, p: Point) -> Result<Judged, AllocError>
         requires on { IsOn self.old.standing.lines p }
         requires vacant { stone_at (present self.old.standing) p ≡ None }
@@ -119,8 +119,8 @@ impl<A: Allocator + Copy> Game<A> {
             let new = self.leaves_new(colour, p);
             return Ok(if new { Judged::Quiet } else { Judged::Illegal });
         }
-        match self.put(colour, p) {
-            Ok(_) => Ok(Judged::Played),
+        match self.place_stone(colour, p) {
+            Ok(_) => Ok(Judged::StillPlaced),
             Err(PlayError::Repeats(_)) => Ok(Judged::Illegal),
             Err(_) => Err(AllocError),
         }
@@ -178,8 +178,8 @@ impl<A: Allocator + Copy> Game<A> {
         Ok(best)
     }
 
-    /// What the play on a point comes to, or none where it isn't legal. It is played only where it may
-    /// take stones.
+    /// The trial of the play on a point, or none where it isn't legal. It is played only where it may take
+    /// stones.
     fn try_at(
         &mut self,
         holdings: &Holdings,
@@ -212,7 +212,7 @@ impl<A: Allocator + Copy> Game<A> {
                     liberties,
                 }))
             }
-            Judged::Played => {
+            Judged::StillPlaced => {
                 let trial = Trial {
                     point,
                     lead: self.lead(colour),
@@ -224,8 +224,8 @@ impl<A: Allocator + Copy> Game<A> {
         }
     }
 
-    /// Whether a play on an empty point is legal, where it takes nothing: whether the superko rule
-    /// didn't see what it leaves.
+    /// Whether a play on an empty point that takes nothing is legal: whether the superko rule didn't see what
+    /// it leaves.
     fn leaves_new(&self, colour: Colour, p: Point) -> bool
         requires on { IsOn self.now.standing.lines p }
         requires vacant { stone_at (present self.now.standing) p ≡ None }
@@ -244,8 +244,8 @@ impl<A: Allocator + Copy> Game<A> {
         self.history.look_up(&key).is_none()
     }
 
-    /// Whether no stone of this colour stood on a point since the start. Its contract speaks of yes
-    /// alone: plays that were taken back count too.
+    /// Whether no stone of this colour was on a point since the start. Its contract says only what yes
+    /// means, since plays that were taken back count too.
     fn is_first_there(&self, colour: Colour, p: Point) -> bool
         requires { IsOn self.now.standing.lines p }
         ensures { (x : Seen) → IsTrue result → Contains (stood_of self.now.standing) x
@@ -254,7 +254,7 @@ impl<A: Allocator + Copy> Game<A> {
         !self.placed.has(colour, p) && self.start_at(p) != Some(colour)
     }
 
-    /// By how many points a colour is ahead, komi aside.
+    /// By how many points a colour is ahead, without komi.
     fn lead(&self, colour: Colour) -> i32
         ensures { result ≡ lead_of self.now.standing colour }
     {

@@ -1,5 +1,5 @@
-//! A game with its komi and its superko rule, and what it tells of its moves and its board. Starts from a
-//! grid, plays with their undo, and the choice of a play are in files of their own.
+//! A game with its komi and its superko rule, and the questions about its moves and its board. Starts from
+//! a grid, plays and undo, and the choice of a play are in files of their own.
 ghost use Rattle.std.specs.Prelude.{◌≡◌, ◌<◌, ◌+◌, ◌*◌, [], pos, false, IsSome, length, map, slice_get};
 
 use crate::Superko;
@@ -36,8 +36,8 @@ pub struct Game<A: Allocator + Copy> {
     pub(crate) history: History<A>,
     /// The stones of each colour that were taken.
     pub(crate) prisoners: Prisoners,
-    /// Where stones were put since the start, by plays that were taken back too: a play that takes
-    /// nothing, where none of its colour stood, repeats nothing.
+    /// Where stones were placed since the start, also by plays that were taken back. A play that takes
+    /// nothing, on a point where its colour never was, repeats nothing.
     pub(crate) placed: ByColour<Rows>,
 }
 
@@ -140,8 +140,7 @@ impl<A: Allocator + Copy> Game<A> {
         self.superko
     }
 
-    /// Sets the superko rule, while no move stands. It is no move: undo leaves it. It takes no
-    /// memory.
+    /// Sets the superko rule, where no move was played. It is no move: undo leaves it. It takes no memory.
     pub fn set_superko(&mut self, superko: Superko)
         requires { self.old.standing.moves ≡ [] }
         ensures rule { self.new.standing ≡ record self.old.standing { rule = superko } }
@@ -153,7 +152,7 @@ impl<A: Allocator + Copy> Game<A> {
         self.history.restart(key);
     }
 
-    /// How many moves stand.
+    /// The number of moves.
     pub fn move_count(&self) -> usize
         ensures { result ≡ length self.now.standing.moves }
     {
@@ -185,7 +184,7 @@ impl<A: Allocator + Copy> Game<A> {
         self.start.get(p)
     }
 
-    /// Whether neither a stone nor a move stands.
+    /// Whether there is neither a stone nor a move.
     pub fn is_vacant(&self) -> bool
         ensures { result ≡ is_vacant_standing self.now.standing }
     {
@@ -203,8 +202,8 @@ impl<A: Allocator + Copy> Game<A> {
         self.resize(self.size());
     }
 
-    /// An empty board of this size, Black to move. The komi and the superko rule stay. The memory for
-    /// the moves is given back at once, list by list, and none of them is looked at.
+    /// An empty board of this size, Black to move. The komi and the superko rule stay. The memory of the
+    /// moves is freed list by list, without a look at any move.
     pub fn resize(&mut self, size: Size)
         ensures start { self.new.standing ≡ empty_start size self.old.standing.komi
             self.old.standing.rule }
@@ -321,7 +320,7 @@ impl<A: Allocator + Copy> Game<A> {
         self.history.look_up(&key)
     }
 
-    /// By how many hundredths of a point Black is ahead, komi counted.
+    /// By how many hundredths of a point Black is ahead, with komi.
     pub fn margin(&self) -> i64
         ensures { result ≡ margin_of self.now.standing }
     {

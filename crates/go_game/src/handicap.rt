@@ -21,7 +21,7 @@ pub fn greatest_handicap(size: Size) -> u32
     if lines == 7 || lines % 2 == 0 { 4 } else { 9 }
 }
 
-/// Where so many handicap stones stand, or none where the number isn't from 2 to the greatest.
+/// The points of `number` handicap stones, or none where the number isn't from 2 to the greatest.
 pub fn fixed_points(size: Size, number: u32) -> Option<ArrayVec<Point, 9>>
     ensures points { option_map (λ points. points.items) result ≡ fixed size number }
     ensures on { IfSome result (λ points. All (IsOn size) points.items) }
@@ -58,21 +58,21 @@ fn points_of(lines: u8, number: u32) -> ArrayVec<Point, 9>
     points
 }
 
-/// How many of the four corners so many stones take.
+/// How many of the four corners are taken by this number of stones.
 fn first_of(number: u32) -> usize
     ensures { result ≡ min 4 number }
 {
     4.min(number as usize)
 }
 
-/// Whether so many stones take the centre.
+/// Whether this number of stones takes the centre.
 fn takes_centre(number: u32) -> bool
     ensures { result ≡ (nat_lt 4 number && number % 2 == 1) }
 {
     number > 4 && number % 2 == 1
 }
 
-/// The line near an edge on which stones stand, from 0.
+/// The line near an edge that has handicap stones, from 0.
 fn near_line(lines: u8) -> u8
     ensures line { result ≡ near lines }
     ensures small { result ≤ 3 }

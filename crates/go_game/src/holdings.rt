@@ -1,7 +1,8 @@
-//! What the colours of a board hold, from which plays that take nothing are judged.
+//! What each colour of a board holds. Plays that take nothing are judged from that.
 ghost use Rattle.std.specs.Prelude.{◌≡◌, ◌<◌, ◌≤◌, ◌+◌, ◌*◌, ◌-ℤ◌, pos, ℕ, Some, None, slice_set};
-ghost use Rattle.go_board.specs.Colours.{Colouring, colour_at};
+ghost use Rattle.go_board.specs.Colours.{Colouring, colour_at, other};
 ghost use Rattle.go_board.specs.Points.{IsOn, number_of};
+ghost use Rattle.go_board.specs.Rows.{rows_of};
 ghost use Rattle.go_board.specs.declared.colour.Colour.{Colour};
 ghost use Rattle.go_board.specs.declared.rows.TheConstants.{ROWS};
 ghost use Rattle.go_chains.specs.Boards.{HoldsStone, grid_of};
@@ -11,7 +12,7 @@ ghost use Rattle.go_game.specs.inner.Trials.{AreHoldings};
 
 use go_board::gains::{gain_of, own_held_with, theirs_held_with};
 use go_board::laws::points_by_number;
-use go_board::rows::{ROWS, Rows, count_alone, held, put_place, row_and_column};
+use go_board::rows::{ByColour, ROWS, Rows, count_alone, held, put_place, row_and_column};
 use go_board::{Colour, Point};
 use go_chains::Board;
 
@@ -20,6 +21,17 @@ pub(crate) fn ahead(own: u16, theirs: u16) -> i32
     ensures { result ≡ pos own -ℤ pos theirs }
 {
     i32::from(own) - i32::from(theirs)
+}
+
+/// The stones of a colour, and those of the other.
+fn own_and_theirs(stones: &ByColour<Rows>, colour: Colour) -> (Rows, Rows)
+    ensures own { result.0 ≡ rows_of stones.now colour }
+    ensures theirs { result.1 ≡ rows_of stones.now (other colour) }
+{
+    match colour {
+        Colour::Black => (stones.black, stones.white),
+        Colour::White => (stones.white, stones.black),
+    }
 }
 
 /// What a colour and the other have on a board. A colour holds its stones, and each empty point that
@@ -42,32 +54,22 @@ impl Holdings {
         ensures { AreHoldings board.now.lines (grid_of board.now) colour result }
     {
         let lines = usize::from(board.size().lines());
-        let stones = board.stones();
-        let black_held = held(&stones.black, &stones.white, lines);
-        let white_held = held(&stones.white, &stones.black, lines);
-        let black_area = count_alone(&black_held, &white_held, lines);
-        let white_area = count_alone(&white_held, &black_held, lines);
-        match colour {
-            Colour::Black => Holdings {
-                own: stones.black,
-                theirs: stones.white,
-                own_held: black_held,
-                theirs_held: white_held,
-                own_area: black_area,
-                theirs_area: white_area,
-            },
-            Colour::White => Holdings {
-                own: stones.white,
-                theirs: stones.black,
-                own_held: white_held,
-                theirs_held: black_held,
-                own_area: white_area,
-                theirs_area: black_area,
-            },
+        let (own, theirs) = own_and_theirs(&board.stones(), colour);
+        let own_held = held(&own, &theirs, lines);
+        let theirs_held = held(&theirs, &own, lines);
+        let own_area = count_alone(&own_held, &theirs_held, lines);
+        let theirs_area = count_alone(&theirs_held, &own_held, lines);
+        Holdings {
+            own,
+            theirs,
+            own_held,
+            theirs_held,
+            own_area,
+            theirs_area,
         }
     }
 
-    /// By how many points the colour is ahead, komi aside.
+    /// By how many points the colour is ahead, without komi.
     pub(crate) fn lead(&self) -> i32
         ensures { (n : ℕ) (g : Colouring) (c : Colour) → AreHoldings n g c self.now
             → result ≡ lead_on n g c }
@@ -75,8 +77,8 @@ impl Holdings {
         ahead(self.own_area, self.theirs_area)
     }
 
-    /// By how many points this colour is ahead after a play on an empty point that takes nothing, komi
-    /// aside.
+    /// By how many points this colour is ahead after a play on an empty point that takes nothing, without
+    /// komi.
     pub(crate) fn lead_with(&self, board: &Board, colour: Colour, p: Point) -> i32
         requires holdings { AreHoldings board.now.lines (grid_of board.now) colour self.now }
         requires on { IsOn board.now.lines p }
@@ -91,7 +93,7 @@ impl Holdings {
     }
 
     /// By how many points the colour is ahead with a stone on the empty point in this row and column,
-    /// komi aside: from what its neighbours tell of it, or by counting the areas anew.
+    /// without komi: what the stone gains by its neighbours, or else by counting the areas anew.
     fn lead_where(&self, lines: usize, row: usize, col: usize) -> i32
         requires lines { lines ≤ ROWS }
         requires row { row < lines }
@@ -116,7 +118,7 @@ impl Holdings {
         }
     }
 
-    /// The same, by counting the areas anew.
+    /// The result of `lead_where`, by counting the areas anew.
     fn lead_counted(&self, lines: usize, row: usize, col: usize) -> i32
         requires lines { lines ≤ ROWS }
         requires row { row < lines }

@@ -1,4 +1,4 @@
-//! Laws about what a game stands for, each the contract of a function that does nothing.
+//! Laws about the standing of a game, each the contract of a function that does nothing.
 ghost use Rattle.go_game.specs.Laws.{CellsRestored, ChoiceByTheRule, ChoiceIsLegal, CostsOfATurn, LegalByTheRules, MovesTakenBack, PositionalByPositions, SituationalBySituations, WholeStateRestored};
 
 use go_board::laws::points_by_number;

@@ -1,12 +1,12 @@
 //! A game of Go: its start and its moves, what is legal, prisoners, and exact undo.
 //!
 //! - [`Game`]: begins empty, with handicap stones or from a grid; plays moves and takes them back;
-//!   tells the board, its chains, prisoners, areas and margin; tries moves and chooses one.
+//!   answers for the board, its chains, prisoners, areas and margin; tries moves and chooses one.
 //! - [`Superko`]: which repetitions are refused.
 //! - [`Taken`]: how many stones a move took.
 //! - [`PlayError`], [`SetupError`]: why a move or a start is refused.
 //! - [`Area`]: how many points count for each colour.
-//! - [`fixed_points`], [`greatest_handicap`], [`stones_on`]: where handicap stones stand.
+//! - [`fixed_points`], [`greatest_handicap`], [`stones_on`]: where handicap stones go.
 //! - [`ChainPoints`]: the stones of a chain, or its liberties, one after another.
 //! - [`score_text`], [`hundredths_text`]: scores and komi as they are written.
 //!

@@ -42,10 +42,10 @@ impl<A: Allocator + Copy> Game<A> {
         if self.colour_at(p).is_some() {
             return Err(PlayError::Occupied);
         }
-        self.put(made.colour, p)
+        self.place_stone(made.colour, p)
     }
 
-    /// Passes: always legal, refused for want of memory alone.
+    /// Passes. A pass is always legal; it is refused only where there is no memory for it.
     fn pass(&mut self, colour: Colour) -> Result<Taken, PlayError>
         ensures ok { IfOk result (λ taken. (taken.theirs ≡ 0) × (taken.own ≡ 0)) }
         ensures played { OnOk result (self.new.standing
@@ -75,9 +75,9 @@ impl<A: Allocator + Copy> Game<A> {
         Ok(taken)
     }
 
-    /// Places a stone on an empty point where that is legal. The board is played on first, and the
-    /// play taken back where it repeats or there is no memory to keep it.
-    pub(crate) fn put(&mut self, colour: Colour, p: Point) -> Result<Taken, PlayError>
+    /// Places a stone on an empty point where that is legal. The board is played on first, and the play is
+    /// taken back where it repeats or there is no memory to keep it.
+    pub(crate) fn place_stone(&mut self, colour: Colour, p: Point) -> Result<Taken, PlayError>
         requires on { IsOn self.old.standing.lines p }
         requires vacant { stone_at (present self.old.standing) p ≡ None }
         ensures repeats { (k : ℕ) → result ≡ Err (PlayError.Repeats k)
@@ -107,7 +107,7 @@ impl<A: Allocator + Copy> Game<A> {
         let step = Step { made, taken };
         let mut key = self.superko.key(Packed::empty(), colour.other());
         self.board.write_pack(&mut key.pack);
-        match note(&key, &mut self.history, &mut self.steps, step) {
+        match record_step(&key, &mut self.history, &mut self.steps, step) {
             Ok(()) => {
                 self.prisoners.add(colour, taken);
                 self.placed.put(colour, p);
@@ -148,9 +148,8 @@ impl<A: Allocator + Copy> Game<A> {
     }
 }
 
-/// Notes a step in the history by this key and among the steps, unless what has the key stood
-/// before.
-fn note<A: Allocator + Copy>(
+/// Adds a step to the steps, and its key to the history, unless the key came before.
+fn record_step<A: Allocator + Copy>(
     key: &Key,
     history: &mut History<A>,
     steps: &mut Vec<Step, A>,

@@ -4,8 +4,8 @@ ghost use Rattle.go_game.specs.Scores.{decimals_of, hundredths_word, score_word,
 use arrayvec::ArrayString;
 use itoa::Buffer;
 
-/// Hundredths of a point as a decimal number: a sign where it is negative, the whole part, and one
-/// or two decimals without zeros at their end.
+/// Hundredths of a point as a decimal number: a minus sign where it is negative, the whole part, and at
+/// most two decimals without zeros at their end.
 pub fn hundredths_text(hundredths: i64) -> ArrayString<24>
     ensures { result.bytes ≡ hundredths_word hundredths }
 {
@@ -28,21 +28,21 @@ pub fn score_text(margin: i64) -> ArrayString<24>
     sized("", 0)
 }
 
-/// A front, and so many hundredths as a decimal number.
-fn sized(front: &str, hundredths: u64) -> ArrayString<24>
-    requires room { length front.now ≤ 2 }
+/// A prefix, and a number of hundredths as a decimal number.
+fn sized(prefix: &str, hundredths: u64) -> ArrayString<24>
+    requires room { length prefix.now ≤ 2 }
     requires size { hundredths ≤ 2 ^ 63 }
-    ensures { result.bytes ≡ front.now ++ size_text hundredths }
+    ensures { result.bytes ≡ prefix.now ++ size_text hundredths }
 {
     let mut text = ArrayString::new();
-    text.push_str(front);
+    text.push_str(prefix);
     let mut digits = Buffer::new();
     text.push_str(digits.format(hundredths / 100));
     push_decimals(&mut text, (hundredths % 100) as u8);
     text
 }
 
-/// Appends a point and so many hundredths, without zeros at the end.
+/// Appends a point and these hundredths, without zeros at the end.
 fn push_decimals(text: &mut ArrayString<24>, hundredths: u8)
     requires room { length text.old.bytes ≤ 20 }
     requires few { hundredths < 100 }

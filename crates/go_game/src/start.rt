@@ -7,7 +7,7 @@ ghost use Rattle.go_board.specs.declared.size.TheConstants.{MAX_LINES};
 ghost use Rattle.go_chains.specs.Sound.{IsKept};
 ghost use Rattle.go_chains.specs.Boards.{grid_of};
 ghost use Rattle.go_game.specs.Counts.{most_to_fill};
-ghost use Rattle.go_game.specs.inner.Building.{IsFront, most_to_put};
+ghost use Rattle.go_game.specs.inner.Building.{IsFilledTo, most_to_put};
 ghost use Rattle.go_game.specs.Standings.{empty_start, started};
 
 use crate::{Game, SetupError, Superko};
@@ -35,9 +35,9 @@ impl<A: Allocator + Copy> Game<A> {
         }
     }
 
-    /// Begins anew from this grid, with komi 0, positional superko and this colour to move. Where a
-    /// stone doesn't reach empty, the game stays as it was. Where there is no memory for the plays
-    /// that put the stones, its board is empty, as after `resize`.
+    /// Begins anew from this grid, with komi 0, positional superko and this colour to move. If a stone
+    /// doesn't reach empty, the game stays as it was. If there is no memory for the plays that place the
+    /// stones, its board is empty, as after `resize`.
     pub fn begin_from(&mut self, grid: &Grid, first: Colour) -> Result<(), SetupError>
         ensures ok { OnOk result (self.new.standing ≡ started grid.now first) }
         ensures count { self.new.count ≡ self.old.count }
@@ -73,8 +73,8 @@ impl<A: Allocator + Copy> Game<A> {
     }
 }
 
-/// Puts the stones of a grid, each of which reaches an empty point, on an empty board. They are
-/// played one after the other, and none of these plays takes a stone.
+/// Places the stones of a grid, each of which reaches an empty point, on an empty board. They are played
+/// one after the other, and none of these plays takes a stone.
 fn fill<A: Allocator + Copy>(
     board: &mut Board,
     grid: &Grid,
@@ -98,7 +98,7 @@ fn fill<A: Allocator + Copy>(
     Ok(())
 }
 
-/// Puts the stone of a point on the board, if there is one.
+/// Plays the stone of a grid's point on the board, if there is one.
 fn put_stone<A: Allocator + Copy>(
     grid: &Grid,
     number: u16,
@@ -110,10 +110,10 @@ fn put_stone<A: Allocator + Copy>(
     requires alive { AreAlive grid.now.lines grid.now.colours }
     requires lines { board.old.lines ≡ grid.now.lines }
     requires kept { IsKept board.old.lines board.old.cells }
-    requires front { IsFront grid.now.lines grid.now.colours number (grid_of board.old) }
+    requires filled { IsFilledTo grid.now.lines grid.now.colours number (grid_of board.old) }
     ensures lines { board.new.lines ≡ grid.now.lines }
     ensures kept { IsKept board.new.lines board.new.cells }
-    ensures front { OnOk result (IsFront grid.now.lines grid.now.colours (number + 1)
+    ensures filled { OnOk result (IsFilledTo grid.now.lines grid.now.colours (number + 1)
         (grid_of board.new)) }
     ensures writes { length board.new.trace
         ≤ length board.old.trace + most_to_put grid.now number }

@@ -9,8 +9,8 @@ use Rattle.go_game.specs.Counts.{stones_in}
 abbrev pub IsPart : Colouring → Colouring → Type 0
 IsPart f g = (k : ℕ) → (colour_at f k ≡ colour_at g k) ⊎ (colour_at f k ≡ None)
 
--- the colours of the first i points stand, and the rest is empty
-pub record IsFront (n : ℕ) (g : Colouring) (i : ℕ) (now : Colouring) : Type 0 where
+-- the first i points have their colours, and the rest is empty
+pub record IsFilledTo (n : ℕ) (g : Colouring) (i : ℕ) (now : Colouring) : Type 0 where
   pub whole : length now ≡ n * n
   pub there : (k : ℕ) → k < i → k < n * n → colour_at now k ≡ colour_at g k
   pub empty : (k : ℕ) → i ≤ k → colour_at now k ≡ None

@@ -1,5 +1,5 @@
--- What the body of a game keeps beside its start and its moves: what each move took, a board that went through them, the log
--- of its plays, and the history.
+-- What the body of a game keeps beside its start and its moves: what each move took, a board that went through them,
+-- the log of its plays, and the history.
 use Rattle.std.specs.Prelude.{◌≡◌, ◌*◌, ℕ, ℤ, List, [], ◌∷◌, None, map}
 use Rattle.go_board.specs.declared.colour.Colour.{Colour}
 use Rattle.go_board.specs.declared.colour.Colour.TheVariants.{Black, White}
@@ -38,7 +38,8 @@ abbrev pub ArePlayed : ℕ → Colouring → List Step → Type 0
 ArePlayed n g [] = Unit {0}
 ArePlayed n g (s ∷ steps) = IsPlayed n g s × ArePlayed n (after_move n g s.made) steps
 
--- what stands before the first move: the size, the stones, the komi in hundredths, the superko rule, and who moves first
+-- what there is before the first move: the size, the stones, the komi in hundredths, the superko rule, and who moves
+-- first
 pub record Start : Type 0 where
   pub lines : ℕ
   pub colours : Colouring
@@ -47,14 +48,23 @@ pub record Start : Type 0 where
   pub first : Colour
 
 abbrev pub start_of : Superko → GridValue → ℤ → Colour → Start
-start_of rule grid komi first = record { lines = grid.lines; colours = grid.colours; komi = komi; rule = rule; first = first }
+start_of rule grid komi first =
+    record { lines = grid.lines; colours = grid.colours; komi = komi; rule = rule; first = first }
 
 -- the standing of a start and the steps
 abbrev pub standing_of : Start → List Step → Standing
-standing_of s steps = record { lines = s.lines; komi = s.komi; rule = s.rule; start = s.colours; first = s.first; moves = map made_of steps }
+standing_of s steps = record {
+  lines = s.lines;
+  komi = s.komi;
+  rule = s.rule;
+  start = s.colours;
+  first = s.first;
+  moves = map made_of steps;
+}
 
 -- the board went through the moves from cells that say the start
-pub record IsTracked (n : ℕ) (start : Colouring) (moves : List Move) (board : BoardValue) (log : List (List Change)) : Type 0 where
+pub record IsTracked (n : ℕ) (start : Colouring) (moves : List Move) (board : BoardValue) (log : List (List Change)) :
+    Type 0 where
   pub lines : board.lines ≡ n
   pub first : List ℕ
   pub kept : IsKept n first
@@ -69,7 +79,8 @@ pub record IsHeld (start : Start) (steps : List Step) (black white : ℕ) : Type
   pub white_taken : white ≡ prisoners_of (standing_of start steps) White
 
 -- all that a game keeps
-pub record IsKeeping (start : Start) (steps : List Step) (board : BoardValue) (log : List (List Change)) (history : HistoryValue) (black white : ℕ) : Type 0 where
+pub record IsKeeping (start : Start) (steps : List Step) (board : BoardValue) (log : List (List Change))
+    (history : HistoryValue) (black white : ℕ) : Type 0 where
   pub held : IsHeld start steps black white
   pub tracked : IsTracked start.lines start.colours (map made_of steps) board log
-  pub told : StandsFor (start.lines * start.lines) history (stood_of (standing_of start steps))
+  pub seen : StandsFor (start.lines * start.lines) history (stood_of (standing_of start steps))

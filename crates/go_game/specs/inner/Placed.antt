@@ -6,7 +6,7 @@ use Rattle.go_board.specs.Rows.{IsIn, rows_of}
 use Rattle.go_board.specs.declared.rows.ByColour.{ByColour}
 use Rattle.go_game.specs.Standings.{Seen}
 
--- each stone of it stood at the start, or was put by a play that is among these
+-- each stone of it was there at the start, or was placed by a play that is among these
 abbrev pub IsOfPlaced : ℕ → Colouring → ByColour (List ℕ) → Colouring → Type 0
 IsOfPlaced n start placed g = (row col : ℕ) (c : Colour) → row < n → col < n → colour_at g (row * n + col) ≡ Some c
     → (colour_at start (row * n + col) ≡ Some c) ⊎ IsIn (rows_of placed c) row col

@@ -12,14 +12,16 @@ use Rattle.go_chains.specs.Rewound.{NamesCells, rewound}
 use Rattle.go_chains.specs.Sound.{IsKept}
 use Rattle.go_chains.specs.Boards.{colouring_of}
 
--- the turn leads from these cells to the next, and takes its changes off the front of the plays: a pass has none,
+-- the turn leads from these cells to the next, and takes its changes off the prefix of the plays: a pass has none,
 -- and a play's changes put back give the cells before it
 abbrev pub IsTurn : ℕ → List ℕ → Colour → Vertex → List (List Change) → List ℕ → List (List Change) → Type 0
 IsTurn n cells c Pass plays next rest = (next ≡ cells) × (rest ≡ plays)
-IsTurn n cells c (At p) plays next rest = (changes : List Change) × (plays ≡ changes ∷ rest) × (rewound next changes ≡ cells) × NamesCells CELLS changes
+IsTurn n cells c (At p) plays next rest = (changes : List Change) × (plays ≡ changes ∷ rest)
+    × (rewound next changes ≡ cells) × NamesCells CELLS changes
     × IsKept n next × (colouring_of n next ≡ moved n (colouring_of n cells) c (number_of n p))
 
 -- the moves lead from the first cells to the last, one turn after the other, with these plays
 abbrev pub WentThrough : ℕ → List ℕ → List Move → List (List Change) → List ℕ → Type 0
 WentThrough n first [] plays last = (plays ≡ []) × (first ≡ last)
-WentThrough n first (m ∷ moves) plays last = (next : List ℕ) × (rest : List (List Change)) × IsTurn n first m.colour m.vertex plays next rest × WentThrough n next moves rest last
+WentThrough n first (m ∷ moves) plays last = (next : List ℕ) × (rest : List (List Change))
+    × IsTurn n first m.colour m.vertex plays next rest × WentThrough n next moves rest last

@@ -11,7 +11,7 @@ use Rattle.go_board.specs.Rows.{AreHeld, AreStones}
 use Rattle.go_chains.specs.Playing.{reads_around}
 use Rattle.go_game.specs.Counts.{IsAsBefore, IsLogged, most_for}
 use Rattle.go_game.specs.declared.choice.Judged.{Judged}
-use Rattle.go_game.specs.declared.choice.Judged.TheVariants.{Illegal, Played, Quiet}
+use Rattle.go_game.specs.declared.choice.Judged.TheVariants.{Illegal, StillPlaced, Quiet}
 use Rattle.go_game.specs.declared.choice.Trial.{Trial}
 use Rattle.go_game.specs.declared.holdings.Holdings.{Holdings}
 use Rattle.go_game.specs.Choices.{is_better, lead_after, liberties_after, liberties_on, may_play, outranks}
@@ -54,7 +54,13 @@ IsBestTrial s c i (Some t) = (p : ℕ) × IsBestBelow s c i p × (t ≡ trial_at
 
 -- the play on a point, as a trial of it, where it is legal
 abbrev pub tried_on : Standing → Colour → Point → Option Trial
-tried_on s c p = if is_legal s c (At p) then Some (record { point = p; lead = lead_after s c (number_of s.lines p); liberties = liberties_after s c (number_of s.lines p) }) else None
+tried_on s c p = if is_legal s c (At p) then
+    Some (record {
+      point = p;
+      lead = lead_after s c (number_of s.lines p);
+      liberties =
+          liberties_after s c (number_of s.lines p);
+    }) else None
 
 -- the stones of c and of the other colour, and what they hold
 pub record AreHoldings (n : ℕ) (g : Colouring) (c : Colour) (h : Holdings) : Type 0 where
@@ -66,14 +72,15 @@ pub record AreHoldings (n : ℕ) (g : Colouring) (c : Colour) (h : Holdings) : T
   pub own_area : h.own_area ≡ area n g c
   pub theirs_area : h.theirs_area ≡ area n g (other c)
 
--- what is found of a play on p: an illegal one, and one that takes nothing, leave the game as it was; any other is the last move
+-- what is found of a play on p: an illegal one, and one that takes nothing, leave the game as it was; any other is the
+-- last move
 abbrev pub IsJudged : Colour → Point → Judged → GameValue → GameValue → Type 0
 IsJudged c p Illegal old new = (is_legal old.standing c (At p) ≡ false) × IsAsBefore old new
 IsJudged c p Quiet old new = (is_legal old.standing c (At p) ≡ true) × IsAsBefore old new
     × (after_vertex old.standing.lines (board_of old.standing) c (At p)
     ≡ slice_set (board_of old.standing) (number_of old.standing.lines p) (Some c))
     × (new.count ≤ old.count + reads_around)
-IsJudged c p Played old new = (is_legal old.standing c (At p) ≡ true) × Takes old.standing c (At p)
+IsJudged c p StillPlaced old new = (is_legal old.standing c (At p) ≡ true) × Takes old.standing c (At p)
     × (new.standing ≡ with_move old.standing (record { colour = c; vertex = At p }))
     × IsLogged old new (most_for old.standing c (At p))
     × (new.count ≤ old.count + 3 * most_for old.standing c (At p))

@@ -8,7 +8,8 @@ use Rattle.go_game.proofs.handicap.points_of.Goals as goal
 take_four : (xs : List Point) (k : ℕ) → length xs ≡ 4 → take (min 4 k) xs ≡ take k xs
 take_four xs k four = elim (cases_lt k 4) [
   | inl few ↦ ap (λ (m : ℕ). take m xs) (let e : min 4 k ≡ k = omega arith in e)
-  | inr all ↦ ap (λ (m : ℕ). take m xs) (let e : min 4 k ≡ 4 = omega arith in e) ∙ take_all 4 xs (omega arith) ∙ sym (take_all k xs (omega arith))
+  | inr all ↦ ap (λ (m : ℕ). take m xs) (let e : min 4 k ≡ 4 = omega arith in e) ∙ take_all 4 xs (omega arith)
+      ∙ sym (take_all k xs (omega arith))
 ]
 
 pub returns : goal.returns

@@ -16,7 +16,8 @@ invariant_of-self-2 g c =
     let i = c.self.inside in
     let start = c.copy-self-inside.result in
     let same = c.copy-self-inside.ensures in
-    let none = ap (λ (v : GameValue). v.standing.moves) c.self.view_is ∙ ap (λ (s : Standing). s.moves) c.resize.ensures.start in (
+    let none = ap (λ (v : GameValue). v.standing.moves) c.self.view_is
+    ∙ ap (λ (s : Standing). s.moves) c.resize.ensures.start in (
       keeping_anew c.packs_tell_colourings_apart.ensures c.self.invariant.0 none
           start c.args.first c.fill.new.board c.restart.new.self c.key-key.result
           (subst (λ (v : GridValue). (0 < v.lines) × (v.lines ≤ MAX_LINES)) (sym same) c.fill.ensures.size)
@@ -24,8 +25,11 @@ invariant_of-self-2 g c =
           (subst (λ (v : GridValue). AreAlive v.lines v.colours) (sym same) c.in_default.ensures.none)
           (c.fill.ensures.lines ∙ ap (λ (v : GridValue). v.lines) (sym same))
           (c.in-Ok.ensures.colours ∙ ap (λ (v : GridValue). v.colours) (sym same))
-          c.fill.ensures.kept c.restart.ensures
-          (ap bytes_of c.key-key.ensures.pack ∙ c.pack.ensures ∙ ap packed_of c.in-Ok.ensures.colours ∙ ap (λ (v : GridValue). packed_of v.colours) (sym same), c.key-key.ensures.mover),
+          c.fill.ensures.kept c.restart.ensures (
+            ap bytes_of c.key-key.ensures.pack ∙ c.pack.ensures ∙ ap packed_of c.in-Ok.ensures.colours
+                ∙ ap (λ (v : GridValue). packed_of v.colours) (sym same),
+            c.key-key.ensures.mover,
+          ),
       placed_start Positional start.lines start.colours c.args.first i.placed (map made_of i.steps.items) none,
     )
 

@@ -24,23 +24,28 @@ none_is (Some x) false e = refl
 
 -- the play takes nothing
 abbrev IsStill : GameValue → Colour → Point → Type 0
-IsStill v d p = moved v.standing.lines (board_of v.standing) d (number_of v.standing.lines p) ≡ slice_set (board_of v.standing) (number_of v.standing.lines p) (Some d)
+IsStill v d p = moved v.standing.lines (board_of v.standing) d (number_of v.standing.lines p) ≡ slice_set
+    (board_of v.standing) (number_of v.standing.lines p) (Some d)
 
 pub returns : goal.returns
 returns g c =
-    let playable = subst (λ (v : GameValue). IsPlayable v.standing.lines (board_of v.standing) (At c.args.p)) (sym c.self.view_is) (c.requires.on, c.requires.vacant) in
+    let playable = subst (λ (v : GameValue). IsPlayable v.standing.lines (board_of v.standing) (At c.args.p))
+    (sym c.self.view_is) (c.requires.on, c.requires.vacant) in
     let quiet = subst (λ (v : GameValue). IsStill v c.args.colour c.args.p) (sym c.self.view_is) c.requires.quiet in
     let known = new_on c.self.invariant.0 c.args.colour c.args.p
-    c.key-key.result (ap bytes_of c.key-key.ensures.pack ∙ c.pack_with-pack.ensures) (c.key-key.ensures.mover ∙ ap (mover_by c.self.inside.superko) c.other.ensures)
+    c.key-key.result (ap bytes_of c.key-key.ensures.pack ∙ c.pack_with-pack.ensures)
+    (c.key-key.ensures.mover ∙ ap (mover_by c.self.inside.superko) c.other.ensures)
     quiet playable c.look_up.result c.look_up.ensures in
-    none_is c.look_up.result c.is_none.result c.is_none.ensures ∙ known ∙ ap (λ (v : GameValue). is_legal v.standing c.args.colour (At c.args.p)) c.self.view_is
+    none_is c.look_up.result c.is_none.result c.is_none.ensures ∙ known
+    ∙ ap (λ (v : GameValue). is_legal v.standing c.args.colour (At c.args.p)) c.self.view_is
 
 pub returns-then-is_first_there : goal.returns-then-is_first_there
 returns-then-is_first_there g c =
     let s = c.args.self.now.standing in
     let whole = whole_board s.lines s.start s.moves c.size.ensures.sound.whole in
     let low = c.points_by_number.ensures.number s.lines c.args.p c.requires.on in
-    let here : colour_at (moved s.lines (board_of s) c.args.colour (number_of s.lines c.args.p)) (number_of s.lines c.args.p) ≡ Some c.args.colour =
+    let here : colour_at (moved s.lines (board_of s) c.args.colour (number_of s.lines c.args.p))
+    (number_of s.lines c.args.p) ≡ Some c.args.colour =
     ap (λ (g : Colouring). colour_at g (number_of s.lines c.args.p)) c.requires.quiet
     ∙ get_or-set_same (board_of s) (number_of s.lines c.args.p) (Some c.args.colour) None (omega (arith, whole, low)) in
     sym (legal_passes s c.args.colour (At c.args.p) (

@@ -11,8 +11,10 @@ pub invariant_of-result : goal.invariant_of-result
 invariant_of-result g c = (
   keeping_empty c.packs_tell_colourings_apart.ensures c.args.size (omega arith, omega arith) c.key.result
       c.new-start.ensures.lines c.new-start.ensures.colours komi_none
-      c.new.ensures.lines c.new.ensures.colours c.new.ensures.kept c.new-2.ensures c.new-4.ensures.items c.new-history.ensures (ap bytes_of c.key.ensures.pack ∙ c.pack.ensures, c.key.ensures.mover),
-  placed_start Positional c.new-start.result.lines c.new-start.result.colours Black c.none.result (map made_of c.new-4.result.items) (ap (map made_of) c.new-4.ensures.items),
+      c.new.ensures.lines c.new.ensures.colours c.new.ensures.kept c.new-2.ensures c.new-4.ensures.items
+      c.new-history.ensures (ap bytes_of c.key.ensures.pack ∙ c.pack.ensures, c.key.ensures.mover),
+  placed_start Positional c.new-start.result.lines c.new-start.result.colours Black c.none.result
+      (map made_of c.new-4.result.items) (ap (map made_of) c.new-4.ensures.items),
 )
 
 pub returns-clause-count : goal.returns-clause-count

@@ -12,7 +12,8 @@ pub returns-clause-kept : goal.returns-clause-kept
 returns-clause-kept g c =
     let t = c.self.invariant.0.tracked in
     subst (λ (v : GameValue). IsKept v.standing.lines v.cells) c.self.view_is
-    (went_kept c.self.inside.start.lines t.first (map made_of c.self.inside.steps.items) c.self.inside.log c.self.inside.board.cells t.kept t.went).0
+    (went_kept c.self.inside.start.lines t.first (map made_of c.self.inside.steps.items) c.self.inside.log
+    c.self.inside.board.cells t.kept t.went).0
 
 pub returns-clause-colours : goal.returns-clause-colours
 returns-clause-colours g c =
@@ -22,7 +23,8 @@ returns-clause-colours g c =
 
 pub returns-clause-changes : goal.returns-clause-changes
 returns-clause-changes g c =
-    subst (λ (v : GameValue). length v.changes ≡ length v.standing.moves) c.self.view_is (as_many (map made_of c.self.inside.steps.items) c.self.inside.log)
+    subst (λ (v : GameValue). length v.changes ≡ length v.standing.moves) c.self.view_is
+    (as_many (map made_of c.self.inside.steps.items) c.self.inside.log)
 
 pub returns-clause-lines : goal.returns-clause-lines
 returns-clause-lines g c = search rules

@@ -15,13 +15,15 @@ use Rattle.go_game.proofs.Placing.{placed_more, placed_now, placed_put}
 use Rattle.go_game.proofs.Played.{made_push, room_held}
 use Rattle.go_game.proofs.Puts.{legal_put, most_is, no_stone, occupied_stone, played_put, repeats_put, same_error, taken_put}
 use Rattle.go_game.proofs.Turns.{keep_back, keep_put, placed, rewinds, whole_board}
-use Rattle.go_game.proofs.game.Game.put.Goals as goal
+use Rattle.go_game.proofs.game.Game.place_stone.Goals as goal
 
 pub returns-in-Err-Occupied-clause-others : goal.returns-in-Err-Occupied-clause-others
 returns-in-Err-Occupied-clause-others g c =
-    let playable = subst (λ (v : GameValue). IsPlayable v.standing.lines (board_of v.standing) (At c.args.p)) (sym c.self.view_is) (c.requires.on, c.requires.vacant) in
+    let playable = subst (λ (v : GameValue). IsPlayable v.standing.lines (board_of v.standing) (At c.args.p))
+    (sym c.self.view_is) (c.requires.on, c.requires.vacant) in
     absurd (no_stone c.self.invariant.0 c.args.colour c.args.p playable
-    (occupied_stone c.play.result c.in-Err-Occupied.field-0 c.in-Err-Occupied.is c.in-Err-Occupied.field-0-is c.play.ensures.occupied))
+    (occupied_stone c.play.result c.in-Err-Occupied.field-0 c.in-Err-Occupied.is c.in-Err-Occupied.field-0-is
+    c.play.ensures.occupied))
 
 pub returns-in-Err-clause-repeats : goal.returns-in-Err-clause-repeats
 returns-in-Err-clause-repeats g c k e =
@@ -31,23 +33,28 @@ returns-in-Err-clause-repeats g c k e =
     (c.key-key.ensures.mover ∙ ap (mover_by c.self.inside.superko) c.other.ensures) k
     (c.in-Err.ensures.repeats k (same_error c.in-Err.error _ e)))
 
-pub returns-in-Ok-note-clause-legal : goal.returns-in-Ok-note-clause-legal
-returns-in-Ok-note-clause-legal g c =
-    let playable = subst (λ (v : GameValue). IsPlayable v.standing.lines (board_of v.standing) (At c.args.p)) (sym c.self.view_is) (c.requires.on, c.requires.vacant) in
+pub returns-in-Ok-record_step-clause-legal : goal.returns-in-Ok-record_step-clause-legal
+returns-in-Ok-record_step-clause-legal g c =
+    let playable = subst (λ (v : GameValue). IsPlayable v.standing.lines (board_of v.standing) (At c.args.p))
+    (sym c.self.view_is) (c.requires.on, c.requires.vacant) in
     subst (λ (v : GameValue). IsLegal v.standing c.args.colour (At c.args.p)) c.self.view_is
     (legal_put c.self.invariant.0 c.args.colour c.args.p c.play.new.self c.in-Ok.ensures.moved
     (record c.key-key.result { pack = c.write_pack.new.packed }) c.write_pack.ensures
-    (c.key-key.ensures.mover ∙ ap (mover_by c.self.inside.superko) c.other.ensures) playable c.in-Ok-note.ensures.lacked)
+    (c.key-key.ensures.mover ∙ ap (mover_by c.self.inside.superko) c.other.ensures) playable
+    c.in-Ok-record_step.ensures.lacked)
 
-pub returns-in-Ok-note-clause-taken : goal.returns-in-Ok-note-clause-taken
-returns-in-Ok-note-clause-taken g c of =
-    taken_put c.self.invariant.0 c.args.colour c.args.p c.play.new.self c.in-Ok.ensures.moved c.in-Ok.taken c.in-Ok.ensures.theirs c.in-Ok.ensures.own of
+pub returns-in-Ok-record_step-clause-taken : goal.returns-in-Ok-record_step-clause-taken
+returns-in-Ok-record_step-clause-taken g c of =
+    taken_put c.self.invariant.0 c.args.colour c.args.p c.play.new.self c.in-Ok.ensures.moved c.in-Ok.taken
+    c.in-Ok.ensures.theirs c.in-Ok.ensures.own of
     ∙ ap (λ (v : GameValue). stones_taken v.standing c.args.colour (At c.args.p) of) c.self.view_is
 
 pub add-requires-clause-black : goal.add-requires-clause-black
 add-requires-clause-black g c =
-    let playable = subst (λ (v : GameValue). IsPlayable v.standing.lines (board_of v.standing) (At c.args.p)) (sym c.self.view_is) (c.requires.on, c.requires.vacant) in
-    let played = played_put c.self.invariant.0 c.args.colour c.args.p c.play.new.self c.in-Ok.ensures.moved c.in-Ok.taken c.in-Ok.ensures.theirs c.in-Ok.ensures.own playable in
+    let playable = subst (λ (v : GameValue). IsPlayable v.standing.lines (board_of v.standing) (At c.args.p))
+    (sym c.self.view_is) (c.requires.on, c.requires.vacant) in
+    let played = played_put c.self.invariant.0 c.args.colour c.args.p c.play.new.self c.in-Ok.ensures.moved
+    c.in-Ok.taken c.in-Ok.ensures.theirs c.in-Ok.ensures.own playable in
     (room_held (record { together = c.taken_and_left.ensures.together; placed = c.taken_and_left.ensures.placed })
     (placed c.args.colour c.args.p c.in-Ok.taken) c.self.invariant.0.held
     (let few = c.self.inside.steps.small in let ok = c.self.inside.steps.ok in let long =
@@ -55,8 +62,10 @@ add-requires-clause-black g c =
 
 pub add-requires-clause-white : goal.add-requires-clause-white
 add-requires-clause-white g c =
-    let playable = subst (λ (v : GameValue). IsPlayable v.standing.lines (board_of v.standing) (At c.args.p)) (sym c.self.view_is) (c.requires.on, c.requires.vacant) in
-    let played = played_put c.self.invariant.0 c.args.colour c.args.p c.play.new.self c.in-Ok.ensures.moved c.in-Ok.taken c.in-Ok.ensures.theirs c.in-Ok.ensures.own playable in
+    let playable = subst (λ (v : GameValue). IsPlayable v.standing.lines (board_of v.standing) (At c.args.p))
+    (sym c.self.view_is) (c.requires.on, c.requires.vacant) in
+    let played = played_put c.self.invariant.0 c.args.colour c.args.p c.play.new.self c.in-Ok.ensures.moved
+    c.in-Ok.taken c.in-Ok.ensures.theirs c.in-Ok.ensures.own playable in
     (room_held (record { together = c.taken_and_left.ensures.together; placed = c.taken_and_left.ensures.placed })
     (placed c.args.colour c.args.p c.in-Ok.taken) c.self.invariant.0.held
     (let few = c.self.inside.steps.small in let ok = c.self.inside.steps.ok in let long =
@@ -67,32 +76,43 @@ rewind-requires-clause-cells g c earlier changes split =
     rewinds
     c.self.invariant.0 c.play.ensures.lines c.in-Ok.ensures.costs.logged earlier changes split
 
-pub invariant_of-self-in-Ok-note : goal.invariant_of-self-in-Ok-note
-invariant_of-self-in-Ok-note g c =
-    let playable = subst (λ (v : GameValue). IsPlayable v.standing.lines (board_of v.standing) (At c.args.p)) (sym c.self.view_is) (c.requires.on, c.requires.vacant) in
+pub invariant_of-self-in-Ok-record_step : goal.invariant_of-self-in-Ok-record_step
+invariant_of-self-in-Ok-record_step g c =
+    let playable = subst (λ (v : GameValue). IsPlayable v.standing.lines (board_of v.standing) (At c.args.p))
+    (sym c.self.view_is) (c.requires.on, c.requires.vacant) in
     let start = c.self.inside.start in
-    let made : map made_of c.note.new.steps.items ≡ map made_of c.self.inside.steps.items ++ made_of
+    let made : map made_of c.record_step.new.steps.items ≡ map made_of c.self.inside.steps.items ++ made_of
     (placed c.args.colour c.args.p c.in-Ok.taken) ∷ [] =
-    ap (λ (xs : List Step). map made_of xs) c.in-Ok-note.ensures.pushed
+    ap (λ (xs : List Step). map made_of xs) c.in-Ok-record_step.ensures.pushed
     ∙ made_push c.self.inside.steps.items (placed c.args.colour c.args.p c.in-Ok.taken) in (
-      keep_put c.packs_tell_colourings_apart.ensures c.args.colour c.args.p c.in-Ok.taken (record c.key-key.result { pack = c.write_pack.new.packed }) c.self.invariant.0 c.in-Ok-note.ensures.pushed
+      keep_put c.packs_tell_colourings_apart.ensures c.args.colour c.args.p c.in-Ok.taken
+          (record c.key-key.result { pack = c.write_pack.new.packed }) c.self.invariant.0
+          c.in-Ok-record_step.ensures.pushed
           (record {
             lines = c.play.ensures.lines;
             moved_to = c.in-Ok.ensures.moved;
-            most = most_of c.self.inside.board.lines (grid_of c.self.inside.board) c.args.colour (number_of c.self.inside.board.lines c.args.p);
+            most = most_of c.self.inside.board.lines (grid_of c.self.inside.board) c.args.colour
+                (number_of c.self.inside.board.lines c.args.p);
             logged = c.in-Ok.ensures.costs.logged;
             kept = c.play.ensures.kept;
             packs = c.write_pack.ensures;
             mover = c.key-key.ensures.mover ∙ ap (mover_by c.self.inside.superko) c.other.ensures;
-            noted = record { known = None; found = sym c.in-Ok-note.ensures.lacked; noted = λ e. c.in-Ok-note.ensures.noted; stood = λ j e. cc };
+            noted = record {
+              known = None;
+              found = sym c.in-Ok-record_step.ensures.lacked;
+              noted = λ e.
+                  c.in-Ok-record_step.ensures.noted;
+              stood = λ j e. cc;
+            };
           })
-          (played_put c.self.invariant.0 c.args.colour c.args.p c.play.new.self c.in-Ok.ensures.moved c.in-Ok.taken c.in-Ok.ensures.theirs c.in-Ok.ensures.own playable)
+          (played_put c.self.invariant.0 c.args.colour c.args.p c.play.new.self c.in-Ok.ensures.moved c.in-Ok.taken
+          c.in-Ok.ensures.theirs c.in-Ok.ensures.own playable)
           (legal_put c.self.invariant.0 c.args.colour c.args.p c.play.new.self c.in-Ok.ensures.moved
           (record c.key-key.result { pack = c.write_pack.new.packed }) c.write_pack.ensures
           (c.key-key.ensures.mover ∙ ap (mover_by c.self.inside.superko) c.other.ensures) playable
-          c.in-Ok-note.ensures.lacked) c.add.ensures.black c.add.ensures.white,
+          c.in-Ok-record_step.ensures.lacked) c.add.ensures.black c.add.ensures.white,
       placed_more c.self.inside.superko start.lines start.colours c.self.inside.first
-          (map made_of c.self.inside.steps.items) (map made_of c.note.new.steps.items)
+          (map made_of c.self.inside.steps.items) (map made_of c.record_step.new.steps.items)
           (made_of (placed c.args.colour c.args.p c.in-Ok.taken)) made c.self.inside.placed c.put.new.self
           (λ d row col there. (c.put.ensures d row col).1 (inr there))
           (placed_put c.points_by_number.ensures start.lines start.colours
@@ -114,18 +134,22 @@ invariant_of-self-in-Err g c = (
       (map made_of xs))) (sym c.in-Err.ensures.steps) c.self.invariant.1,
 )
 
-pub returns-in-Ok-note-clause-costs : goal.returns-in-Ok-note-clause-costs
-returns-in-Ok-note-clause-costs g c =
+pub returns-in-Ok-record_step-clause-costs : goal.returns-in-Ok-record_step-clause-costs
+returns-in-Ok-record_step-clause-costs g c =
     let most : most_of c.self.inside.board.lines (grid_of c.self.inside.board) c.args.colour
     (number_of c.self.inside.board.lines c.args.p) ≡ most_for c.args.self.now.standing c.args.colour (At c.args.p) =
-    most_is c.self.invariant.0 c.args.colour c.args.p ∙ ap (λ (v : GameValue). most_for v.standing c.args.colour (At c.args.p)) c.self.view_is in
+    most_is c.self.invariant.0 c.args.colour c.args.p
+    ∙ ap (λ (v : GameValue). most_for v.standing c.args.colour (At c.args.p)) c.self.view_is in
     let before : c.self.inside.meter ≡ c.args.self.now.count = ap (λ (v : GameValue). v.count) c.self.view_is in
     let ticks = c.play.ensures.costs.count in
-    let new : GameValue = seen (start_of c.self.inside.superko c.self.inside.start c.self.inside.komi c.self.inside.first) c.note.new.steps.items c.play.new.self c.play.new.log c.play.new.meter in
+    let new : GameValue = seen (start_of c.self.inside.superko c.self.inside.start c.self.inside.komi
+    c.self.inside.first) c.record_step.new.steps.items c.play.new.self c.play.new.log c.play.new.meter in
     record {
       err = search rules;
-      logged = subst (λ (v : GameValue). IsLogged v new (most_for c.args.self.now.standing c.args.colour (At c.args.p))) c.self.view_is
-          (logged_put c.self.invariant.0 c.note.new.steps.items (placed c.args.colour c.args.p c.in-Ok.taken) c.in-Ok-note.ensures.pushed c.args.p refl
+      logged = subst (λ (v : GameValue). IsLogged v new (most_for c.args.self.now.standing c.args.colour (At c.args.p)))
+          c.self.view_is
+          (logged_put c.self.invariant.0 c.record_step.new.steps.items (placed c.args.colour c.args.p c.in-Ok.taken)
+          c.in-Ok-record_step.ensures.pushed c.args.p refl
           c.play.new.self c.play.new.log (most_of c.self.inside.board.lines (grid_of c.self.inside.board) c.args.colour
           (number_of c.self.inside.board.lines c.args.p))
           (most_for c.args.self.now.standing c.args.colour (At c.args.p)) c.self.inside.meter c.play.new.meter
@@ -138,15 +162,18 @@ returns-in-Ok-note-clause-costs g c =
 
 pub returns-in-Err-Occupied-clause-costs : goal.returns-in-Err-Occupied-clause-costs
 returns-in-Err-Occupied-clause-costs g c =
-    let playable = subst (λ (v : GameValue). IsPlayable v.standing.lines (board_of v.standing) (At c.args.p)) (sym c.self.view_is) (c.requires.on, c.requires.vacant) in
+    let playable = subst (λ (v : GameValue). IsPlayable v.standing.lines (board_of v.standing) (At c.args.p))
+    (sym c.self.view_is) (c.requires.on, c.requires.vacant) in
     absurd (no_stone c.self.invariant.0 c.args.colour c.args.p playable
-    (occupied_stone c.play.result c.in-Err-Occupied.field-0 c.in-Err-Occupied.is c.in-Err-Occupied.field-0-is c.play.ensures.occupied))
+    (occupied_stone c.play.result c.in-Err-Occupied.field-0 c.in-Err-Occupied.is c.in-Err-Occupied.field-0-is
+    c.play.ensures.occupied))
 
 pub returns-in-Err-Memory-clause-costs : goal.returns-in-Err-Memory-clause-costs
 returns-in-Err-Memory-clause-costs g c =
     let most : most_of c.self.inside.board.lines (grid_of c.self.inside.board) c.args.colour
     (number_of c.self.inside.board.lines c.args.p) ≡ most_for c.args.self.now.standing c.args.colour (At c.args.p) =
-    most_is c.self.invariant.0 c.args.colour c.args.p ∙ ap (λ (v : GameValue). most_for v.standing c.args.colour (At c.args.p)) c.self.view_is in
+    most_is c.self.invariant.0 c.args.colour c.args.p
+    ∙ ap (λ (v : GameValue). most_for v.standing c.args.colour (At c.args.p)) c.self.view_is in
     let before : c.self.inside.meter ≡ c.args.self.now.count = ap (λ (v : GameValue). v.count) c.self.view_is in
     let ticks = c.play.ensures.costs.count in
     record {
@@ -162,10 +189,12 @@ pub returns-in-Err-clause-costs : goal.returns-in-Err-clause-costs
 returns-in-Err-clause-costs g c =
     let most : most_of c.self.inside.board.lines (grid_of c.self.inside.board) c.args.colour
     (number_of c.self.inside.board.lines c.args.p) ≡ most_for c.args.self.now.standing c.args.colour (At c.args.p) =
-    most_is c.self.invariant.0 c.args.colour c.args.p ∙ ap (λ (v : GameValue). most_for v.standing c.args.colour (At c.args.p)) c.self.view_is in
+    most_is c.self.invariant.0 c.args.colour c.args.p
+    ∙ ap (λ (v : GameValue). most_for v.standing c.args.colour (At c.args.p)) c.self.view_is in
     let before : c.self.inside.meter ≡ c.args.self.now.count = ap (λ (v : GameValue). v.count) c.self.view_is in
     let ticks = c.play.ensures.costs.count in
-    let long : length c.self.inside.board.trace ≡ length c.args.self.now.trace = ap (λ (v : GameValue). length v.trace) c.self.view_is in
+    let long : length c.self.inside.board.trace ≡ length c.args.self.now.trace =
+    ap (λ (v : GameValue). length v.trace) c.self.view_is in
     let logged = c.in-Ok.ensures.costs.logged in
     let few = logged.few in
     let put = c.rewind.ensures.rewound c.self.inside.log logged.changes logged.gained in
