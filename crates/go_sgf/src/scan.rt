@@ -16,7 +16,8 @@ use std::simd::prelude::*;
 pub(crate) fn is_white(byte: u8) -> bool
     ensures { result ≡ is_space byte }
 {
-    byte == b' ' || (9 <= byte && byte <= 13)
+    // One test tells most bytes, since they are above a space.
+    byte <= b' ' && (byte == b' ' || (9 <= byte && byte <= 13))
 }
 
 fn is_letter(byte: u8) -> bool
@@ -46,7 +47,7 @@ pub(crate) fn is_left_out(byte: u8) -> bool
     is_white(byte) || (b'a' <= byte && byte <= b'z')
 }
 
-/// The bytes behind those at the front that aren't written.
+/// The bytes from the first on that is written.
 pub(crate) fn behind_left_out(bytes: &[u8]) -> &[u8]
     ensures written { (d : ℕ) → d ≢ 0
         → tidied_from Outside d bytes.now ≡ tidied_from Outside d result.now }
@@ -65,7 +66,7 @@ pub(crate) fn behind_left_out(bytes: &[u8]) -> &[u8]
     rest
 }
 
-/// The bytes behind the white space at the front, of which there is mostly none.
+/// The bytes after the white space that comes first. Mostly there is none.
 #[inline]
 #[tactic(auto, using(crate::proofs::Scanning::space_steps))]
 pub(crate) fn after_space(bytes: &[u8]) -> &[u8]
@@ -77,7 +78,7 @@ pub(crate) fn after_space(bytes: &[u8]) -> &[u8]
     }
 }
 
-/// The same, where white space may go on.
+/// The bytes after white space of any length.
 #[tactic(auto, using(crate::proofs::Scanning::space_steps))]
 fn behind_space(bytes: &[u8]) -> &[u8]
     ensures { result.now ≡ without_space bytes.now }
@@ -112,7 +113,7 @@ pub(crate) fn begins_letter(bytes: &[u8]) -> bool
     }
 }
 
-/// The bytes behind this first byte, where it is the first.
+/// The bytes after this one, where it is the first.
 pub(crate) fn strip(bytes: &[u8], byte: u8) -> Option<&[u8]>
     ensures stripped { IfSome result (λ rest. bytes.now ≡ byte ∷ rest.now) }
     ensures other { IfNone result (is_first byte bytes.now ≡ false) }
@@ -123,7 +124,7 @@ pub(crate) fn strip(bytes: &[u8], byte: u8) -> Option<&[u8]>
     }
 }
 
-/// The letters at the front, and what follows them.
+/// The letters that come first, and the bytes after them.
 fn letters(bytes: &[u8]) -> (&[u8], &[u8])
     ensures whole { bytes.now ≡ result.0.now ++ result.1.now }
     ensures letters { list_all is_letter_byte result.0.now ≡ true }
@@ -137,7 +138,7 @@ fn letters(bytes: &[u8]) -> (&[u8], &[u8])
     (bytes, &[])
 }
 
-/// The letters at the front, what follows them, and whether one of them is an upper-case letter.
+/// The letters that come first, the bytes after them, and whether one of the letters is an upper-case one.
 #[inline]
 pub(crate) fn name_at(bytes: &[u8]) -> (&[u8], &[u8], bool)
     ensures whole { bytes.now ≡ result.0.now ++ result.1.now }
@@ -155,7 +156,7 @@ pub(crate) fn name_at(bytes: &[u8]) -> (&[u8], &[u8], bool)
     (name, behind, has_upper(name))
 }
 
-/// Whether a tree begins here: `(`, and `;` behind it, white space aside.
+/// Whether a tree begins here: `(`, and then `;`, with white space between them or none.
 pub(crate) fn begins_tree(bytes: &[u8]) -> bool
     ensures { result ≡ is_tree_first bytes.now }
 {
@@ -165,7 +166,7 @@ pub(crate) fn begins_tree(bytes: &[u8]) -> bool
     }
 }
 
-/// The bytes behind a tree's `(`, where a tree begins.
+/// The bytes after a tree's `(`, where a tree begins.
 pub(crate) fn strip_tree(bytes: &[u8]) -> Option<&[u8]>
     ensures stripped { IfSome result (λ rest. bytes.now ≡ 40 ∷ rest.now) }
     ensures begins { IfSome result (λ _. is_tree_first bytes.now ≡ true) }
@@ -201,10 +202,10 @@ fn is_stop(byte: u8) -> bool
     byte == b']' || byte == b'\\'
 }
 
-/// How many bytes are looked at at once.
+/// The number of bytes that one test looks at.
 const LANES: usize = 16;
 
-/// How many times so many are looked at before a search over a longer text, which begins slowly.
+/// The number of such tests before a search over a longer text, which begins slowly.
 const BLOCKS: usize = 4;
 
 /// Which of the bytes are `]` or `\`, as bits.
@@ -215,7 +216,7 @@ fn stops(bytes: u8x16) -> u64
     (bytes.simd_eq(u8x16::splat(b']')) | bytes.simd_eq(u8x16::splat(b'\\'))).to_bitmask()
 }
 
-/// The place of the first `]` or `\`, where it is within so many blocks.
+/// The place of the first `]` or `\`, where it is within this number of blocks.
 #[inline]
 fn near_stop(bytes: &[u8], blocks: usize) -> Option<usize>
     ensures some { IfSome result
@@ -276,7 +277,7 @@ fn first_stop(bytes: &[u8]) -> Option<usize>
     Some(passed + place)
 }
 
-/// What stands before the first `]` or `\`, that byte, and what follows it.
+/// The bytes before the first `]` or `\`, that byte, and the bytes after it.
 pub(crate) fn ordinary(bytes: &[u8]) -> Option<(&[u8], u8, &[u8])>
     ensures whole { IfSome result (λ r. bytes.now ≡ r.0.now ++ (r.1 ∷ r.2.now)) }
     ensures front { IfSome result (λ r. list_all is_ordinary r.0.now ≡ true) }

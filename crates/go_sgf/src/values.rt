@@ -11,7 +11,7 @@ ghost use Rattle.go_sgf.specs.Stands.{in_value};
 
 use crate::scan::{near_bracket, ordinary};
 
-/// A value from behind its `[`, and what follows its `]`; none where the value has no end.
+/// A value, after its `[`, and the text after its `]`; none where the value has no end.
 #[inline]
 pub(crate) fn value(bytes: &[u8]) -> Option<(&[u8], &[u8])>
     ensures inside { IfSome result (λ v. IsValue v.0.now) }
@@ -27,9 +27,9 @@ pub(crate) fn value(bytes: &[u8]) -> Option<(&[u8], &[u8])>
     }
 }
 
-/// The place of a value's `]`, from behind its `[`; none where the value has no end.
+/// The place of a value's `]`, counted from after its `[`; none where the value has no end.
 #[inline]
-fn value_end(bytes: &[u8]) -> Option<usize>
+pub(crate) fn value_end(bytes: &[u8]) -> Option<usize>
     ensures inside { IfSome result (λ place. IsValue (take place bytes.now)) }
     ensures bracket { IfSome result (λ place. IsBracketAt bytes.now place) }
     ensures none { IfNone result ((d : ℕ) → IsWithin MAX_DEPTH d

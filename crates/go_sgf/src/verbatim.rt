@@ -1,13 +1,14 @@
 //! A prefix of a tree's text that the canonical spelling has unchanged. `writer.rt` writes it in one piece.
 ghost use Rattle.std.specs.Prelude.{◌≡◌, ◌≢◌, ◌≤◌, ◌<◌, ◌+◌, ◌^◌, ◌++◌, ℕ, [], IfNone, IfSome, false, length};
-ghost use Rattle.go_sgf.specs.inner.Tidied.{Inside, Outside, StaysTo, behind_from, is_left_out_first, tidied_from};
+ghost use Rattle.go_sgf.specs.Spelling.{is_first};
+ghost use Rattle.go_sgf.specs.inner.Tidied.{Outside, StaysTo, behind_from, is_left_out_first, open_after, tidied_from};
 
 use crate::scan::{is_left_out, is_upper};
-use crate::values::value;
+use crate::values::value_end;
 
-/// What stands at the front of a tree's text just as it is written, what follows that, and how many
-/// trees are open there; so many are open here. None where the first byte is left out, no tree is
-/// open or the text has ended.
+/// The prefix of a tree's text that the canonical spelling has unchanged, the text after it, and how
+/// many trees are open there. `depth` trees are open at the beginning. None where the first byte
+/// isn't written, no tree is open or the text is empty.
 pub(crate) fn verbatim(text: &[u8], depth: usize) -> Option<(&[u8], &[u8], usize)>
     requires { depth + length text.now ≤ 2 ^ 63 }
     ensures whole { IfSome result (λ r. text.now ≡ r.0.now ++ r.1.now) }
@@ -20,7 +21,10 @@ pub(crate) fn verbatim(text: &[u8], depth: usize) -> Option<(&[u8], &[u8], usize
     ensures none { IfNone result
         (is_left_out_first text.now ≡ false → depth ≢ 0 → text.now ≡ []) }
 {
-    let mut rest = text;
+    if depth == 0 {
+        return None;
+    }
+    let mut rest = behind_properties(text);
     let mut there = depth;
     while let Some((more, now)) = behind_next(rest, there) {
         rest = more;
@@ -33,45 +37,69 @@ pub(crate) fn verbatim(text: &[u8], depth: usize) -> Option<(&[u8], &[u8], usize
     Some((front, rest, there))
 }
 
-/// What follows a byte that is written, or a whole value, and how many trees are open there.
+/// The text after a byte that is written, most often a parenthesis, and after the properties that follow it in an open
+/// tree; and how many trees are open there.
 #[inline]
 fn behind_next(text: &[u8], depth: usize) -> Option<(&[u8], usize)>
-    requires { depth + length text.now ≤ 2 ^ 63 }
+    requires bound { depth + length text.now ≤ 2 ^ 63 }
+    requires outside { depth ≢ 0 → is_first 91 text.now ≡ false }
     ensures stays { IfSome result (λ r. StaysTo Outside depth text.now r.1 r.0.now) }
+    ensures outside { IfSome result (λ r. r.1 ≢ 0 → is_first 91 r.0.now ≡ false) }
     ensures bound { IfSome result (λ r. r.1 + length r.0.now ≤ depth + length text.now) }
     ensures shorter { IfSome result (λ r. length r.0.now < length text.now) }
     ensures none { IfNone result
         (is_left_out_first text.now ≡ false → depth ≢ 0 → text.now ≡ []) }
 {
-    let (byte, more) = text.split_first()?;
     if depth == 0 {
         return None;
     }
-    // Most bytes are of these, so they are told first.
-    if *byte == b'[' {
-        return Some((behind_value(more), depth));
-    }
-    if *byte == b';' || is_upper(*byte) {
-        return Some((more, depth));
-    }
+    let (byte, more) = text.split_first()?;
     if is_left_out(*byte) {
         return None;
     }
-    match *byte {
-        b'(' => Some((more, depth + 1)),
-        b')' => Some((more, depth - 1)),
-        _ => Some((more, depth)),
+    let now = open_behind(*byte, depth);
+    if now == 0 {
+        return Some((more, now));
+    }
+    Some((behind_properties(more), now))
+}
+
+/// How many trees are open after a byte outside of values.
+fn open_behind(byte: u8, depth: usize) -> usize
+    requires some { depth ≢ 0 }
+    requires bound { depth < 2 ^ 63 }
+    ensures open { result ≡ open_after Outside depth byte }
+    ensures bound { result ≤ depth + 1 }
+{
+    match byte {
+        b'(' => depth + 1,
+        b')' => depth - 1,
+        _ => depth,
     }
 }
 
-/// What follows a value from behind its `[` on; nothing where it has no end.
-#[inline]
-fn behind_value(text: &[u8]) -> &[u8]
-    ensures stays { (d : ℕ) → d ≢ 0 → StaysTo Inside d text.now d result.now }
+/// The text after the first values, upper-case letters and `;`, of which a record mostly consists. It
+/// counts a place, since a slice for each byte takes longer, and has a frame of its own, so that text and
+/// place stay in registers.
+#[inline(never)]
+fn behind_properties(text: &[u8]) -> &[u8]
+    ensures stays { (d : ℕ) → d ≢ 0 → StaysTo Outside d text.now d result.now }
+    ensures stopped { is_first 91 result.now ≡ false }
     ensures shorter { length result.now ≤ length text.now }
 {
-    match value(text) {
-        Some((_, behind)) => behind,
-        None => &[],
+    let mut place = 0;
+    while place < text.len() {
+        let byte = text[place];
+        if byte == b'[' {
+            let Some(length) = value_end(text.split_at(place + 1).1) else {
+                return &[];
+            };
+            place = place + length + 2;
+        } else if byte == b';' || is_upper(byte) {
+            place += 1;
+        } else {
+            return text.split_at(place).1;
+        }
     }
+    &[]
 }

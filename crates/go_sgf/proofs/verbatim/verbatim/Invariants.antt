@@ -1,10 +1,12 @@
-use Rattle.std.proofs.Common.{◌≡◌, ◌≤◌, ◌+◌, length}
+use Rattle.std.proofs.Common.{◌≡◌, ◌≢◌, ◌≤◌, ◌+◌, false, length}
+use Rattle.go_sgf.specs.Spelling.{is_first}
 use Rattle.go_sgf.specs.inner.Tidied.{Outside, StaysTo}
 use Rattle.go_sgf.proofs.verbatim.verbatim.Given as goal
 
 abbrev pub invariant-loop-more : goal.invariant-loop-more
 invariant-loop-more l = record {
   stays : StaysTo Outside l.depth l.text l.there l.rest;
+  outside : l.there ≢ 0 → is_first 91 l.rest ≡ false;
   bound : l.there + length l.rest ≤ l.depth + length l.text;
   no_longer : length l.rest ≤ length l.text;
   same : length l.rest ≡ length l.text → (l.rest ≡ l.text) × (l.there ≡ l.depth);
