@@ -37,7 +37,8 @@ same_point (Some Black) (Some White) = inr (λ e. cc e)
 same_point (Some White) (Some Black) = inr (λ e. cc e)
 same_point (Some White) (Some White) = inl refl
 
-same_by : (a b : Option Colour) (xs ys : Colouring) → (a ≡ b) ⊎ (a ≢ b) → (xs ≡ ys) ⊎ (xs ≢ ys) → ((let zs : Colouring = a ∷ xs in zs) ≡ b ∷ ys) ⊎ ((let zs : Colouring = a ∷ xs in zs) ≢ b ∷ ys)
+same_by : (a b : Option Colour) (xs ys : Colouring) → (a ≡ b) ⊎ (a ≢ b) → (xs ≡ ys) ⊎ (xs ≢ ys) →
+    ((let zs : Colouring = a ∷ xs in zs) ≡ b ∷ ys) ⊎ ((let zs : Colouring = a ∷ xs in zs) ≢ b ∷ ys)
 same_by a b xs ys (inl e) (inl f) = inl (cc (e, f))
 same_by a b xs ys (inl e) (inr f) = inr (λ h. f (cc h))
 same_by a b xs ys (inr e) f = inr (λ h. e (cc h))
@@ -48,7 +49,8 @@ same_colours [] (b ∷ ys) = inr (λ e. cc e)
 same_colours (a ∷ xs) [] = inr (λ e. cc e)
 same_colours (a ∷ xs) (b ∷ ys) = same_by a b xs ys (same_point a b) (same_colours xs ys)
 
-same_parts : (g h : Colouring) (a b : Option Colour) → (g ≡ h) ⊎ (g ≢ h) → (a ≡ b) ⊎ (a ≢ b) → ((let x : Seen = (g, a) in x) ≡ (h, b)) ⊎ ((let x : Seen = (g, a) in x) ≢ (h, b))
+same_parts : (g h : Colouring) (a b : Option Colour) → (g ≡ h) ⊎ (g ≢ h) → (a ≡ b) ⊎ (a ≢ b) →
+    ((let x : Seen = (g, a) in x) ≡ (h, b)) ⊎ ((let x : Seen = (g, a) in x) ≢ (h, b))
 same_parts g h a b (inl e) (inl f) = inl (ap₂ (λ (k : Colouring) (c : Option Colour). let x : Seen = (k, c) in x) e f)
 same_parts g h a b (inl e) (inr f) = inr (λ i. f (ap (λ (x : Seen). x.1) i))
 same_parts g h a b (inr e) f = inr (λ i. e (ap (λ (x : Seen). x.0) i))
@@ -95,8 +97,10 @@ on_or_off n p = elim (cases_lt p.col n) [
 abbrev Decided : Standing → Colour → Vertex → Type 0
 Decided s c v = IsLegal s c v ⊎ ((why : PlayError) × IsReason s c v why)
 
-on_empty : (s : Standing) (c : Colour) (p : Point) → IsOn s.lines p → (o : Option Colour) → colour_at (board_of s) (number_of s.lines p) ≡ o → Decided s c (At p)
-on_empty s c p on (Some x) e = inr (play.Occupied, (on, λ f. let z : (let q : Option Colour = Some x in q) ≡ None = sym e ∙ f in cc z))
+on_empty : (s : Standing) (c : Colour) (p : Point) → IsOn s.lines p → (o : Option Colour) →
+    colour_at (board_of s) (number_of s.lines p) ≡ o → Decided s c (At p)
+on_empty s c p on (Some x) e = inr
+    (play.Occupied, (on, λ f. let z : (let q : Option Colour = Some x in q) ≡ None = sym e ∙ f in cc z))
 on_empty s c p on None e = elim (repeats (stood_of s) (seen_after s c (number_of s.lines p))) [
   | inl r ↦ inr (play.Repeats r.0, (λ off. off on, λ full. full.1 e, r.1))
   | inr none ↦ inl (on, e, none)
@@ -114,21 +118,26 @@ decide s c (At p) = elim (on_or_off s.lines p) [
 abbrev Some_outcome : (Outcome → Type 0) → Type 0
 Some_outcome P = (outcome : Outcome) × P outcome
 
-some_or_bad : {X : Type 0} (node : ℕ) (o : Option X) (Later : Outcome → X → Type 0) → ((x : X) → Some_outcome (λ r. Later r x)) → Some_outcome (λ r. OrBad node o r (Later r))
+some_or_bad : {X : Type 0} (node : ℕ) (o : Option X) (Later : Outcome → X → Type 0) →
+    ((x : X) → Some_outcome (λ r. Later r x)) → Some_outcome (λ r. OrBad node o r (Later r))
 some_or_bad node None Later f = (Err (BadValue node), refl)
 some_or_bad node (Some x) Later f = f x
 
-some_or_else : {X : Type 0} (e : RecordError) (o : Option X) (Later : Outcome → X → Type 0) → ((x : X) → Some_outcome (λ r. Later r x)) → Some_outcome (λ r. OrElse e o r (Later r))
+some_or_else : {X : Type 0} (e : RecordError) (o : Option X) (Later : Outcome → X → Type 0) →
+    ((x : X) → Some_outcome (λ r. Later r x)) → Some_outcome (λ r. OrElse e o r (Later r))
 some_or_else e None Later f = (Err e, refl)
 some_or_else e (Some x) Later f = f x
 
-some_needs : (e : RecordError) (t : Bool) (Later : Outcome → Type 0) → Some_outcome Later → Some_outcome (λ r. Needs e t r (Later r))
+some_needs : (e : RecordError) (t : Bool) (Later : Outcome → Type 0) → Some_outcome Later →
+    Some_outcome (λ r. Needs e t r (Later r))
 some_needs e false Later f = (Err e, refl)
 some_needs e true Later f = f
 
-some_move : (s : Standing) (c : Colour) (v : Vertex) (Rest : Outcome → Type 0) → Decided s c v → Some_outcome Rest → Some_outcome (λ r. (IsLegal s c v × Rest r) ⊎ IsRefused s c v r)
+some_move : (s : Standing) (c : Colour) (v : Vertex) (Rest : Outcome → Type 0) → Decided s c v → Some_outcome Rest →
+    Some_outcome (λ r. (IsLegal s c v × Rest r) ⊎ IsRefused s c v r)
 some_move s c v Rest (inl l) rest = (rest.0, inl (l, rest.1))
-some_move s c v Rest (inr d) rest = (Err (Illegal (length s.moves + 1) d.0), inr (record { why = d.0; reason = d.1; refusal = refl }))
+some_move s c v Rest (inr d) rest =
+    (Err (Illegal (length s.moves + 1) d.0), inr (record { why = d.0; reason = d.1; refusal = refl }))
 
 some_play : (events : List Event) (s : Standing) → Some_outcome (Plays s events)
 unfolding Plays
@@ -136,8 +145,10 @@ some_play [] s = (Ok s, refl)
 some_play (stones node c values ∷ events) s = (Err (SetupAfterMove node), refl)
 some_play (turn node value ∷ events) s = some_play events s
 some_play (move_met node c value ∷ events) s =
-    some_or_bad node (vertex_in s.lines value) (λ r v. (IsLegal s c v × Plays (with_move s (record { colour = c; vertex = v })) events r) ⊎ IsRefused s c v r)
-    (λ v. some_move s c v (Plays (with_move s (record { colour = c; vertex = v })) events) (decide s c v) (some_play events (with_move s (record { colour = c; vertex = v }))))
+    some_or_bad node (vertex_in s.lines value)
+    (λ r v. (IsLegal s c v × Plays (with_move s (record { colour = c; vertex = v })) events r) ⊎ IsRefused s c v r)
+    (λ v. some_move s c v (Plays (with_move s (record { colour = c; vertex = v })) events) (decide s c v)
+    (some_play events (with_move s (record { colour = c; vertex = v }))))
 
 dead_or_not : (b : Bool) → (b ≡ true) ⊎ (b ≡ true → ⊥)
 dead_or_not true = inl refl
@@ -147,9 +158,11 @@ not_true : (b : Bool) → (b ≡ true → ⊥) → b ≡ false
 not_true true h = absurd (h refl)
 not_true false h = refl
 
-some_begin : (n : ℕ) (komi : ℤ) (g : Colouring) (given : Option Colour) (events : List Event) → Some_outcome (Begins n komi g given events)
+some_begin : (n : ℕ) (komi : ℤ) (g : Colouring) (given : Option Colour) (events : List Event) →
+    Some_outcome (Begins n komi g given events)
 some_begin n komi g given events = elim (find (λ j. is_dead n g j ≡ true) (λ j. dead_or_not (is_dead n g j)) (n * n)) [
-  | inl none ↦ let rest = some_play events (start_of n komi g given) in (rest.0, inl ((λ k low. not_true (is_dead n g k) (none k low)), rest.1))
+  | inl none ↦ let rest = some_play events (start_of n komi g given) in
+      (rest.0, inl ((λ k low. not_true (is_dead n g k) (none k low)), rest.1))
   | inr f ↦
       let p = point_at n f.0 in
       let at = back_at n f.0 f.1 in (
@@ -166,21 +179,27 @@ some_begin n komi g given events = elim (find (λ j. is_dead n g j ≡ true) (λ
       )
 ]
 
-some_setup : (events : List Event) (n : ℕ) (komi : ℤ) (g : Colouring) (given : Option Colour) → Some_outcome (SetsUp n komi g given events)
+some_setup : (events : List Event) (n : ℕ) (komi : ℤ) (g : Colouring) (given : Option Colour) →
+    Some_outcome (SetsUp n komi g given events)
 unfolding SetsUp
 some_setup [] n komi g given = some_begin n komi g given []
 some_setup (stones node c values ∷ events) n komi g given =
-    some_or_bad node (points_by_values n values) (λ r ps. SetsUp n komi (with_points n c g ps) given events r) (λ ps. some_setup events n komi (with_points n c g ps) given)
+    some_or_bad node (points_by_values n values) (λ r ps. SetsUp n komi (with_points n c g ps) given events r)
+    (λ ps. some_setup events n komi (with_points n c g ps) given)
 some_setup (turn node value ∷ events) n komi g given =
-    some_or_bad node (colour_stated value) (λ r c. SetsUp n komi g (Some c) events r) (λ c. some_setup events n komi g (Some c))
+    some_or_bad node (colour_stated value) (λ r c. SetsUp n komi g (Some c) events r)
+    (λ c. some_setup events n komi g (Some c))
 some_setup (move_met node c value ∷ events) n komi g given = some_begin n komi g given (move_met node c value ∷ events)
 
 pub some_game : (c : Trees) (number : Option ℕ) → (outcome : Outcome) × IsGameOf c number outcome
 unfolding IsGameOf
 some_game c number =
-    let Line : ℕ → ℤ → Outcome → Type 0 = λ n komi r. SetsUp n komi (replicate (n * n) None) None (looked_at number (events_from 0 (main_line c))) r in
-    let Sized : Outcome → ℕ → Type 0 = λ r n. OrElse BadKomi (komi_in (value_at_root (codes "KM") c)) r (λ komi. Line n komi r) in
-    some_needs NotGo (is_go_value (value_at_root (codes "GM") c)) (λ r. OrElse BadSize (lines_in (value_at_root (codes "SZ") c)) r (Sized r))
+    let Line : ℕ → ℤ → Outcome → Type 0 = λ n komi r.
+    SetsUp n komi (replicate (n * n) None) None (looked_at number (events_from 0 (main_line c))) r in
+    let Sized : Outcome → ℕ → Type 0 = λ r n.
+    OrElse BadKomi (komi_in (value_at_root (codes "KM") c)) r (λ komi. Line n komi r) in
+    some_needs NotGo (is_go_value (value_at_root (codes "GM") c))
+    (λ r. OrElse BadSize (lines_in (value_at_root (codes "SZ") c)) r (Sized r))
     (some_or_else BadSize (lines_in (value_at_root (codes "SZ") c)) Sized (λ n.
     some_or_else BadKomi (komi_in (value_at_root (codes "KM") c)) (λ r komi. Line n komi r) (λ komi.
     some_setup (looked_at number (events_from 0 (main_line c))) n komi (replicate (n * n) None) None)))

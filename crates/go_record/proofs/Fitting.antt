@@ -58,28 +58,44 @@ stones_fit : (name : List ℕ) (n : ℕ) (ks : List ℕ) → IsName name → All
 stones_fit name n [] h = tt
 stones_fit name n (k ∷ ks) h = (record { named = h; some = λ e. cc e; inside = values_inside n (k ∷ ks) }, tt)
 
-both_fit : (xs ys : List Property) → AllByRecursion IsProperty xs → AllByRecursion IsProperty ys → AllByRecursion IsProperty (xs ++ ys)
+both_fit : (xs ys : List Property) → AllByRecursion IsProperty xs → AllByRecursion IsProperty ys →
+    AllByRecursion IsProperty (xs ++ ys)
 both_fit [] ys h k = k
 both_fit (x ∷ xs) ys h k = (h.0, both_fit xs ys h.1 k)
 
 moves_fit : (n : ℕ) (moves : List Move) → AllByRecursion (AllByRecursion IsProperty) (map (move_node n) moves)
 moves_fit n [] = tt
-moves_fit n (m ∷ moves) = ((alone_fit (colour_letter m.colour) (vertex_value n m.vertex) (letter_named m.colour) (vertex_inside n m.vertex), tt), moves_fit n moves)
+moves_fit n (m ∷ moves) = (
+  (
+    alone_fit (colour_letter m.colour) (vertex_value n m.vertex) (letter_named m.colour)
+        (vertex_inside n m.vertex),
+    tt,
+  ),
+  moves_fit n moves,
+)
 
 pub tree_fit : (s : Standing) → IsSound s → IsFit (game_tree s)
 tree_fit s sound =
     let lines : IsValue (decimal s.lines) =
-    low_inside (decimal s.lines) (all_weaker {P = IsDigit} {Q = IsFree} (λ c h. low_free c (omega (arith, h.0), h.1)) (decimal s.lines) (decimal_is s.lines (omega (arith, sound.size.1))).digits) in
-    let komi : IsValue (hundredths_word s.komi) = low_inside (hundredths_word s.komi) (all_weaker {P = IsLow} {Q = IsFree} low_free (hundredths_word s.komi) (komi_low s.komi sound.komi)) in
-    let stones = both_fit (stones_property (codes "AB") s.lines (points_coloured s.lines s.start Black)) (stones_property (codes "AW") s.lines (points_coloured s.lines s.start White))
-    (stones_fit (codes "AB") s.lines (points_coloured s.lines s.start Black) (refl, refl)) (stones_fit (codes "AW") s.lines (points_coloured s.lines s.start White) (refl, refl)) in
+    low_inside (decimal s.lines) (all_weaker {P = IsDigit} {Q = IsFree} (λ c h. low_free c (omega (arith, h.0), h.1))
+    (decimal s.lines) (decimal_is s.lines (omega (arith, sound.size.1))).digits) in
+    let komi : IsValue (hundredths_word s.komi) =
+    low_inside (hundredths_word s.komi)
+    (all_weaker {P = IsLow} {Q = IsFree} low_free (hundredths_word s.komi) (komi_low s.komi sound.komi)) in
+    let stones = both_fit (stones_property (codes "AB") s.lines (points_coloured s.lines s.start Black))
+    (stones_property (codes "AW") s.lines (points_coloured s.lines s.start White))
+    (stones_fit (codes "AB") s.lines (points_coloured s.lines s.start Black) (refl, refl))
+    (stones_fit (codes "AW") s.lines (points_coloured s.lines s.start White) (refl, refl)) in
     let start : AllByRecursion IsProperty (start_node s) = (
       alone_fit (codes "GM") (codes "1") (refl, refl) refl,
       (
         alone_fit (codes "FF") (codes "4") (refl, refl) refl,
         (
           alone_fit (codes "SZ") (decimal s.lines) (refl, refl) lines,
-          (alone_fit (codes "KM") (hundredths_word s.komi) (refl, refl) komi, (alone_fit (codes "PL") (colour_letter s.first) (refl, refl) (letter_inside s.first), stones)),
+          (
+            alone_fit (codes "KM") (hundredths_word s.komi) (refl, refl) komi,
+            (alone_fit (codes "PL") (colour_letter s.first) (refl, refl) (letter_inside s.first), stones),
+          ),
         ),
       ),
     ) in
@@ -91,14 +107,19 @@ tree_fit s sound =
 
 -- ---- plain names
 
-stones_plain : (name : List ℕ) (n : ℕ) → filter is_upper_byte name ≡ name → (ks : List ℕ) → map plain_property (stones_property name n ks) ≡ stones_property name n ks
+stones_plain : (name : List ℕ) (n : ℕ) → filter is_upper_byte name ≡ name → (ks : List ℕ) →
+    map plain_property (stones_property name n ks) ≡ stones_property name n ks
 stones_plain name n e [] = refl
-stones_plain name n e (k ∷ ks) = ap (λ (x : List ℕ). property x (map (λ j. point_value n (point_at n j)) (k ∷ ks)) ∷ []) e
+stones_plain name n e (k ∷ ks) =
+    ap (λ (x : List ℕ). property x (map (λ j. point_value n (point_at n j)) (k ∷ ks)) ∷ []) e
 
-both_plain : (xs ys : List Property) → map plain_property xs ≡ xs → map plain_property ys ≡ ys → map plain_property (xs ++ ys) ≡ xs ++ ys
+both_plain : (xs ys : List Property) → map plain_property xs ≡ xs → map plain_property ys ≡ ys →
+    map plain_property (xs ++ ys) ≡ xs ++ ys
 both_plain xs ys e f = map-append plain_property xs ys ∙ ap₂ (λ a b. a ++ b) e f
 
-move_plain : (n : ℕ) (c : Colour) (v : Vertex) → map plain_property (move_node n (record { colour = c; vertex = v })) ≡ move_node n (record { colour = c; vertex = v })
+move_plain : (n : ℕ) (c : Colour) (v : Vertex) →
+    map plain_property (move_node n (record { colour = c; vertex = v })) ≡ move_node n
+    (record { colour = c; vertex = v })
 move_plain n Black v = refl
 move_plain n White v = refl
 
@@ -111,12 +132,16 @@ tree_plain s =
     let ab = stones_property (codes "AB") s.lines (points_coloured s.lines s.start Black) in
     let aw = stones_property (codes "AW") s.lines (points_coloured s.lines s.start White) in
     let stones : map plain_property (ab ++ aw) ≡ ab ++ aw =
-    both_plain ab aw (stones_plain (codes "AB") s.lines refl (points_coloured s.lines s.start Black)) (stones_plain (codes "AW") s.lines refl (points_coloured s.lines s.start White)) in
-    ap₂ (λ (x : List Property) (xs : List (List Property)). tree ((alone (codes "GM") (codes "1") ∷ alone (codes "FF") (codes "4") ∷ alone (codes "SZ") (decimal s.lines) ∷
-    alone (codes "KM") (hundredths_word s.komi) ∷ alone (codes "PL") (colour_letter s.first) ∷ x) ∷ xs) none none) stones (moves_plain s.lines s.moves)
+    both_plain ab aw (stones_plain (codes "AB") s.lines refl (points_coloured s.lines s.start Black))
+    (stones_plain (codes "AW") s.lines refl (points_coloured s.lines s.start White)) in
+    ap₂ (λ (x : List Property) (xs : List (List Property)).
+    tree ((alone (codes "GM") (codes "1") ∷ alone (codes "FF") (codes "4") ∷ alone (codes "SZ") (decimal s.lines) ∷
+    alone (codes "KM") (hundredths_word s.komi) ∷ alone (codes "PL") (colour_letter s.first) ∷ x) ∷ xs) none none)
+    stones (moves_plain s.lines s.moves)
 
 -- a record whose game is known comes to nothing else
-only_game : (c : Trees) (s : Standing) (outcome : Outcome) → IsGameOf c None (Ok s) → IsGameOf c None outcome → outcome ≡ Ok s
+only_game : (c : Trees) (s : Standing) (outcome : Outcome) → IsGameOf c None (Ok s) → IsGameOf c None outcome →
+    outcome ≡ Ok s
 only_game c s outcome game other =
     let one = exactly_one c None in
     one.2 outcome other ∙ sym (one.2 (Ok s) game)
@@ -124,7 +149,8 @@ only_game c s outcome game other =
 pub records : CanonicalSpellsPlain → OneRecord → SpelledIsRead → (s : Standing) → IsSound s → Records s
 records spells one read s sound =
     let fit = tree_fit s sound in
-    let spelled : Spells (record_of s) (game_tree s) = subst (λ (c : Trees). Spells (record_of s) c) (tree_plain s) (spells (game_tree s) fit).0 in
+    let spelled : Spells (record_of s) (game_tree s) =
+    subst (λ (c : Trees). Spells (record_of s) c) (tree_plain s) (spells (game_tree s) fit).0 in
     record {
       fit = fit;
       spelled = spelled;

@@ -13,7 +13,8 @@ use Rattle.go_record.specs.inner.Progress.{Says, left_by, seen}
 use Rattle.go_record.specs.Walks.{Outcome, SetsUp}
 
 -- one node on: the events of those before it, its own, and those of the later ones
-pub node_on : (count after : ℕ) (done : List Event) (nodes : List (List Property)) (node : List Property) (later : List (List Property)) → nodes ≡ node ∷ later →
+pub node_on : (count after : ℕ) (done : List Event) (nodes : List (List Property)) (node : List Property)
+    (later : List (List Property)) → nodes ≡ node ∷ later →
     after ≡ count + 1 → (done ++ events_of count node) ++ events_from after later ≡ done ++ events_from count nodes
 node_on count after done nodes node later e is =
     append_assoc done (events_of count node) (events_from after later)
@@ -29,26 +30,32 @@ module _ (c : Trees) (number : Option ℕ) where
   unfolding IsGameOf
   not_go e = rw e refl
 
-  pub bad_size : is_go_value (value_at_root (codes "GM") c) ≡ true → lines_in (value_at_root (codes "SZ") c) ≡ None → IsGameOf c number (Err BadSize)
+  pub bad_size : is_go_value (value_at_root (codes "GM") c) ≡ true → lines_in (value_at_root (codes "SZ") c) ≡ None →
+      IsGameOf c number (Err BadSize)
   unfolding IsGameOf
   bad_size e f = rw (e, f) refl
 
-  pub bad_komi : (n : ℕ) → is_go_value (value_at_root (codes "GM") c) ≡ true → lines_in (value_at_root (codes "SZ") c) ≡ Some n → komi_in (value_at_root (codes "KM") c) ≡ None →
+  pub bad_komi : (n : ℕ) → is_go_value (value_at_root (codes "GM") c) ≡ true →
+      lines_in (value_at_root (codes "SZ") c) ≡ Some n → komi_in (value_at_root (codes "KM") c) ≡ None →
       IsGameOf c number (Err BadKomi)
   unfolding IsGameOf
   bad_komi n e f h = rw (e, f, h) refl
 
-  pub game_walks : (n : ℕ) (komi : ℤ) (outcome : Outcome) → is_go_value (value_at_root (codes "GM") c) ≡ true → lines_in (value_at_root (codes "SZ") c) ≡ Some n →
-      komi_in (value_at_root (codes "KM") c) ≡ Some komi → SetsUp n komi (replicate (n * n) None) None (looked_at number (events_from 0 (main_line c))) outcome →
+  pub game_walks : (n : ℕ) (komi : ℤ) (outcome : Outcome) → is_go_value (value_at_root (codes "GM") c) ≡ true →
+      lines_in (value_at_root (codes "SZ") c) ≡ Some n →
+      komi_in (value_at_root (codes "KM") c) ≡ Some komi →
+      SetsUp n komi (replicate (n * n) None) None (looked_at number (events_from 0 (main_line c))) outcome →
       IsGameOf c number outcome
   unfolding IsGameOf
   game_walks n komi outcome e f h walk = rw (e, f, h) walk
 
   -- the game of a walk from its begin
-  pub game_walked : (n m : ℕ) (komi komi' : ℤ) (g : Colouring) (left : Left) (outcome : Outcome) → Says c n komi → m ≡ n → komi' ≡ komi → g ≡ replicate (n * n) None → left ≡ left_by number →
+  pub game_walked : (n m : ℕ) (komi komi' : ℤ) (g : Colouring) (left : Left) (outcome : Outcome) → Says c n komi →
+      m ≡ n → komi' ≡ komi → g ≡ replicate (n * n) None → left ≡ left_by number →
       SetsUp m komi' g None (seen left (events_from 0 (main_line c) ++ [])) outcome → IsGameOf c number outcome
   game_walked n m komi komi' g left outcome says is same empty by walk =
       game_walks n komi outcome says.go says.size says.komi_said
       (subst (λ (es : List Event). SetsUp n komi (replicate (n * n) None) None es outcome)
-      (ap (λ l. seen l (events_from 0 (main_line c) ++ [])) by ∙ seen_by number (events_from 0 (main_line c) ++ []) ∙ ap (looked_at number) (append-nil (events_from 0 (main_line c))))
+      (ap (λ l. seen l (events_from 0 (main_line c) ++ [])) by ∙ seen_by number (events_from 0 (main_line c) ++ [])
+      ∙ ap (looked_at number) (append-nil (events_from 0 (main_line c))))
       (rw (is, same, empty) at walk))

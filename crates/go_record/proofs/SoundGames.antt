@@ -29,11 +29,13 @@ use Rattle.go_record.specs.MainLine.{Event, stones, turn, move_met}
 use Rattle.go_board.specs.Living.{AreAlive}
 use Rattle.go_record.specs.Walks.{Begins, OrBad, Outcome, Plays, SetsUp, colour_stated, start_of, with_points}
 
-from_bad : {X : Type 0} (node : ℕ) (o : Option X) (s : Standing) (Later : X → Type 0) (P : Type 0) → ((x : X) → o ≡ Some x → Later x → P) → OrBad node o (Ok s) Later → P
+from_bad : {X : Type 0} (node : ℕ) (o : Option X) (s : Standing) (Later : X → Type 0) (P : Type 0) →
+    ((x : X) → o ≡ Some x → Later x → P) → OrBad node o (Ok s) Later → P
 from_bad node None s Later P f h = cc h
 from_bad node (Some x) s Later P f h = f x refl h
 
-from_else : {X : Type 0} (e : RecordError) (o : Option X) (s : Standing) (Later : X → Type 0) (P : Type 0) → ((x : X) → o ≡ Some x → Later x → P) → OrElse e o (Ok s) Later → P
+from_else : {X : Type 0} (e : RecordError) (o : Option X) (s : Standing) (Later : X → Type 0) (P : Type 0) →
+    ((x : X) → o ≡ Some x → Later x → P) → OrElse e o (Ok s) Later → P
 from_else e None s Later P f h = cc h
 from_else e (Some x) s Later P f h = f x refl h
 
@@ -50,7 +52,8 @@ lives_by (Some c) true e some = refl
 lives_by (Some Black) false e some = absurd (true≢false e)
 lives_by (Some White) false e some = absurd (true≢false e)
 
-sound_start : (n : ℕ) (komi : ℤ) (g : Colouring) (given : Option Colour) → (0 < n) × (n ≤ MAX_LINES) → IsKomi komi → length g ≡ n * n → AreAlive n g → IsSound (start_of n komi g given)
+sound_start : (n : ℕ) (komi : ℤ) (g : Colouring) (given : Option Colour) → (0 < n) × (n ≤ MAX_LINES) → IsKomi komi →
+    length g ≡ n * n → AreAlive n g → IsSound (start_of n komi g given)
 sound_start n komi g given size kept whole alive = record {
   size = size;
   whole = whole;
@@ -80,7 +83,8 @@ within_range (Some m) n h = elim (cases_Bool (nat_le 1 m && nat_le m MAX_LINES))
 
 lines_range : (value : List ℕ) (n : ℕ) → lines_in value ≡ Some n → (0 < n) × (n ≤ MAX_LINES)
 lines_range value n h = elim (cases_Bool (is_blank_value value)) [
-  | inl blank ↦ let is : USUAL_LINES ≡ n = some_is USUAL_LINES n (rw blank at h) in subst (λ (k : ℕ). (0 < k) × (k ≤ MAX_LINES)) is (omega arith, omega arith)
+  | inl blank ↦ let is : USUAL_LINES ≡ n = some_is USUAL_LINES n (rw blank at h) in
+      subst (λ (k : ℕ). (0 < k) × (k ≤ MAX_LINES)) is (omega arith, omega arith)
   | inr some ↦ within_range (number_by value (position (λ b. b == 58) value)) n (rw some at h)
 ]
 
@@ -88,7 +92,9 @@ size_few : (w d : List ℕ) (n : ℕ) → size_by w d ≡ Some n → n ≤ MAX_K
 size_few w d n h = elim (cases_Bool (is_decimal w d && nat_le (hundredths_in w d) MAX_KOMI)) [
   | inl on ↦
       let is : hundredths_in w d ≡ n = some_is (hundredths_in w d) n (rw on at h) in
-      subst (λ (k : ℕ). k ≤ MAX_KOMI) is (leb-true (hundredths_in w d) MAX_KOMI (and_parts (is_decimal w d) (nat_le (hundredths_in w d) MAX_KOMI) on).1)
+      subst (λ (k : ℕ). k ≤ MAX_KOMI) is
+      (leb-true (hundredths_in w d) MAX_KOMI
+      (and_parts (is_decimal w d) (nat_le (hundredths_in w d) MAX_KOMI) on).1)
   | inr off ↦ let e : (let o : Option ℕ = None in o) ≡ Some n = rw off at h in cc e
 ]
 
@@ -96,7 +102,8 @@ signed_range : (minus : Bool) (n : ℕ) → n ≤ MAX_KOMI → IsKomi (with_sign
 signed_range false n few = (omega (arith, ints, few), omega (arith, ints, few))
 signed_range true n few = (omega (arith, ints, few), omega (arith, ints, few))
 
-mapped_range : (minus : Bool) (o : Option ℕ) (k : ℤ) → ((n : ℕ) → o ≡ Some n → n ≤ MAX_KOMI) → option_map (with_sign minus) o ≡ Some k → IsKomi k
+mapped_range : (minus : Bool) (o : Option ℕ) (k : ℤ) → ((n : ℕ) → o ≡ Some n → n ≤ MAX_KOMI) →
+    option_map (with_sign minus) o ≡ Some k → IsKomi k
 mapped_range minus None k few h = cc h
 mapped_range minus (Some n) k few h = subst IsKomi (some_is (with_sign minus n) k h) (signed_range minus n (few n refl))
 
@@ -106,13 +113,15 @@ komi_range value k h = elim (cases_Bool (is_blank_value value)) [
   | inr some ↦
       let word = trimmed value in
       let told : hundredths_by value ≡ Some k = rw some at h in
-      mapped_range (has_minus word) (size_of_number (behind_sign word)) k (λ n e. size_few (whole_part (behind_sign word)) (decimals_in (behind_sign word)) n e) told
+      mapped_range (has_minus word) (size_of_number (behind_sign word)) k
+      (λ n e. size_few (whole_part (behind_sign word)) (decimals_in (behind_sign word)) n e) told
 ]
 
 -- ---- what holds of each start that a record gives, and stays with each legal move, holds of what the record comes to
 
 module _ (P : Standing → Type 0)
-    (begun : (n : ℕ) (komi : ℤ) (g : Colouring) (given : Option Colour) → (0 < n) × (n ≤ MAX_LINES) → IsKomi komi → length g ≡ n * n → AreAlive n g → P (start_of n komi g given))
+    (begun : (n : ℕ) (komi : ℤ) (g : Colouring) (given : Option Colour) → (0 < n) × (n ≤ MAX_LINES) → IsKomi komi →
+    length g ≡ n * n → AreAlive n g → P (start_of n komi g given))
     (more : (s : Standing) (m : Move) → P s → IsLegal s m.colour m.vertex → P (with_move s m)) where
   after_play : (events : List Event) (s t : Standing) → P s → Plays s events (Ok t) → P t
   unfolding Plays
@@ -121,24 +130,32 @@ module _ (P : Standing → Type 0)
   after_play (turn node value ∷ events) s t held h = after_play events s t held h
   after_play (move_met node c value ∷ events) s t held h =
       from_bad node (vertex_in s.lines value) t _ (P t) (λ v e k. elim k [
-        | inl p ↦ after_play events (with_move s (record { colour = c; vertex = v })) t (more s (record { colour = c; vertex = v }) held p.0) p.1
+        | inl p ↦ after_play events (with_move s (record { colour = c; vertex = v })) t
+            (more s (record { colour = c; vertex = v }) held p.0) p.1
         | inr q ↦ let f = q.refusal in cc f
       ]) h
 
-  after_begin : (n : ℕ) (komi : ℤ) (g : Colouring) (given : Option Colour) (events : List Event) (t : Standing) → (0 < n) × (n ≤ MAX_LINES) → IsKomi komi → length g ≡ n * n →
+  after_begin : (n : ℕ) (komi : ℤ) (g : Colouring) (given : Option Colour) (events : List Event) (t : Standing) →
+      (0 < n) × (n ≤ MAX_LINES) → IsKomi komi → length g ≡ n * n →
       Begins n komi g given events (Ok t) → P t
-  after_begin n komi g given events t size kept whole (inl p) = after_play events (start_of n komi g given) t (begun n komi g given size kept whole p.0) p.1
+  after_begin n komi g given events t size kept whole (inl p) =
+      after_play events (start_of n komi g given) t (begun n komi g given size kept whole p.0) p.1
   after_begin n komi g given events t size kept whole (inr q) = let f = q.refusal in cc f
 
-  after_setup : (events : List Event) (n : ℕ) (komi : ℤ) (g : Colouring) (given : Option Colour) (t : Standing) → (0 < n) × (n ≤ MAX_LINES) → IsKomi komi → length g ≡ n * n →
+  after_setup : (events : List Event) (n : ℕ) (komi : ℤ) (g : Colouring) (given : Option Colour) (t : Standing) →
+      (0 < n) × (n ≤ MAX_LINES) → IsKomi komi → length g ≡ n * n →
       SetsUp n komi g given events (Ok t) → P t
   unfolding SetsUp
   after_setup [] n komi g given t size kept whole h = after_begin n komi g given [] t size kept whole h
   after_setup (stones node c values ∷ events) n komi g given t size kept whole h =
-      from_bad node (points_by_values n values) t _ (P t) (λ ps e k. after_setup events n komi (with_points n c g ps) given t size kept (points_length n c ps g ∙ whole) k) h
+      from_bad node (points_by_values n values) t _ (P t)
+      (λ ps e k. after_setup events n komi (with_points n c g ps) given t size kept (points_length n c ps g ∙ whole)
+      k) h
   after_setup (turn node value ∷ events) n komi g given t size kept whole h =
-      from_bad node (colour_stated value) t _ (P t) (λ c e k. after_setup events n komi g (Some c) t size kept whole k) h
-  after_setup (move_met node c value ∷ events) n komi g given t size kept whole h = after_begin n komi g given (move_met node c value ∷ events) t size kept whole h
+      from_bad node (colour_stated value) t _ (P t) (λ c e k. after_setup events n komi g (Some c) t size kept whole k)
+      h
+  after_setup (move_met node c value ∷ events) n komi g given t size kept whole h =
+      after_begin n komi g given (move_met node c value ∷ events) t size kept whole h
 
   of_games : (c : Trees) (number : Option ℕ) (t : Standing) → IsGameOf c number (Ok t) → P t
   unfolding IsGameOf
@@ -146,11 +163,13 @@ module _ (P : Standing → Type 0)
       from_needs _ (is_go_value (value_at_root (codes "GM") c)) t _ (P t) (λ rest.
       from_else _ (lines_in (value_at_root (codes "SZ") c)) t _ (P t) (λ n en later.
       from_else _ (komi_in (value_at_root (codes "KM") c)) t _ (P t) (λ komi ek walk.
-      after_setup _ n komi (replicate (n * n) None) None t (lines_range (value_at_root (codes "SZ") c) n en) (komi_range (value_at_root (codes "KM") c) komi ek) (length-replicate (n * n) None) walk)
+      after_setup _ n komi (replicate (n * n) None) None t (lines_range (value_at_root (codes "SZ") c) n en)
+      (komi_range (value_at_root (codes "KM") c) komi ek) (length-replicate (n * n) None) walk)
       later) rest) h
 
 pub games_sound : (c : Trees) (number : Option ℕ) (t : Standing) → IsGameOf c number (Ok t) → IsSound t
 games_sound = of_games IsSound sound_start sound_more
 
 pub games_positional : (c : Trees) (number : Option ℕ) (t : Standing) → IsGameOf c number (Ok t) → t.rule ≡ Positional
-games_positional = of_games (λ s. s.rule ≡ Positional) (λ n komi g given size kept whole alive. refl) (λ s m is legal. is)
+games_positional = of_games (λ s. s.rule ≡ Positional) (λ n komi g given size kept whole alive. refl)
+    (λ s m is legal. is)

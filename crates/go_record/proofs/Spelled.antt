@@ -26,7 +26,8 @@ IsLow c = (45 ≤ c) × (c ≤ 57)
 abbrev pub IsDigit : ℕ → Type 0
 IsDigit c = (48 ≤ c) × (c ≤ 57)
 
-pub all_append : (P : ℕ → Type 0) (xs ys : List ℕ) → AllByRecursion P xs → AllByRecursion P ys → AllByRecursion P (xs ++ ys)
+pub all_append : (P : ℕ → Type 0) (xs ys : List ℕ) → AllByRecursion P xs → AllByRecursion P ys →
+    AllByRecursion P (xs ++ ys)
 all_append P [] ys h k = k
 all_append P (x ∷ xs) ys h k = (h.0, all_append P xs ys h.1 k)
 
@@ -36,7 +37,8 @@ all_weaker f (x ∷ xs) h = (f x h.0, all_weaker f xs h.1)
 
 pub all_reverse : (P : ℕ → Type 0) (xs : List ℕ) → AllByRecursion P xs → AllByRecursion P (reverse xs)
 all_reverse P [] h = tt
-all_reverse P (x ∷ xs) h = subst (AllByRecursion P) (sym (reverse-append (x ∷ []) xs)) (all_append P (reverse xs) (x ∷ []) (all_reverse P xs h.1) (h.0, tt))
+all_reverse P (x ∷ xs) h = subst (AllByRecursion P) (sym (reverse-append (x ∷ []) xs))
+    (all_append P (reverse xs) (x ∷ []) (all_reverse P xs h.1) (h.0, tt))
 
 -- ---- white space
 
@@ -80,7 +82,8 @@ decimal_is n h =
     (λ k low. record { digits = ((omega arith, omega arith), tt); value = omega arith; some = refl })
     (λ k ds big is. record {
       digits = all_append IsDigit ds ((48 + k % 10) ∷ []) is.digits ((omega arith, omega arith), tt);
-      value = value_push ds (48 + k % 10) ∙ ap (λ v. 10 * v + ((48 + k % 10) - 48)) is.value ∙ (let e : 10 * (k / 10) + ((48 + k % 10) - 48) ≡ k = omega arith in e);
+      value = value_push ds (48 + k % 10) ∙ ap (λ v. 10 * v + ((48 + k % 10) - 48)) is.value
+          ∙ (let e : 10 * (k / 10) + ((48 + k % 10) - 48) ≡ k = omega arith in e);
       some = some_push ds (48 + k % 10);
     }) n h
 
@@ -104,7 +107,8 @@ behind_digits [] h = refl
 behind_digits (d ∷ ds) h = rw (unequal d 43 (λ e. omega (arith, e, h.0.0))) refl
 
 pub digits_no_space : (ds : List ℕ) → AllByRecursion IsDigit ds → AllByRecursion NoSpace ds
-digits_no_space ds h = all_weaker {P = IsDigit} {Q = NoSpace} (λ c k. low_no_space c (omega (arith, k.0)) (λ e. omega (arith, e, k.0))) ds h
+digits_no_space ds h = all_weaker {P = IsDigit} {Q = NoSpace}
+    (λ c k. low_no_space c (omega (arith, k.0)) (λ e. omega (arith, e, k.0))) ds h
 
 pub number_read : (n : ℕ) (ds : List ℕ) → IsDecimal n ds → n ≤ MAX_INT → number_in ds ≡ Some n
 number_read n ds is few =
@@ -117,7 +121,8 @@ number_read n ds is few =
 abbrev pub is_point : ℕ → Bool
 is_point c = c == 46
 
-before_point : (ds es : List ℕ) → AllByRecursion IsDigit ds → prefix_len (λ c. not (is_point c)) (ds ++ es) ≡ length ds + prefix_len (λ c. not (is_point c)) es
+before_point : (ds es : List ℕ) → AllByRecursion IsDigit ds →
+    prefix_len (λ c. not (is_point c)) (ds ++ es) ≡ length ds + prefix_len (λ c. not (is_point c)) es
 before_point [] es h = omega arith
 before_point (d ∷ ds) es h = rw (unequal d 46 (λ e. omega (arith, e, h.0.0)), before_point ds es h.1) (omega arith)
 
@@ -127,14 +132,16 @@ not_less n = grind (arith, common_steps)
 no_point : (ds : List ℕ) → AllByRecursion IsDigit ds → position is_point ds ≡ None
 no_point ds h =
     let e : prefix_len (λ c. not (is_point c)) ds ≡ length ds =
-    ap (prefix_len (λ c. not (is_point c))) (sym (append-nil ds)) ∙ before_point ds [] h ∙ (let z : length ds + 0 ≡ length ds = omega arith in z) in
+    ap (prefix_len (λ c. not (is_point c))) (sym (append-nil ds)) ∙ before_point ds [] h
+    ∙ (let z : length ds + 0 ≡ length ds = omega arith in z) in
     rw (e, not_less (length ds)) refl
 
 point_behind : (ds es : List ℕ) → AllByRecursion IsDigit ds → position is_point (ds ++ 46 ∷ es) ≡ Some (length ds)
 point_behind ds es h =
     let e : prefix_len (λ c. not (is_point c)) (ds ++ 46 ∷ es) ≡ length ds =
     before_point ds (46 ∷ es) h ∙ (let z : length ds + 0 ≡ length ds = omega arith in z) in
-    let low : nat_lt (length ds) (length (ds ++ 46 ∷ es)) ≡ true = lt-ltb (length ds) (length (ds ++ 46 ∷ es)) (rw length-append (omega arith)) in
+    let low : nat_lt (length ds) (length (ds ++ 46 ∷ es)) ≡ true =
+    lt-ltb (length ds) (length (ds ++ 46 ∷ es)) (rw length-append (omega arith)) in
     rw (e, low) refl
 
 -- what stands before and behind a point
@@ -152,13 +159,15 @@ parts_alone w h =
 
 parts_point : (w d : List ℕ) → AllByRecursion IsDigit w → HasParts (w ++ 46 ∷ d) w d
 parts_point w d h =
-    let at : point_place (w ++ 46 ∷ d) ≡ length w = ap (λ (o : Option ℕ). unwrap_or o (length (w ++ 46 ∷ d))) (point_behind w d h) in
+    let at : point_place (w ++ 46 ∷ d) ≡ length w =
+    ap (λ (o : Option ℕ). unwrap_or o (length (w ++ 46 ∷ d))) (point_behind w d h) in
     record {
       whole = rw at (take-append_seam w (46 ∷ d));
       decimals = rw at (ap (drop 1) (drop-append_seam w (46 ∷ d)));
     }
 
-size_read : (n q : ℕ) (w d t : List ℕ) → IsDecimal q w → HasParts t w d → list_all is_ascii_digit d ≡ true → list_all (λ c. c == 48) (drop 2 d) ≡ true →
+size_read : (n q : ℕ) (w d t : List ℕ) → IsDecimal q w → HasParts t w d → list_all is_ascii_digit d ≡ true →
+    list_all (λ c. c == 48) (drop 2 d) ≡ true →
     hundredths_in w d ≡ n → n ≤ MAX_KOMI → size_of_number t ≡ Some n
 size_read n q w d t is parts digits zeros value few =
     ap₂ size_by parts.whole parts.decimals
@@ -171,40 +180,50 @@ equal_is : (a b : ℕ) → (a == b) ≡ true → a ≡ b
 equal_is a b e = grind (arith, common_steps, e)
 
 -- the decimals of so many hundredths, behind whole ones
-size_with : (n q r : ℕ) (w : List ℕ) → IsDecimal q w → 100 * q + r ≡ n → r < 100 → n ≤ MAX_KOMI → size_of_number (w ++ decimals_of r) ≡ Some n
+size_with : (n q r : ℕ) (w : List ℕ) → IsDecimal q w → 100 * q + r ≡ n → r < 100 → n ≤ MAX_KOMI →
+    size_of_number (w ++ decimals_of r) ≡ Some n
 size_with n q r w is sum low few = elim (cases_Bool (r == 0)) [
   | inl zero ↦
       let none : r ≡ 0 = equal_is r 0 zero in
-      let value : hundredths_in w [] ≡ n = value_two w 48 48 ∙ ap (λ v. 10 * (10 * v + 0) + 0) is.value ∙ (let e : 10 * (10 * q + 0) + 0 ≡ n = omega (arith, sum, none) in e) in
-      rw zero (subst (λ (t : List ℕ). size_of_number t ≡ Some n) (sym (append-nil w)) (size_read n q w [] w is (parts_alone w is.digits) refl refl value few))
+      let value : hundredths_in w [] ≡ n = value_two w 48 48 ∙ ap (λ v. 10 * (10 * v + 0) + 0) is.value
+      ∙ (let e : 10 * (10 * q + 0) + 0 ≡ n = omega (arith, sum, none) in e) in
+      rw zero (subst (λ (t : List ℕ). size_of_number t ≡ Some n) (sym (append-nil w))
+      (size_read n q w [] w is (parts_alone w is.digits) refl refl value few))
   | inr some ↦ elim (cases_Bool (r % 10 == 0)) [
     | inl tens ↦
         let x = 48 + r / 10 in
         let value : hundredths_in w (x ∷ []) ≡ n = value_two w x 48 ∙ ap (λ v. 10 * (10 * v + (x - 48)) + 0) is.value
         ∙ (let e : 10 * (10 * q + (48 + r / 10 - 48)) + 0 ≡ n = omega (arith, sum, equal_is (r % 10) 0 tens) in e) in
         let digit : IsDigit x = (omega arith, omega (arith, low)) in
-        rw (some, tens) (size_read n q w (x ∷ []) (w ++ 46 ∷ x ∷ []) is (parts_point w (x ∷ []) is.digits) (digits_test (x ∷ []) (digit, tt)) refl value few)
+        rw (some, tens) (size_read n q w (x ∷ []) (w ++ 46 ∷ x ∷ []) is (parts_point w (x ∷ []) is.digits)
+        (digits_test (x ∷ []) (digit, tt)) refl value few)
     | inr ones ↦
         let x = 48 + r / 10 in
         let y = 48 + r % 10 in
-        let value : hundredths_in w (x ∷ y ∷ []) ≡ n = value_two w x y ∙ ap (λ v. 10 * (10 * v + (x - 48)) + (y - 48)) is.value
+        let value : hundredths_in w (x ∷ y ∷ []) ≡ n = value_two w x y
+        ∙ ap (λ v. 10 * (10 * v + (x - 48)) + (y - 48)) is.value
         ∙ (let e : 10 * (10 * q + (48 + r / 10 - 48)) + (48 + r % 10 - 48) ≡ n = omega (arith, sum) in e) in
         let first : IsDigit x = (omega arith, omega (arith, low)) in
         let second : IsDigit y = (omega arith, omega arith) in
-        rw (some, ones) (size_read n q w (x ∷ y ∷ []) (w ++ 46 ∷ x ∷ y ∷ []) is (parts_point w (x ∷ y ∷ []) is.digits) (digits_test (x ∷ y ∷ []) (first, (second, tt))) refl value few)
+        rw (some, ones) (size_read n q w (x ∷ y ∷ []) (w ++ 46 ∷ x ∷ y ∷ []) is (parts_point w (x ∷ y ∷ []) is.digits)
+        (digits_test (x ∷ y ∷ []) (first, (second, tt))) refl value few)
   ]
 ]
 
 size_back : (n : ℕ) → n ≤ MAX_KOMI → size_of_number (size_text n) ≡ Some n
 unfolding size_text
-size_back n few = size_with n (n / 100) (n % 100) (decimal (n / 100)) (decimal_is (n / 100) (omega (arith, few))) (omega arith) (omega arith) few
+size_back n few = size_with n (n / 100) (n % 100) (decimal (n / 100)) (decimal_is (n / 100) (omega (arith, few)))
+    (omega arith) (omega arith) few
 
 decimals_low : (r : ℕ) → r < 100 → AllByRecursion IsLow (decimals_of r)
 decimals_low r low = elim (cases_Bool (r == 0)) [
   | inl zero ↦ rw zero tt
   | inr some ↦ elim (cases_Bool (r % 10 == 0)) [
     | inl tens ↦ rw (some, tens) ((omega arith, omega arith), ((omega arith, omega (arith, low)), tt))
-    | inr ones ↦ rw (some, ones) ((omega arith, omega arith), ((omega arith, omega (arith, low)), ((omega arith, omega arith), tt)))
+    | inr ones ↦ rw (some, ones) (
+      (omega arith, omega arith),
+      ((omega arith, omega (arith, low)), ((omega arith, omega arith), tt)),
+    )
   ]
 ]
 
@@ -212,9 +231,11 @@ size_low : (n : ℕ) → n ≤ MAX_KOMI → AllByRecursion IsLow (size_text n)
 unfolding size_text
 size_low n few =
     all_append IsLow (decimal (n / 100)) (decimals_of (n % 100))
-    (all_weaker {P = IsDigit} {Q = IsLow} (λ c h. (omega (arith, h.0), h.1)) (decimal (n / 100)) (decimal_is (n / 100) (omega (arith, few))).digits) (decimals_low (n % 100) (omega arith))
+    (all_weaker {P = IsDigit} {Q = IsLow} (λ c h. (omega (arith, h.0), h.1)) (decimal (n / 100))
+    (decimal_is (n / 100) (omega (arith, few))).digits) (decimals_low (n % 100) (omega arith))
 
-first_digit : (w back : List ℕ) → is_empty w ≡ false → AllByRecursion IsDigit w → (d : ℕ) × (ds : List ℕ) × (w ++ back ≡ d ∷ ds) × IsDigit d
+first_digit : (w back : List ℕ) → is_empty w ≡ false → AllByRecursion IsDigit w → (d : ℕ) × (ds : List ℕ)
+    × (w ++ back ≡ d ∷ ds) × IsDigit d
 first_digit [] back e h = absurd (true≢false e)
 first_digit (d ∷ w) back e h = (d, w ++ back, refl, h.0)
 
@@ -227,7 +248,8 @@ size_some n few =
 pub low_clean : (c : ℕ) → IsLow c → NoSpace c
 low_clean c h = low_no_space c (omega (arith, h.0)) (λ e. omega (arith, e, h.0))
 
-plain_read : (t : List ℕ) (d : ℕ) (ds : List ℕ) (n : ℕ) → t ≡ d ∷ ds → IsDigit d → AllByRecursion IsLow t → size_of_number t ≡ Some n → hundredths_by t ≡ Some (pos n)
+plain_read : (t : List ℕ) (d : ℕ) (ds : List ℕ) (n : ℕ) → t ≡ d ∷ ds → IsDigit d → AllByRecursion IsLow t →
+    size_of_number t ≡ Some n → hundredths_by t ≡ Some (pos n)
 plain_read t d ds n e digit low size =
     let word : komi_of (d ∷ ds) ≡ option_map (with_sign false) (size_of_number (d ∷ ds)) =
     rw (unequal d 45 (λ x. omega (arith, x, digit.0)), unequal d 43 (λ x. omega (arith, x, digit.0))) refl in
@@ -255,7 +277,8 @@ komi_read (pos n) h =
 komi_read (negsuc n) h =
     let few = negsuc_small n h in
     let low = komi_low (negsuc n) h in
-    ap komi_of (trimmed_same (hundredths_word (negsuc n)) (all_weaker {P = IsLow} {Q = NoSpace} low_clean (hundredths_word (negsuc n)) low))
+    ap komi_of (trimmed_same (hundredths_word (negsuc n))
+    (all_weaker {P = IsLow} {Q = NoSpace} low_clean (hundredths_word (negsuc n)) low))
     ∙ ap (option_map (with_sign true)) (size_back (n + 1) few)
     ∙ ap Some (below_zero n)
 

@@ -63,7 +63,8 @@ legal_no_reason s c (At p) play.OffBoard l r = r l.0
 legal_no_reason s c (At p) (play.Repeats k) l r = l.2 (first_contained _ _ k r.2)
 legal_no_reason s c (At p) play.Memory l r = r
 
-repeat_unique : (s : Standing) (c : Colour) (v : Vertex) (j k : ℕ) → IsReason s c v (play.Repeats j) → IsReason s c v (play.Repeats k) → j ≡ k
+repeat_unique : (s : Standing) (c : Colour) (v : Vertex) (j k : ℕ) → IsReason s c v (play.Repeats j) →
+    IsReason s c v (play.Repeats k) → j ≡ k
 repeat_unique s c Pass j k a b = absurd a.2
 repeat_unique s c (At p) j k a b = first_unique _ _ j k a.2 b.2
 
@@ -94,19 +95,22 @@ one_or_else : {X : Type 0} (e : RecordError) (o : Option X) (a b : Outcome) (Lat
 one_or_else e None a b Later f h k = h ∙ sym k
 one_or_else e (Some x) a b Later f h k = f x h k
 
-one_needs : (e : RecordError) (t : Bool) (a b : Outcome) (Later : Outcome → Type 0) → (Later a → Later b → a ≡ b) → Needs e t a (Later a) → Needs e t b (Later b) → a ≡ b
+one_needs : (e : RecordError) (t : Bool) (a b : Outcome) (Later : Outcome → Type 0) → (Later a → Later b → a ≡ b) →
+    Needs e t a (Later a) → Needs e t b (Later b) → a ≡ b
 one_needs e false a b Later f h k = h ∙ sym k
 one_needs e true a b Later f h k = f h k
 
 -- ---- moves, and what is set up before them
 
-by_move : (s : Standing) (c : Colour) (v : Vertex) (a b : Outcome) (Rest : Outcome → Type 0) → (Rest a → Rest b → a ≡ b) →
+by_move : (s : Standing) (c : Colour) (v : Vertex) (a b : Outcome) (Rest : Outcome → Type 0) →
+    (Rest a → Rest b → a ≡ b) →
     ((IsLegal s c v × Rest a) ⊎ IsRefused s c v a) → ((IsLegal s c v × Rest b) ⊎ IsRefused s c v b) → a ≡ b
 by_move s c v a b Rest f (inl p) (inl q) = f p.1 q.1
 by_move s c v a b Rest f (inl p) (inr q) = absurd (legal_no_reason s c v q.why p.0 q.reason)
 by_move s c v a b Rest f (inr p) (inl q) = absurd (legal_no_reason s c v p.why q.0 p.reason)
 by_move s c v a b Rest f (inr p) (inr q) =
-    p.refusal ∙ ap (λ (w : PlayError). let r : Outcome = Err (Illegal (length s.moves + 1) w) in r) (one_reason s c v p.why q.why p.reason q.reason) ∙ sym q.refusal
+    p.refusal ∙ ap (λ (w : PlayError). let r : Outcome = Err (Illegal (length s.moves + 1) w) in r)
+    (one_reason s c v p.why q.why p.reason q.reason) ∙ sym q.refusal
 
 one_play : (events : List Event) (s : Standing) (a b : Outcome) → Plays s events a → Plays s events b → a ≡ b
 unfolding Plays
@@ -114,8 +118,11 @@ one_play [] s a b h k = h ∙ sym k
 one_play (stones node c values ∷ events) s a b h k = h ∙ sym k
 one_play (turn node value ∷ events) s a b h k = one_play events s a b h k
 one_play (move_met node c value ∷ events) s a b h k =
-    one_or_bad node (vertex_in s.lines value) a b (λ outcome v. (IsLegal s c v × Plays (with_move s (record { colour = c; vertex = v })) events outcome) ⊎ IsRefused s c v outcome)
-    (λ v p q. by_move s c v a b (Plays (with_move s (record { colour = c; vertex = v })) events) (one_play events (with_move s (record { colour = c; vertex = v })) a b) p q) h k
+    one_or_bad node (vertex_in s.lines value) a b
+    (λ outcome v. (IsLegal s c v × Plays (with_move s (record { colour = c; vertex = v })) events outcome)
+    ⊎ IsRefused s c v outcome)
+    (λ v p q. by_move s c v a b (Plays (with_move s (record { colour = c; vertex = v })) events)
+    (one_play events (with_move s (record { colour = c; vertex = v })) a b) p q) h k
 
 same_dead : (n : ℕ) (g : Colouring) (p q : Point) → IsFirstDead n g p → IsFirstDead n g q → p ≡ q
 same_dead n g p q a b =
@@ -136,26 +143,32 @@ one_begin n komi g given events a b (inl p) (inr q) =
 one_begin n komi g given events a b (inr p) (inl q) =
     absurd (true≢false (sym p.first.dead ∙ q.0 (number_of n p.point) (number_low n p.point p.first.on)))
 one_begin n komi g given events a b (inr p) (inr q) =
-    p.refusal ∙ ap (λ (x : Point). let r : Outcome = Err (DeadSetup x) in r) (same_dead n g p.point q.point p.first q.first) ∙ sym q.refusal
+    p.refusal ∙ ap (λ (x : Point). let r : Outcome = Err (DeadSetup x) in r)
+    (same_dead n g p.point q.point p.first q.first) ∙ sym q.refusal
 
 one_setup : (events : List Event) (n : ℕ) (komi : ℤ) (g : Colouring) (given : Option Colour) (a b : Outcome) →
     SetsUp n komi g given events a → SetsUp n komi g given events b → a ≡ b
 unfolding SetsUp
 one_setup [] n komi g given a b h k = one_begin n komi g given [] a b h k
 one_setup (stones node c values ∷ events) n komi g given a b h k =
-    one_or_bad node (points_by_values n values) a b (λ outcome ps. SetsUp n komi (with_points n c g ps) given events outcome)
+    one_or_bad node (points_by_values n values) a b
+    (λ outcome ps. SetsUp n komi (with_points n c g ps) given events outcome)
     (λ ps p q. one_setup events n komi (with_points n c g ps) given a b p q) h k
 one_setup (turn node value ∷ events) n komi g given a b h k =
     one_or_bad node (colour_stated value) a b (λ outcome c. SetsUp n komi g (Some c) events outcome)
     (λ c p q. one_setup events n komi g (Some c) a b p q) h k
-one_setup (move_met node c value ∷ events) n komi g given a b h k = one_begin n komi g given (move_met node c value ∷ events) a b h k
+one_setup (move_met node c value ∷ events) n komi g given a b h k =
+    one_begin n komi g given (move_met node c value ∷ events) a b h k
 
 pub one_game : (c : Trees) (number : Option ℕ) (a b : Outcome) → IsGameOf c number a → IsGameOf c number b → a ≡ b
 unfolding IsGameOf
 one_game c number a b h k =
-    let Line : ℕ → ℤ → Outcome → Type 0 = λ n komi outcome. SetsUp n komi (replicate (n * n) None) None (looked_at number (events_from 0 (main_line c))) outcome in
-    let Sized : Outcome → ℕ → Type 0 = λ outcome n. OrElse BadKomi (komi_in (value_at_root (codes "KM") c)) outcome (λ komi. Line n komi outcome) in
-    one_needs NotGo (is_go_value (value_at_root (codes "GM") c)) a b (λ outcome. OrElse BadSize (lines_in (value_at_root (codes "SZ") c)) outcome (Sized outcome))
+    let Line : ℕ → ℤ → Outcome → Type 0 = λ n komi outcome.
+    SetsUp n komi (replicate (n * n) None) None (looked_at number (events_from 0 (main_line c))) outcome in
+    let Sized : Outcome → ℕ → Type 0 = λ outcome n.
+    OrElse BadKomi (komi_in (value_at_root (codes "KM") c)) outcome (λ komi. Line n komi outcome) in
+    one_needs NotGo (is_go_value (value_at_root (codes "GM") c)) a b
+    (λ outcome. OrElse BadSize (lines_in (value_at_root (codes "SZ") c)) outcome (Sized outcome))
     (one_or_else BadSize (lines_in (value_at_root (codes "SZ") c)) a b Sized (λ n p q.
     one_or_else BadKomi (komi_in (value_at_root (codes "KM") c)) a b (λ outcome komi. Line n komi outcome) (λ komi x y.
     one_setup (looked_at number (events_from 0 (main_line c))) n komi (replicate (n * n) None) None a b x y) p q)) h k

@@ -10,5 +10,6 @@ none_stand : (n : ℕ) → list_any is_some (replicate {A = Option Colour} n Non
 none_stand zero = refl
 none_stand (suc n) = none_stand n
 
-pub empty_is_vacant : (s : Standing) (n : ℕ) (komi : ℤ) (rule : Superko) → s ≡ empty_start n komi rule → is_vacant_standing s ≡ true
+pub empty_is_vacant : (s : Standing) (n : ℕ) (komi : ℤ) (rule : Superko) → s ≡ empty_start n komi rule →
+    is_vacant_standing s ≡ true
 empty_is_vacant s n komi rule e = ap is_vacant_standing e ∙ ap (λ b. not b && true) (none_stand (n * n))

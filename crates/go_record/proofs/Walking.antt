@@ -28,13 +28,15 @@ seen_over All e xs ys = absurd (true≢false (sym e))
 seen_over (Moves k) e xs ys = absurd (true≢false (sym e))
 seen_over Nothing e xs ys = refl
 
-pub seen_turn : (left : Left) → is_nothing left ≡ false → (node : ℕ) (value : List ℕ) (later : List Event) → seen left (turn node value ∷ later) ≡ turn node value ∷ seen left later
+pub seen_turn : (left : Left) → is_nothing left ≡ false → (node : ℕ) (value : List ℕ) (later : List Event) →
+    seen left (turn node value ∷ later) ≡ turn node value ∷ seen left later
 seen_turn All e node value later = refl
 seen_turn (Moves zero) e node value later = refl
 seen_turn (Moves (suc k)) e node value later = refl
 seen_turn Nothing e node value later = absurd (true≢false e)
 
-pub seen_stones : (left : Left) → is_nothing left ≡ false → (node : ℕ) (c : Option Colour) (values : List (List ℕ)) (later : List Event) →
+pub seen_stones : (left : Left) → is_nothing left ≡ false →
+    (node : ℕ) (c : Option Colour) (values : List (List ℕ)) (later : List Event) →
     seen left (stones node c values ∷ later) ≡ stones node c values ∷ seen left later
 seen_stones All e node c values later = refl
 seen_stones (Moves zero) e node c values later = refl
@@ -60,24 +62,30 @@ pub plays_end : (s : Standing) → Plays s [] (Ok s)
 unfolding Plays
 plays_end s = refl
 
-pub plays_turn : (s : Standing) (node : ℕ) (value : List ℕ) (events : List Event) (outcome : Outcome) → Plays s events outcome → Plays s (turn node value ∷ events) outcome
+pub plays_turn : (s : Standing) (node : ℕ) (value : List ℕ) (events : List Event) (outcome : Outcome) →
+    Plays s events outcome → Plays s (turn node value ∷ events) outcome
 unfolding Plays
 plays_turn s node value events outcome h = h
 
-pub plays_stones : (s : Standing) (node : ℕ) (c : Option Colour) (values : List (List ℕ)) (events : List Event) → Plays s (stones node c values ∷ events) (Err (SetupAfterMove node))
+pub plays_stones : (s : Standing) (node : ℕ) (c : Option Colour) (values : List (List ℕ)) (events : List Event) →
+    Plays s (stones node c values ∷ events) (Err (SetupAfterMove node))
 unfolding Plays
 plays_stones s node c values events = refl
 
-pub plays_bad : (s : Standing) (node : ℕ) (c : Colour) (value : List ℕ) (events : List Event) → vertex_in s.lines value ≡ None → Plays s (move_met node c value ∷ events) (Err (BadValue node))
+pub plays_bad : (s : Standing) (node : ℕ) (c : Colour) (value : List ℕ) (events : List Event) →
+    vertex_in s.lines value ≡ None → Plays s (move_met node c value ∷ events) (Err (BadValue node))
 unfolding Plays
 plays_bad s node c value events e = rw e refl
 
-pub plays_legal : (s : Standing) (node : ℕ) (c : Colour) (value : List ℕ) (v : Vertex) (events : List Event) (outcome : Outcome) → vertex_in s.lines value ≡ Some v →
-    IsLegal s c v → Plays (with_move s (record { colour = c; vertex = v })) events outcome → Plays s (move_met node c value ∷ events) outcome
+pub plays_legal : (s : Standing) (node : ℕ) (c : Colour) (value : List ℕ) (v : Vertex) (events : List Event)
+    (outcome : Outcome) → vertex_in s.lines value ≡ Some v →
+    IsLegal s c v → Plays (with_move s (record { colour = c; vertex = v })) events outcome →
+    Plays s (move_met node c value ∷ events) outcome
 unfolding Plays
 plays_legal s node c value v events outcome e l h = rw e (inl (l, h))
 
-pub plays_refused : (s : Standing) (node : ℕ) (c : Colour) (value : List ℕ) (v : Vertex) (events : List Event) (outcome : Outcome) → vertex_in s.lines value ≡ Some v →
+pub plays_refused : (s : Standing) (node : ℕ) (c : Colour) (value : List ℕ) (v : Vertex) (events : List Event)
+    (outcome : Outcome) → vertex_in s.lines value ≡ Some v →
     IsRefused s c v outcome → Plays s (move_met node c value ∷ events) outcome
 unfolding Plays
 plays_refused s node c value v events outcome e h = rw e (inr h)
@@ -88,25 +96,31 @@ module _ (n : ℕ) (komi : ℤ) (g : Colouring) (given : Option Colour) where
   sets_end outcome h = h
 
   pub sets_move : (node : ℕ) (c : Colour) (value : List ℕ) (events : List Event) (outcome : Outcome) →
-      Begins n komi g given (move_met node c value ∷ events) outcome → SetsUp n komi g given (move_met node c value ∷ events) outcome
+      Begins n komi g given (move_met node c value ∷ events) outcome →
+      SetsUp n komi g given (move_met node c value ∷ events) outcome
   unfolding SetsUp
   sets_move node c value events outcome h = h
 
-  pub sets_turn : (node : ℕ) (value : List ℕ) (c : Colour) (events : List Event) (outcome : Outcome) → colour_stated value ≡ Some c →
+  pub sets_turn : (node : ℕ) (value : List ℕ) (c : Colour) (events : List Event) (outcome : Outcome) →
+      colour_stated value ≡ Some c →
       SetsUp n komi g (Some c) events outcome → SetsUp n komi g given (turn node value ∷ events) outcome
   unfolding SetsUp
   sets_turn node value c events outcome e h = rw e h
 
-  pub sets_turn_bad : (node : ℕ) (value : List ℕ) (events : List Event) → colour_stated value ≡ None → SetsUp n komi g given (turn node value ∷ events) (Err (BadValue node))
+  pub sets_turn_bad : (node : ℕ) (value : List ℕ) (events : List Event) → colour_stated value ≡ None →
+      SetsUp n komi g given (turn node value ∷ events) (Err (BadValue node))
   unfolding SetsUp
   sets_turn_bad node value events e = rw e refl
 
-  pub sets_stones : (node : ℕ) (c : Option Colour) (values : List (List ℕ)) (ps : List Point) (events : List Event) (outcome : Outcome) → points_by_values n values ≡ Some ps →
-      SetsUp n komi (with_points n c g ps) given events outcome → SetsUp n komi g given (stones node c values ∷ events) outcome
+  pub sets_stones : (node : ℕ) (c : Option Colour) (values : List (List ℕ)) (ps : List Point) (events : List Event)
+      (outcome : Outcome) → points_by_values n values ≡ Some ps →
+      SetsUp n komi (with_points n c g ps) given events outcome →
+      SetsUp n komi g given (stones node c values ∷ events) outcome
   unfolding SetsUp
   sets_stones node c values ps events outcome e h = rw e h
 
-  pub sets_stones_bad : (node : ℕ) (c : Option Colour) (values : List (List ℕ)) (events : List Event) → points_by_values n values ≡ None →
+  pub sets_stones_bad : (node : ℕ) (c : Option Colour) (values : List (List ℕ)) (events : List Event) →
+      points_by_values n values ≡ None →
       SetsUp n komi g given (stones node c values ∷ events) (Err (BadValue node))
   unfolding SetsUp
   sets_stones_bad node c values events e = rw e refl
@@ -118,52 +132,67 @@ passes_nothing w = record { passed = λ later outcome h. h }
 
 pub passes_over : (w : WalkedGame) → is_nothing w.0.left ≡ true → (events : List Event) → Passes w events w
 passes_over w e events = record {
-  passed = λ later outcome h. subst (λ (xs : List Event). GoesFrom w.0 (playing w) xs outcome) (seen_over w.0.left e later (events ++ later)) h;
+  passed = λ later outcome h. subst (λ (xs : List Event). GoesFrom w.0 (playing w) xs outcome)
+      (seen_over w.0.left e later (events ++ later)) h;
 }
 
 pub passes_passes : {a b c : WalkedGame} {xs ys : List Event} → Passes a xs b → Passes b ys c → Passes a (xs ++ ys) c
 passes_passes {a} {b} {c} {xs} {ys} p q = record {
-  passed = λ later outcome h. subst (λ (es : List Event). Goes a es outcome) (sym (append_assoc xs ys later)) (p.passed (ys ++ later) outcome (q.passed later outcome h));
+  passed = λ later outcome h. subst (λ (es : List Event). Goes a es outcome) (sym (append_assoc xs ys later))
+      (p.passed (ys ++ later) outcome (q.passed later outcome h));
 }
 
-pub passes_stops : {a b : WalkedGame} {xs ys : List Event} {e : RecordError} → Passes a xs b → Stops b ys e → Stops a (xs ++ ys) e
+pub passes_stops : {a b : WalkedGame} {xs ys : List Event} {e : RecordError} → Passes a xs b → Stops b ys e →
+    Stops a (xs ++ ys) e
 passes_stops {a} {b} {xs} {ys} {e} p q = record {
-  stopped = λ some later. subst (λ (es : List Event). Goes a es (Err e)) (sym (append_assoc xs ys later)) (p.passed (ys ++ later) (Err e) (q.stopped some later));
+  stopped = λ some later. subst (λ (es : List Event). Goes a es (Err e)) (sym (append_assoc xs ys later))
+      (p.passed (ys ++ later) (Err e) (q.stopped some later));
 }
 
-pub stops_longer : {a : WalkedGame} {xs : List Event} {e : RecordError} → Stops a xs e → (ys : List Event) → Stops a (xs ++ ys) e
+pub stops_longer : {a : WalkedGame} {xs : List Event} {e : RecordError} → Stops a xs e → (ys : List Event) →
+    Stops a (xs ++ ys) e
 stops_longer {a} {xs} {e} q ys = record {
-  stopped = λ some later. subst (λ (es : List Event). Goes a es (Err e)) (sym (append_assoc xs ys later)) (q.stopped some (ys ++ later));
+  stopped = λ some later. subst (λ (es : List Event). Goes a es (Err e)) (sym (append_assoc xs ys later))
+      (q.stopped some (ys ++ later));
 }
 
 -- a walk whose game and events are known
-pub goes_by : (w : WalkedGame) (o : Option GameValue) (xs ys : List Event) (outcome : Outcome) → playing w ≡ o → seen w.0.left xs ≡ ys → GoesFrom w.0 o ys outcome → Goes w xs outcome
+pub goes_by : (w : WalkedGame) (o : Option GameValue) (xs ys : List Event) (outcome : Outcome) → playing w ≡ o →
+    seen w.0.left xs ≡ ys → GoesFrom w.0 o ys outcome → Goes w xs outcome
 goes_by w o xs ys outcome e f h =
-    subst (λ (p : Option GameValue). GoesFrom w.0 p (seen w.0.left xs) outcome) (sym e) (subst (λ (zs : List Event). GoesFrom w.0 o zs outcome) (sym f) h)
+    subst (λ (p : Option GameValue). GoesFrom w.0 p (seen w.0.left xs) outcome) (sym e)
+    (subst (λ (zs : List Event). GoesFrom w.0 o zs outcome) (sym f) h)
 
-pub goes_from : (w : WalkedGame) (o : Option GameValue) (xs : List Event) (outcome : Outcome) → playing w ≡ o → Goes w xs outcome → GoesFrom w.0 o (seen w.0.left xs) outcome
+pub goes_from : (w : WalkedGame) (o : Option GameValue) (xs : List Event) (outcome : Outcome) → playing w ≡ o →
+    Goes w xs outcome → GoesFrom w.0 o (seen w.0.left xs) outcome
 goes_from w o xs outcome e h = subst (λ (p : Option GameValue). GoesFrom w.0 p (seen w.0.left xs) outcome) e h
 
 -- one event
 pub passes_event : {w new : WalkedGame} (o p : Option GameValue) (event : Event) → playing w ≡ o → playing new ≡ p →
     ((later : List Event) → seen w.0.left (event ∷ later) ≡ event ∷ seen new.0.left later) →
-    ((events : List Event) (outcome : Outcome) → GoesFrom new.0 p events outcome → GoesFrom w.0 o (event ∷ events) outcome) → Passes w (event ∷ []) new
+    ((events : List Event) (outcome : Outcome) → GoesFrom new.0 p events outcome →
+    GoesFrom w.0 o (event ∷ events) outcome) → Passes w (event ∷ []) new
 passes_event {w} {new} o p event e f split step = record {
   passed = λ later outcome h.
-      goes_by w o (event ∷ later) (event ∷ seen new.0.left later) outcome e (split later) (step (seen new.0.left later) outcome (goes_from new p later outcome f h));
+      goes_by w o (event ∷ later) (event ∷ seen new.0.left later) outcome e (split later)
+      (step (seen new.0.left later) outcome (goes_from new p later outcome f h));
 }
 
-pub stops_event : {w : WalkedGame} {error : RecordError} (o : Option GameValue) (left : Left) (event : Event) → playing w ≡ o →
+pub stops_event : {w : WalkedGame} {error : RecordError} (o : Option GameValue) (left : Left) (event : Event) →
+    playing w ≡ o →
     ((later : List Event) → seen w.0.left (event ∷ later) ≡ event ∷ seen left later) →
     (error ≢ Memory → (events : List Event) → GoesFrom w.0 o (event ∷ events) (Err error)) → Stops w (event ∷ []) error
 stops_event {w} {error} o left event e split step = record {
-  stopped = λ some later. goes_by w o (event ∷ later) (event ∷ seen left later) (Err error) e (split later) (step some (seen left later));
+  stopped = λ some later. goes_by w o (event ∷ later) (event ∷ seen left later) (Err error) e (split later)
+      (step some (seen left later));
 }
 
-pub passes_turn_playing : (w : WalkedGame) (game : GameValue) → playing w ≡ Some game → (node : ℕ) (value : List ℕ) → Passes w (turn node value ∷ []) w
+pub passes_turn_playing : (w : WalkedGame) (game : GameValue) → playing w ≡ Some game → (node : ℕ) (value : List ℕ) →
+    Passes w (turn node value ∷ []) w
 passes_turn_playing w game e node value = elim (cases_Bool (is_nothing w.0.left)) [
   | inl over ↦ passes_over w over (turn node value ∷ [])
-  | inr live ↦ passes_event (Some game) (Some game) (turn node value) e e (seen_turn w.0.left live node value) (plays_turn game.standing node value)
+  | inr live ↦ passes_event (Some game) (Some game) (turn node value) e e (seen_turn w.0.left live node value)
+      (plays_turn game.standing node value)
 ]
 
 -- ---- the end
@@ -172,10 +201,12 @@ pub end_playing : (w : WalkedGame) (game : GameValue) → playing w ≡ Some gam
 end_playing w game e = goes_by w (Some game) [] [] (Ok game.standing) e (seen_none w.0.left) (plays_end game.standing)
 
 pub end_started : {T : Type 0} (w : WalkedGame) (r : Result T RecordError) (s : Standing) → playing w ≡ None →
-    OnOk r (AreAlive w.0.grid.lines w.0.grid.colours × (s ≡ start_of w.0.grid.lines w.0.komi w.0.grid.colours w.0.turn)) → OnOk r (Goes w [] (Ok s))
+    OnOk r (AreAlive w.0.grid.lines w.0.grid.colours
+    × (s ≡ start_of w.0.grid.lines w.0.komi w.0.grid.colours w.0.turn)) → OnOk r (Goes w [] (Ok s))
 end_started w (Ok x) s e h =
     let start : Standing = start_of w.0.grid.lines w.0.komi w.0.grid.colours w.0.turn in
-    goes_by w None [] [] (Ok s) e (seen_none w.0.left) (sets_end w.0.grid.lines w.0.komi w.0.grid.colours w.0.turn (Ok s)
+    goes_by w None [] [] (Ok s) e (seen_none w.0.left)
+    (sets_end w.0.grid.lines w.0.komi w.0.grid.colours w.0.turn (Ok s)
     (inl (h.0, subst (λ (t : Standing). Plays start [] (Ok t)) (sym h.1) (plays_end start))))
 end_started w (Err error) s e h = h
 
@@ -184,21 +215,27 @@ pub end_dead : {T : Type 0} (w : WalkedGame) (r : Result T RecordError) → play
     IfErr r (λ error. error ≢ Memory → Goes w [] (Err error))
 end_dead w (Ok x) e h = h
 end_dead w (Err error) e h = λ some.
-    goes_by w None [] [] (Err error) e (seen_none w.0.left) (sets_end w.0.grid.lines w.0.komi w.0.grid.colours w.0.turn (Err error) (inr (h some)))
+    goes_by w None [] [] (Err error) e (seen_none w.0.left)
+    (sets_end w.0.grid.lines w.0.komi w.0.grid.colours w.0.turn (Err error) (inr (h some)))
 
-pub reason_of : (s : Standing) (c : Colour) (v : Vertex) (why : PlayError) (r : Result Taken PlayError) → r ≡ Err why → why ≢ play.Memory →
-    (r ≡ Err play.OffBoard) ↔ IsOffBoard s v → (r ≡ Err play.Occupied) ↔ IsOccupied s v → ((k : ℕ) → r ≡ Err (play.Repeats k) → IsRepeat s c v k) → IsReason s c v why
+pub reason_of : (s : Standing) (c : Colour) (v : Vertex) (why : PlayError) (r : Result Taken PlayError) → r ≡ Err why →
+    why ≢ play.Memory →
+    (r ≡ Err play.OffBoard) ↔ IsOffBoard s v → (r ≡ Err play.Occupied) ↔ IsOccupied s v →
+    ((k : ℕ) → r ≡ Err (play.Repeats k) → IsRepeat s c v k) → IsReason s c v why
 reason_of s c v play.Occupied r e some off occupied repeats = occupied.0 e
 reason_of s c v play.OffBoard r e some off occupied repeats = off.0 e
-reason_of s c v (play.Repeats k) r e some off occupied repeats = (λ h. cc (e, off.1 h), λ h. cc (e, occupied.1 h), repeats k e)
+reason_of s c v (play.Repeats k) r e some off occupied repeats =
+    (λ h. cc (e, off.1 h), λ h. cc (e, occupied.1 h), repeats k e)
 reason_of s c v play.Memory r e some off occupied repeats = some refl
 
 -- a call that is refused
-pub walked_stops : {T : Type 0} (r : Result T RecordError) (e : RecordError) (old new : WalkedGame) (events : List Event) → r ≡ Err e → Stops old events e → Walked r old events new
+pub walked_stops : {T : Type 0} (r : Result T RecordError) (e : RecordError) (old new : WalkedGame)
+    (events : List Event) → r ≡ Err e → Stops old events e → Walked r old events new
 walked_stops {T} r e old new events is h = subst (λ (q : Result T RecordError). Walked q old events new) (sym is) h
 
 -- a call after others
-pub walked_after : {T : Type 0} (r : Result T RecordError) (a b c : WalkedGame) (xs ys : List Event) → Passes a xs b → Walked r b ys c → Walked r a (xs ++ ys) c
+pub walked_after : {T : Type 0} (r : Result T RecordError) (a b c : WalkedGame) (xs ys : List Event) → Passes a xs b →
+    Walked r b ys c → Walked r a (xs ++ ys) c
 walked_after (Ok x) a b c xs ys p q = passes_passes p q
 walked_after (Err e) a b c xs ys p q = passes_stops p q
 
@@ -212,16 +249,20 @@ if_err (Ok x) f h = h
 if_err (Err e) f h = f e h
 
 -- the game that the first move begins
-pub began_setting : (w : WalkedGame) (s : Standing) → playing w ≡ None → AreAlive w.0.grid.lines w.0.grid.colours → s ≡ start_of w.0.grid.lines w.0.komi w.0.grid.colours w.0.turn →
-    (node : ℕ) (c : Colour) (value : List ℕ) (events : List Event) (outcome : Outcome) → Plays s (move_met node c value ∷ events) outcome →
+pub began_setting : (w : WalkedGame) (s : Standing) → playing w ≡ None → AreAlive w.0.grid.lines w.0.grid.colours →
+    s ≡ start_of w.0.grid.lines w.0.komi w.0.grid.colours w.0.turn →
+    (node : ℕ) (c : Colour) (value : List ℕ) (events : List Event) (outcome : Outcome) →
+    Plays s (move_met node c value ∷ events) outcome →
     GoesFrom w.0 (playing w) (move_met node c value ∷ events) outcome
 began_setting w s e alive is node c value events outcome h =
     subst (λ (o : Option GameValue). GoesFrom w.0 o (move_met node c value ∷ events) outcome) (sym e)
     (sets_move w.0.grid.lines w.0.komi w.0.grid.colours w.0.turn node c value events outcome
     (inl (alive, subst (λ (t : Standing). Plays t (move_met node c value ∷ events) outcome) is h)))
 
-pub began_dead : (w : WalkedGame) → playing w ≡ None → (error : RecordError) → IsDeadSetup w.0.grid.lines w.0.grid.colours (Err error) →
-    (node : ℕ) (c : Colour) (value : List ℕ) (events : List Event) → GoesFrom w.0 (playing w) (move_met node c value ∷ events) (Err error)
+pub began_dead : (w : WalkedGame) → playing w ≡ None → (error : RecordError) →
+    IsDeadSetup w.0.grid.lines w.0.grid.colours (Err error) →
+    (node : ℕ) (c : Colour) (value : List ℕ) (events : List Event) →
+    GoesFrom w.0 (playing w) (move_met node c value ∷ events) (Err error)
 began_dead w e error dead node c value events =
     subst (λ (o : Option GameValue). GoesFrom w.0 o (move_met node c value ∷ events) (Err error)) (sym e)
     (sets_move w.0.grid.lines w.0.komi w.0.grid.colours w.0.turn node c value events (Err error) (inr dead))

@@ -38,11 +38,11 @@ abbrev pub is_number_one : Option ℕ → Bool
 is_number_one None = false
 is_number_one (Some n) = n == 1
 
--- the game is Go where nothing else is said
+-- the game is Go unless the value names another
 abbrev pub is_go_value : List ℕ → Bool
 is_go_value value = is_blank_value value || is_number_one (number_in value)
 
--- columns and rows, where they are as many
+-- columns and rows, where they are equal
 abbrev pub number_of_both : Option ℕ → Option ℕ → Option ℕ
 number_of_both (Some m) (Some n) = if m == n then Some m else None
 number_of_both _ _ = None
@@ -60,7 +60,7 @@ lines_in value =
 abbrev pub komi_in : List ℕ → Option ℤ
 komi_in value = if is_blank_value value then Some (pos 0) else hundredths_by value
 
--- what a value gives, or this refusal
+-- the outcome with the value, or this refusal
 abbrev pub OrElse : {X : Type 0} → RecordError → Option X → Outcome → (X → Type 0) → Type 0
 OrElse error None outcome Later = outcome ≡ Err error
 OrElse error (Some x) outcome Later = Later x
@@ -70,8 +70,8 @@ abbrev pub Needs : RecordError → Bool → Outcome → Type 0 → Type 0
 Needs error false outcome Later = outcome ≡ Err error
 Needs error true outcome Later = Later
 
--- The outcome of a record, up to the move of a number where one is given: first its game, its size
--- and its komi are judged, and then the main line over an empty board.
+-- The outcome of a record, up to the move of a number where one is given: first its game, its size and its
+-- komi are judged, and then the main line on an empty board.
 unfoldable pub IsGameOf : Trees → Option ℕ → Outcome → Type 0
 IsGameOf c number outcome =
     Needs NotGo (is_go_value (value_at_root (codes "GM") c)) outcome

@@ -12,21 +12,21 @@ use Rattle.go_record.specs.Games.{IsGameOf}
 use Rattle.go_record.specs.Records.{record_of, game_tree}
 use Rattle.go_record.specs.Walks.{Outcome}
 
--- a record comes to one outcome, and to no other
+-- a record has one outcome, and no other
 abbrev pub OneOutcome : Type 0
 OneOutcome = (c : Trees) (number : Option ℕ) →
     (outcome : Outcome) × IsGameOf c number outcome × ((other : Outcome) → IsGameOf c number other → other ≡ outcome)
 
--- what a record comes to is a standing that play can come to
+-- the game of a record is a standing that play can reach
 abbrev pub SoundGames : Type 0
 SoundGames = (c : Trees) (number : Option ℕ) (s : Standing) → IsGameOf c number (Ok s) → IsSound s
 
--- and it stands under the positional rule
+-- and it is under the positional rule
 abbrev pub JudgedByPositions : Type 0
 JudgedByPositions = (c : Trees) (number : Option ℕ) (s : Standing) → IsGameOf c number (Ok s) → s.rule ≡ Positional
 
--- A standing's record can be spelled, and its text spells it and nothing else, so that it is read, if it isn't too
--- long; where the standing is under the positional rule, what is read comes to it and to nothing else.
+-- The record of a standing can be spelled. Its text spells it and nothing else, so it is read, if it isn't
+-- too long. Under the positional rule the outcome of that record is the standing and nothing else.
 pub record Records (s : Standing) : Type 0 where
   pub fit : IsFit (game_tree s)
   pub spelled : Spells (record_of s) (game_tree s)
@@ -36,6 +36,6 @@ pub record Records (s : Standing) : Type 0 where
   pub back : s.rule ≡ Positional → (c : Trees) (outcome : Outcome)
       → Spells (record_of s) c → IsGameOf c None outcome → outcome ≡ Ok s
 
--- so for every standing that play can come to
+-- so for every standing that play can reach
 abbrev pub RecordLaw : Type 0
 RecordLaw = (s : Standing) → IsSound s → Records s

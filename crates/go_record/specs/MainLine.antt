@@ -1,4 +1,4 @@
--- What the nodes of a record's main line say, in the order in which it is judged.
+-- The events of a record's main line, in the order in which they are judged.
 use Rattle.std.specs.Prelude.{ℕ, zero, suc, ◌+◌, ◌-◌, if◌then◌else◌, Bool, List, [], ◌∷◌, ◌++◌, Option, Some, None, bytes_eq, codes}
 use Rattle.std.specs.List.{flat_map}
 use Rattle.go_board.specs.declared.colour.Colour.{Colour}
@@ -59,7 +59,7 @@ abbrev pub events_from : ℕ → List (List Property) → List Event
 events_from node [] = []
 events_from node (ps ∷ nodes) = events_of node ps ++ events_from (node + 1) nodes
 
--- what comes before one more than so many moves
+-- the events before the move after this many moves
 abbrev pub before_move : ℕ → List Event → List Event
 before_move k [] = []
 before_move k (stones node colour values ∷ events) = stones node colour values ∷ before_move k events
@@ -67,7 +67,7 @@ before_move k (turn node value ∷ events) = turn node value ∷ before_move k e
 before_move zero (move_met node colour value ∷ events) = []
 before_move (suc k) (move_met node colour value ∷ events) = move_met node colour value ∷ before_move k events
 
--- all that is looked at: with a number, what comes before the move of that number. 0 is read as 1.
+-- the events that are visited: with a number, those before the move of that number. 0 is read as 1.
 abbrev pub looked_at : Option ℕ → List Event → List Event
 looked_at None events = events
 looked_at (Some n) events = before_move (n - 1) events

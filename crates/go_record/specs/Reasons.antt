@@ -8,7 +8,7 @@ use Rattle.go_board.specs.declared.vertex.Vertex.TheVariants.{At}
 use Rattle.go_record.specs.declared.error.RecordError.{RecordError}
 use Rattle.go_record.specs.declared.error.RecordError.TheVariants as error
 
--- why a move isn't legal, behind the move
+-- why a move isn't legal, after the move
 abbrev pub reason_text : PlayError → List ℕ
 reason_text Occupied = codes "is on a stone"
 reason_text OffBoard = codes "is off the board"

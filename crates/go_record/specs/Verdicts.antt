@@ -1,4 +1,4 @@
--- What a record states of its game's score, and how that compares with the score.
+-- What a record states of its game's score, compared with the score.
 use Rattle.std.specs.Prelude.{◌≡◌, ◌≢◌, ◌-ℤ◌, ℕ, ℤ, pos, Bool, false, ◌==◌, ◌||◌, if◌then◌else◌, List, [], ◌∷◌, Option, Some, None, Ok, bytes_eq, codes, drop, length, option_map, take}
 use Rattle.std.specs.Char.{is_ascii_digit}
 use Rattle.go_game.specs.Scores.{margin_of}

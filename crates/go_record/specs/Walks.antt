@@ -1,4 +1,4 @@
--- What comes of the events of a main line: a standing, or why it has none.
+-- The outcome of the events of a main line: a standing, or why there is none.
 use Rattle.std.specs.Prelude.{◌≡◌, ◌+◌, ℕ, ℤ, Bool, not, ◌&&◌, ◌⊎◌, if◌then◌else◌, List, [], ◌∷◌, Option, Some, None, Result, Ok, Err, length, slice_set}
 use Rattle.std.specs.List.{list_any}
 use Rattle.go_board.specs.declared.colour.Colour.{Colour}
@@ -23,7 +23,7 @@ use Rattle.go_record.specs.MainLine.{Event, stones, turn, move_met}
 abbrev pub Outcome : Type 0
 Outcome = Result Standing RecordError
 
--- what a value gives, or a refusal at its node where it is malformed
+-- the outcome with the value, or a refusal at its node where it is malformed
 abbrev pub OrBad : {X : Type 0} → ℕ → Option X → Outcome → (X → Type 0) → Type 0
 OrBad node None outcome Later = outcome ≡ Err (BadValue node)
 OrBad node (Some x) outcome Later = Later x
@@ -64,7 +64,7 @@ colour_stated value = colour_named (trimmed value)
 abbrev pub holds_stones : ℕ → Colouring → Colour → Bool
 holds_stones n g c = list_any (λ k. has_colour g k (Some c)) (points n)
 
--- the colour that was given, else White over black stones alone, else Black
+-- the given colour, or else White if there are only black stones, or else Black
 abbrev pub opening_mover : ℕ → Colouring → Option Colour → Colour
 opening_mover n g (Some c) = c
 opening_mover n g None = if holds_stones n g Black && not (holds_stones n g White) then White else Black

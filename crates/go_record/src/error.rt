@@ -24,7 +24,7 @@ pub enum RecordError {
     SetupAfterMove(usize),
     /// The first point in point order whose chain has no liberty at the start.
     DeadSetup(Point),
-    /// The move with this number isn't legal. The reason is never want of memory.
+    /// The move with this number isn't legal. The reason is never that there was no memory.
     Illegal(usize, PlayError),
     /// There was no memory for the game.
     Memory,
@@ -66,7 +66,7 @@ impl From<AllocError> for RecordError {
     }
 }
 
-/// Why a move isn't legal, as a text that goes on behind the move.
+/// Why a move isn't legal, as the text that follows the move.
 #[derive(Clone, Copy)]
 struct Reason(PlayError);
 

@@ -66,8 +66,8 @@ fn compared(stated: Option<i64>, margin: i64) -> Stated
     }
 }
 
-/// The margin that an RE value states, on Black's side. It stays out of `judge_source`, where it would
-/// hide from the compiler that what a game is moved out of needn't be emptied.
+/// The margin that an RE value states, on Black's side. It is not inlined into `judge_source`: there it would
+/// keep the compiler from seeing that a moved game needn't be emptied.
 #[inline(never)]
 fn margin_stated<A: Allocator + Copy>(alloc: A, value: &[u8]) -> Result<Option<i64>, AllocError>
     ensures { IfOk result
@@ -86,10 +86,10 @@ fn margin_in(word: &[u8]) -> Option<i64>
     if word.len() < 2 {
         return None;
     }
-    let (front, size) = word.split_at(2);
-    if is_text(front, b"B+") {
+    let (prefix, size) = word.split_at(2);
+    if is_text(prefix, b"B+") {
         size_stated(size)
-    } else if is_text(front, b"W+") {
+    } else if is_text(prefix, b"W+") {
         negated(size_stated(size))
     } else {
         None

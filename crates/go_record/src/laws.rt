@@ -6,24 +6,23 @@ ghost use Rattle.go_record.specs.declared.root.TheConstants.{USUAL_LINES};
 
 use go_sgf::laws::{canonical_spells_plain, one_record, spelled_is_read};
 
-/// A record comes to one outcome, a standing or a refusal, and to no other.
+/// A record has one outcome, a standing or a refusal, and no other.
 pub fn one_outcome()
     ensures { OneOutcome }
 {}
 
-/// The game of a record is a standing that play can come to.
+/// The game of a record is a standing that play can reach.
 pub fn sound_games()
     ensures { SoundGames }
 {}
 
-/// The game of a record stands under the positional rule, by which every record is judged.
+/// The game of a record is under the positional rule, by which every record is judged.
 pub fn judged_by_positions()
     ensures { JudgedByPositions }
 {}
 
-/// The record of a standing that play can come to is spelled by its text, which spells nothing
-/// else, and is read, if it isn't too long and there is memory; under the positional rule that
-/// comes to the standing.
+/// The record of a standing that play can reach is spelled by its text. That text spells nothing else. It is
+/// read, if it isn't too long and there is memory. Under the positional rule its game is the standing.
 pub fn record_law()
     ensures { RecordLaw }
 {

@@ -13,10 +13,10 @@
 //! let game = replay(rt.alloc(), &collection, Some(11))?;
 //! ```
 //!
-//! What is promised is in the clauses of `replaying.rt`, `judging.rt` and `writer.rt`. Their words
-//! are in `specs/`: `MainLine` says what the nodes of a main line say, `Walks` and `Games` what comes
-//! of it, `Verdicts` what is judged, and `Records` what a game's record is. `Laws` has what holds
-//! of all of them. What `specs/inner/` defines serves private functions alone.
+//! The promises are in the clauses of `replaying.rt`, `judging.rt` and `writer.rt`. Their words are in
+//! `specs/`: `MainLine` defines the events of a main line, `Walks` and `Games` their outcome, `Verdicts` the
+//! verdict, and `Records` the record of a game. `Laws` has what holds of all of them. Only the contracts of
+//! private functions use `specs/inner/`.
 #![tactic(auto)]
 
 mod error;

@@ -4,12 +4,11 @@ ghost use Rattle.go_record.specs.inner.Progress.{AreMoves};
 
 use go_board::Colour;
 
-/// The moves that were met in a node. Most nodes have one, which is kept, so that they are gone over
-/// once.
+/// The moves that were met in a node. Most nodes have one. It is kept, so that such a node is read once.
 #[derive(Clone, Copy)]
 pub(crate) enum MovesMet<'a> {
     NoMove,
-    /// A move of a colour with a value.
+    /// A colour's move, with its value.
     OneMove(Colour, &'a [u8]),
     MoreMoves,
 }

@@ -20,10 +20,10 @@ use go_sgf::laws::one_record;
 use go_sgf::{Checked, Collection, MainLine};
 use std::alloc::Allocator;
 
-/// The game of a record: that of the main line of its first tree, with the size, komi and start
-/// that it says. With a number the walk ends before the move of that number, counted from 1; 0 is
-/// read as 1. Memory may run out anywhere. Else the refusal is the first that is met: the game, the
-/// size and the komi in this order, and then along the line.
+/// The game of a record: that of the main line of its first tree, with its size, komi and start. With a
+/// number the walk ends before the move of that number, counted from 1. 0 is read as 1. Memory may run out
+/// anywhere. Otherwise the refusal is the first that is met: the game, the size and the komi in this order,
+/// and then along the line.
 pub fn replay<A: Allocator + Copy>(
     alloc: A,
     collection: &Collection<'_, A>,
@@ -55,7 +55,7 @@ pub fn replay_source<A: Allocator + Copy>(
     Ok(game)
 }
 
-/// Brings a game to where [`replay`] does, in place. Where that refuses, the game is vacant.
+/// Replays a record into an existing game, as [`replay`] does. After a refusal the game is vacant.
 pub fn replay_on<A: Allocator + Copy>(
     game: &mut Game<A>,
     collection: &Collection<'_, A>,
@@ -71,7 +71,7 @@ pub fn replay_on<A: Allocator + Copy>(
     replay_source_on(game, &collection.checked(), number)
 }
 
-/// Brings a game to where [`replay_source`] does, in place. Where that refuses, the game is vacant.
+/// Replays a record into an existing game, as [`replay_source`] does. After a refusal the game is vacant.
 pub fn replay_source_on<A: Allocator + Copy>(
     game: &mut Game<A>,
     source: &Checked<'_>,
@@ -92,7 +92,7 @@ pub fn replay_source_on<A: Allocator + Copy>(
     }
 }
 
-/// Brings a game to where a record's game stands, or to where the walk along it was refused.
+/// Replays a record into an existing game. After a refusal the game is as the walk left it.
 fn bring<A: Allocator + Copy>(
     game: &mut Game<A>,
     source: &Checked<'_>,
@@ -107,7 +107,7 @@ fn bring<A: Allocator + Copy>(
     walk_on(game, &root, source, number)
 }
 
-/// Walks along a record whose root says this.
+/// Walks along a record with these values at its root.
 pub(crate) fn walk_on<A: Allocator + Copy>(
     game: &mut Game<A>,
     root: &Root,
@@ -126,11 +126,11 @@ pub(crate) fn walk_on<A: Allocator + Copy>(
         is_playing: false,
         left: left_of(number),
     };
-    pass_line(&mut walk, game, source)?;
+    visit_line(&mut walk, game, source)?;
     walk.finish(game)
 }
 
-/// What a walk looks at that ends before the move of this number.
+/// The events that are visited by a walk that ends before the move of this number.
 fn left_of(number: Option<u32>) -> Left
     ensures { result ≡ left_by number }
 {
@@ -141,8 +141,8 @@ fn left_of(number: Option<u32>) -> Left
     }
 }
 
-/// Passes the main line of a record, as far as it is looked at.
-fn pass_line<A: Allocator + Copy>(
+/// Visits the nodes of a record's main line, up to the end of the walk.
+fn visit_line<A: Allocator + Copy>(
     walk: &mut Walk,
     game: &mut Game<A>,
     source: &Checked<'_>,
@@ -154,7 +154,7 @@ fn pass_line<A: Allocator + Copy>(
     let mut line = MainLine::of(source);
     let mut count = 0;
     while line.next_node() {
-        walk.pass_node(game, &mut line, count)?;
+        walk.visit_node(game, &mut line, count)?;
         if walk.is_over() {
             return Ok(());
         }

@@ -1,4 +1,4 @@
-//! What the first node of a record says of the whole game: GM, SZ, KM and RE. One pass over the node finds
+//! The values of the first node that hold for the whole game: GM, SZ, KM and RE. One pass over the node finds
 //! the four values. Then the game, the size and the komi are checked, in this order.
 ghost use Rattle.std.specs.Prelude.{◌≡◌, ◌==◌, ◌<◌, Err, IfErr, IfOk, IfSome, IsTrue, ℕ, List, [], ◌∷◌, Option, length, position};
 ghost use Rattle.go_board.specs.Komi.{IsKomi};
@@ -13,11 +13,11 @@ use crate::values::first_value;
 use go_board::Size;
 use go_sgf::{Checked, MainLine, hundredths_of, is_named, number_of};
 
-/// The lines of a board whose record says nothing of them.
+/// The number of lines of a board whose record has no SZ.
 pub const USUAL_LINES: u8 = 19;
 
-/// What a record's first node says beside its events: the first value of the first property with
-/// each name, or an empty one.
+/// The values of a record's first node that are no events: the first value of the first property with each
+/// name, or an empty one.
 #[derive(Clone, Copy)]
 pub(crate) struct RootValues<'a> {
     /// GM.
@@ -30,7 +30,7 @@ pub(crate) struct RootValues<'a> {
     pub(crate) result: &'a [u8],
 }
 
-/// The values at the root of a record. It stays out of what calls it, as `margin_stated` does.
+/// The values at the root of a record. It is not inlined, as `margin_stated` isn't.
 #[inline(never)]
 pub(crate) fn root_values<'a>(source: &Checked<'a>) -> RootValues<'a>
     ensures { OfRecord source.now (IsRootOf result) }
@@ -50,8 +50,7 @@ pub(crate) fn root_values<'a>(source: &Checked<'a>) -> RootValues<'a>
     found.values()
 }
 
-/// What was found in the front of a record's first node: the first value of the first property with
-/// each name.
+/// The values found so far in a record's first node: the first value of the first property with each name.
 #[derive(Clone, Copy)]
 struct Found<'a> {
     game: Option<&'a [u8]>,
@@ -61,7 +60,7 @@ struct Found<'a> {
 }
 
 impl<'a> Found<'a> {
-    /// What is found in front of all properties.
+    /// Before the first property nothing is found.
     fn nothing() -> Found<'a>
         ensures { (c : Trees) → AreFoundOf result (first_node c) c }
     {
@@ -85,7 +84,7 @@ impl<'a> Found<'a> {
         keep_named(&mut self.result, b"RE", name, value);
     }
 
-    /// Whether a property with each name was found, so that those behind say nothing.
+    /// Whether a property with each name was found, so that later ones don't count.
     fn is_whole(&self) -> bool
         ensures { IsTrue result → (left : List Property) (c : Trees) → AreFoundOf self.now left c
             → AreFoundOf self.now [] c }
@@ -106,7 +105,7 @@ impl<'a> Found<'a> {
     }
 }
 
-/// Keeps a property's first value, where its name is wanted and none with it came before.
+/// Keeps a property's first value, if it is the first property with the wanted name.
 fn keep_named<'a>(found: &mut Option<&'a [u8]>, wanted: &[u8], name: &[u8], value: &'a [u8])
     ensures { (p : Property) (later : List Property) → name.now ≡ p.name
         → value.now ≡ leading_value p.values
@@ -117,7 +116,7 @@ fn keep_named<'a>(found: &mut Option<&'a [u8]>, wanted: &[u8], name: &[u8], valu
     }
 }
 
-/// What a record's first node says of its game before any event.
+/// The size and the komi of a record's game.
 #[derive(Clone, Copy)]
 pub(crate) struct Root {
     pub(crate) size: Size,
@@ -125,7 +124,7 @@ pub(crate) struct Root {
     pub ghost in_range: { IsKomi komi },
 }
 
-/// The size and the komi of a record. The first refusal that is met: the game, the size, the komi.
+/// The size and the komi of a record, or the first refusal in this order: the game, the size, the komi.
 pub(crate) fn root_of(values: &RootValues<'_>) -> Result<Root, RecordError>
     ensures ok { (c : Trees) → IsRootOf values.now c
         → IfOk result (λ root. Says c root.size root.komi) }
@@ -144,7 +143,7 @@ pub(crate) fn root_of(values: &RootValues<'_>) -> Result<Root, RecordError>
     }
 }
 
-/// Whether a GM value says that the game is Go, which goes without saying.
+/// Whether a GM value says that the game is Go. An empty value says so too.
 pub(crate) fn is_go(value: &[u8]) -> bool
     ensures { result ≡ is_go_value value.now }
 {
@@ -169,7 +168,7 @@ fn is_blank(value: &[u8]) -> bool
         .all(|byte| matches!(*byte, b' ' | b'\t'..=b'\r'))
 }
 
-/// The size that an SZ value says: one number, or two that are equal.
+/// The size in an SZ value: one number, or two that are equal.
 pub(crate) fn size_of(value: &[u8]) -> Option<Size>
     ensures { result ≡ lines_in value.now }
 {
@@ -210,7 +209,7 @@ fn same_number(columns: Option<u32>, rows: Option<u32>) -> Option<u32>
     }
 }
 
-/// The komi that a KM value says, in hundredths of a point.
+/// The komi in a KM value, in hundredths of a point.
 pub(crate) fn komi_of(value: &[u8]) -> Option<i64>
     ensures value { result ≡ komi_in value.now }
     ensures range { IfSome result IsKomi }

@@ -13,8 +13,8 @@ ghost use Rattle.go_record.specs.Walks.{colour_stated, opening_mover, holds_ston
 use go_board::{Colour, Grid, Point};
 use go_sgf::{MainLine, Rectangle, Row, points_in, trim};
 
-/// Gives the points of a property's values a colour, or empties them, value by value. None at the
-/// first that is malformed: the points of those before it are set then.
+/// Gives the points of a property's values a colour, or empties them, value by value. None: a value is
+/// malformed. The points of the values before it are set then.
 pub(crate) fn set_points(
     grid: &mut Grid,
     colour: Option<Colour>,
@@ -67,7 +67,7 @@ pub(crate) fn colour_of(value: &[u8]) -> Option<Colour>
     Colour::named(trim(value))
 }
 
-/// The colour that moves first: the one given, else White over black stones alone, else Black.
+/// The colour that moves first: the given one, or else White if there are only black stones, or else Black.
 pub(crate) fn first_mover(grid: &Grid, given: Option<Colour>) -> Colour
     ensures { result ≡ opening_mover grid.now.lines grid.now.colours given }
 {
@@ -92,7 +92,7 @@ fn has_stones(grid: &Grid, colour: Colour) -> bool
     false
 }
 
-/// Whether a point with this colour has a stone of that one.
+/// Whether the colour of a point is this one.
 pub(crate) fn is_of(point: Option<Colour>, colour: Colour) -> bool
     ensures { result ≡ is_same point (Some colour) }
 {

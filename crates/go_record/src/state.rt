@@ -1,18 +1,20 @@
+//! The types of a walk, in a file of their own. A struct with a ghost field imports all that the ghost imports of
+//! its file name. In `walk.rt` that import would go in a circle.
 ghost use Rattle.go_board.specs.Komi.{IsKomi};
 
 use go_board::{Colour, Grid};
 
-/// What of the events that are still to come is looked at.
+/// Which of the later events a walk visits.
 #[derive(Clone, Copy)]
 pub(crate) enum Left {
     All,
-    /// All before the first of the moves that are one too many for this number.
+    /// This number of moves and the events between them, up to the next move.
     Moves(u32),
     Nothing,
 }
 
-/// A walk along a main line: the stones set up and the colour given to move, until a move is met
-/// and the game is played on.
+/// A walk along a main line. It has the stones set up and the colour to move, until it meets a move. From
+/// then on it plays on the game.
 #[derive(Drop)]
 pub(crate) struct Walk {
     pub(crate) komi: i64,

@@ -1,4 +1,4 @@
-/// What a record states of its score, beside what the score is.
+/// Whether the score that a record states is the score of its game.
 #[derive(Clone, Copy, Debug, PartialEq, Eq)]
 pub enum Stated {
     /// The record states no score.

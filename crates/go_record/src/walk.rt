@@ -24,8 +24,8 @@ use go_sgf::{MainLine, point_of};
 use std::alloc::Allocator;
 
 impl Walk {
-    /// Passes the node that was entered, which has this number: what sets up comes before the moves.
-    pub(crate) fn pass_node<A: Allocator + Copy>(
+    /// Visits the node that was entered, which has this number: its set-up, and then its moves.
+    pub(crate) fn visit_node<A: Allocator + Copy>(
         &mut self,
         game: &mut Game<A>,
         line: &mut MainLine<'_>,
@@ -47,7 +47,7 @@ impl Walk {
         }
     }
 
-    /// Sets up what the properties of a node say, and tells the moves among them.
+    /// Visits the set-up properties of a node, and returns the moves that were met.
     fn set_up<'a>(
         &mut self,
         line: &mut MainLine<'a>,
@@ -66,13 +66,13 @@ impl Walk {
     {
         let mut moves = MovesMet::NoMove;
         while let Some(name) = line.next_name() {
-            self.pass_setup(kind_of(name), line, node, &mut moves)?;
+            self.visit_setup(kind_of(name), line, node, &mut moves)?;
         }
         Ok(moves)
     }
 
-    /// Sets up what the values of a property of this kind say. A move is only met.
-    fn pass_setup<'a>(
+    /// Visits a property of this kind. Set-up is done. A move is only noted.
+    fn visit_setup<'a>(
         &mut self,
         kind: Kind,
         line: &mut MainLine<'a>,
@@ -114,13 +114,13 @@ impl Walk {
             (self.new, game.new) }
     {
         while let Some(name) = line.next_name() {
-            self.pass_move(game, kind_of(name), line, node)?;
+            self.visit_move(game, kind_of(name), line, node)?;
         }
         Ok(())
     }
 
-    /// Plays the move of a property of this kind, where it is one.
-    fn pass_move<A: Allocator + Copy>(
+    /// Plays the move of a property, if it is of that kind.
+    fn visit_move<A: Allocator + Copy>(
         &mut self,
         game: &mut Game<A>,
         kind: Kind,
@@ -167,7 +167,7 @@ impl Walk {
         }
     }
 
-    /// Gives the turn to the colour that a value names. After a move that is skipped.
+    /// Gives the turn to the colour that a value names. After a move it does nothing.
     fn set_turn(&mut self, value: &[u8], node: usize) -> Result<(), RecordError>
         ensures { (game : GameValue) → Walked result (self.old, game) (turn node value.now ∷ [])
             (self.new, game) }
@@ -184,7 +184,7 @@ impl Walk {
         }
     }
 
-    /// Whether nothing more is looked at.
+    /// Whether no later event is visited.
     pub(crate) fn is_over(&self) -> bool
         ensures { result ≡ is_nothing self.now.left }
     {
@@ -259,7 +259,7 @@ impl Walk {
         }
     }
 
-    /// Brings the game to the end of the walk, where no move was met.
+    /// Ends the walk. If it met no move, the game begins from the stones set up.
     pub(crate) fn finish<A: Allocator + Copy>(&self, game: &mut Game<A>) -> Result<(), RecordError>
         ensures ok { OnOk result (Goes (self.now, game.old) [] (Ok game.new.standing)) }
         ensures err { IfErr result (λ e. e ≢ Memory → Goes (self.now, game.old) [] (Err e)) }
@@ -294,7 +294,7 @@ fn play_value<A: Allocator + Copy>(
     }
 }
 
-/// Why a move is refused that comes after so many others.
+/// The refusal of the move after `count` moves.
 fn refusal(count: usize, why: PlayError) -> RecordError
     ensures { result ≢ Memory
         → (result ≡ RecordError.Illegal (count + 1) why) × (why ≢ PlayError.Memory) }
@@ -306,8 +306,8 @@ fn refusal(count: usize, why: PlayError) -> RecordError
     }
 }
 
-/// The number after this one, of a node or a move. There is none past the greatest; memory would
-/// be wanting for so many nodes long before.
+/// The number after this one, of a node or a move. There is none after the greatest, but no memory has room
+/// for that many nodes.
 pub(crate) fn next(number: usize) -> Result<usize, RecordError>
     ensures ok { IfOk result (λ after. after ≡ number + 1) }
     ensures err { IfErr result (λ e. e ≡ Memory) }

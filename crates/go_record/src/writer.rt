@@ -16,8 +16,8 @@ use go_game::{Game, hundredths_text};
 use itoa::Buffer;
 use std::alloc::Allocator;
 
-/// Writes the record of a game, and LF: its size, komi, start and moves. On a fault the device took
-/// a front of that text. It takes no memory.
+/// Writes the record of a game, and LF: its size, komi, start and moves. On a fault the device took a prefix
+/// of that text. It takes no memory.
 pub fn write_record<A: Allocator + Copy, W: Sink>(
     game: &Game<A>,
     writer: &mut W,
@@ -32,7 +32,7 @@ pub fn write_record<A: Allocator + Copy, W: Sink>(
     pen.finish()
 }
 
-/// Writes the record of a game without the LF behind it.
+/// Writes the record of a game, without the LF after it.
 pub fn put_record<A: Allocator + Copy, W: Sink>(game: &Game<A>, pen: &mut Pen<'_, W>)
     ensures { Writes W.Sink pen.old pen.new (record_body game.now.standing) }
 {
@@ -62,7 +62,7 @@ fn put_turn<A: Allocator + Copy, W: Sink>(game: &Game<A>, pen: &mut Pen<'_, W>)
     pen.put(b"]");
 }
 
-/// Writes the stones of a colour at the start, if there are any, behind their property's name.
+/// Writes the stones of a colour at the start, if there are any, after their property's name.
 fn put_stones<A: Allocator + Copy, W: Sink>(
     game: &Game<A>,
     name: &[u8],
@@ -72,34 +72,34 @@ fn put_stones<A: Allocator + Copy, W: Sink>(
     ensures { Writes W.Sink pen.old pen.new (stones_text game.now.standing name.now colour) }
 {
     let size = game.size();
-    let mut front = name;
+    let mut prefix = name;
     for number in 0..size.points() {
-        front = put_if_coloured(game, Point::numbered(size, number), colour, front, pen);
+        prefix = put_if_coloured(game, Point::numbered(size, number), colour, prefix, pen);
     }
 }
 
-/// Writes a point that has a stone of this colour at the start, behind what is to stand in front of
-/// it, and gives what is to stand in front of the next.
+/// Writes `prefix` and a point, if the point has a stone of this colour at the start. Returns the text to
+/// write before the next point.
 fn put_if_coloured<'a, A: Allocator + Copy, W: Sink>(
     game: &Game<A>,
     at: Point,
     colour: Colour,
-    front: &'a [u8],
+    prefix: &'a [u8],
     pen: &mut Pen<'_, W>,
 ) -> &'a [u8]
     requires { IsOn game.now.standing.lines at }
     ensures stone { Writes W.Sink pen.old pen.new
         (if has_colour game.now.standing.start (number_of game.now.standing.lines at) (Some colour)
-        then front.now ++ (91 ∷ (point_value game.now.standing.lines at ++ 93 ∷ [])) else []) }
+        then prefix.now ++ (91 ∷ (point_value game.now.standing.lines at ++ 93 ∷ [])) else []) }
     ensures next { result.now ≡ (if has_colour game.now.standing.start
-        (number_of game.now.standing.lines at) (Some colour) then [] else front.now) }
+        (number_of game.now.standing.lines at) (Some colour) then [] else prefix.now) }
 {
     if is_of(game.start_at(at), colour) {
-        pen.put(front);
+        pen.put(prefix);
         put_point(at, game.size(), pen);
         return b"";
     }
-    front
+    prefix
 }
 
 fn put_point<W: Sink>(at: Point, size: Size, pen: &mut Pen<'_, W>)

@@ -28,10 +28,15 @@ no_white semicolon b h = refl
 no_white (name n) b h = letter_same (n ++ b) (letter_then n b h)
 no_white (value_part v) b h = refl
 
-joined_spells : (ps : List Part) (rest : List ℕ) → AllByRecursion Begins ps → SpellsParts (text_of_parts ps ++ rest) ps (without_space rest)
+joined_spells : (ps : List Part) (rest : List ℕ) → AllByRecursion Begins ps →
+    SpellsParts (text_of_parts ps ++ rest) ps (without_space rest)
 joined_spells [] rest h = refl
-joined_spells (p ∷ ps) rest h =
-    (text_of_parts ps ++ rest, ap without_space (append_assoc (text p) (text_of_parts ps) rest) ∙ no_white p (text_of_parts ps ++ rest) h.0, joined_spells ps rest h.1)
+joined_spells (p ∷ ps) rest h = (
+  text_of_parts ps ++ rest,
+  ap without_space (append_assoc (text p) (text_of_parts ps) rest)
+      ∙ no_white p (text_of_parts ps ++ rest) h.0,
+  joined_spells ps rest h.1,
+)
 
 name_begins : (n : List ℕ) → IsName n → is_letter_first n ≡ true
 name_begins [] h = let e = h.1 in cc
@@ -41,23 +46,29 @@ values_begin : (vs : List (List ℕ)) → AllByRecursion Begins (map value_part 
 values_begin [] = tt
 values_begin (v ∷ vs) = (tt, values_begin vs)
 
-properties_begin : (ps : List Property) → AllByRecursion IsProperty ps → AllByRecursion Begins (flat_map property_parts ps)
+properties_begin : (ps : List Property) → AllByRecursion IsProperty ps →
+    AllByRecursion Begins (flat_map property_parts ps)
 properties_begin [] h = tt
 properties_begin (p ∷ ps) h =
-    AllByRecursion-append Begins (property_parts p) (flat_map property_parts ps) (name_begins p.name h.0.named, values_begin p.values)
+    AllByRecursion-append Begins (property_parts p) (flat_map property_parts ps)
+    (name_begins p.name h.0.named, values_begin p.values)
     (properties_begin ps h.1)
 
-nodes_begin : (ns : List (List Property)) → AllByRecursion (AllByRecursion IsProperty) ns → AllByRecursion Begins (flat_map node_parts ns)
+nodes_begin : (ns : List (List Property)) → AllByRecursion (AllByRecursion IsProperty) ns →
+    AllByRecursion Begins (flat_map node_parts ns)
 nodes_begin [] h = tt
 nodes_begin (n ∷ ns) h =
-    AllByRecursion-append Begins (node_parts n) (flat_map node_parts ns) (tt, properties_begin n h.0) (nodes_begin ns h.1)
+    AllByRecursion-append Begins (node_parts n) (flat_map node_parts ns) (tt, properties_begin n h.0)
+    (nodes_begin ns h.1)
 
 trees_begin : (c : Trees) → AreTrees c → AllByRecursion Begins (parts c)
 trees_begin none h = tt
 trees_begin (tree nodes children later) h = (
   tt,
-  AllByRecursion-append Begins (flat_map node_parts nodes) (parts children ++ (closing ∷ parts later)) (nodes_begin nodes h.1)
-      (AllByRecursion-append Begins (parts children) (closing ∷ parts later) (trees_begin children h.2) (tt, trees_begin later h.3)),
+  AllByRecursion-append Begins (flat_map node_parts nodes) (parts children ++ (closing ∷ parts later))
+      (nodes_begin nodes h.1)
+      (AllByRecursion-append Begins (parts children) (closing ∷ parts later) (trees_begin children h.2)
+      (tt, trees_begin later h.3)),
 )
 
 -- ---- plain names
@@ -84,9 +95,15 @@ filter-filter (c ∷ cs) = elim (cases_Bool (is_upper_byte c)) [
 ]
 
 plain_is_property : (p : Property) → IsProperty p → IsProperty (plain_property p)
-plain_is_property p h = record { named = (letters_kept p.name, upper_kept p.name h.named.1); some = h.some; inside = h.inside }
+plain_is_property p h = record {
+  named = (letters_kept p.name, upper_kept p.name h.named.1);
+  some = h.some;
+  inside =
+      h.inside;
+}
 
-all_plain : {X : Type 0} (P : X → Type 0) (f : X → X) → ((x : X) → P x → P (f x)) → (xs : List X) → AllByRecursion P xs → AllByRecursion P (map f xs)
+all_plain : {X : Type 0} (P : X → Type 0) (f : X → X) → ((x : X) → P x → P (f x)) → (xs : List X) →
+    AllByRecursion P xs → AllByRecursion P (map f xs)
 all_plain P f keeps [] h = tt
 all_plain P f keeps (x ∷ xs) h = (keeps x h.0, all_plain P f keeps xs h.1)
 
@@ -98,7 +115,8 @@ plain_trees : (c : Trees) → AreTrees c → AreTrees (plain c)
 plain_trees none h = tt
 plain_trees (tree nodes children later) h = (
   map_some (map plain_property) nodes h.0,
-  all_plain (AllByRecursion IsProperty) (map plain_property) (all_plain IsProperty plain_property plain_is_property) nodes h.1,
+  all_plain (AllByRecursion IsProperty) (map plain_property) (all_plain IsProperty plain_property plain_is_property)
+      nodes h.1,
   plain_trees children h.2,
   plain_trees later h.3,
 )
@@ -106,7 +124,8 @@ plain_trees (tree nodes children later) h = (
 plain_depth : (c : Trees) → depth (plain c) ≡ depth c
 plain_depth none = refl
 plain_depth (tree nodes children later) =
-    ap (λ k. max (suc k) (depth (plain later))) (plain_depth children) ∙ ap (λ k. max (suc (depth children)) k) (plain_depth later)
+    ap (λ k. max (suc k) (depth (plain later))) (plain_depth children)
+    ∙ ap (λ k. max (suc (depth children)) k) (plain_depth later)
 
 plain_some : (c : Trees) → c ≢ none → plain c ≢ none
 plain_some none some e = some refl
@@ -129,7 +148,8 @@ with_name vs n = record { name = n; values = vs }
 property-again : (p : Property) → plain_property (plain_property p) ≡ plain_property p
 property-again p = ap (with_name p.values) (filter-filter p.name)
 
-nodes-again : (ns : List (List Property)) → map (map plain_property) (map (map plain_property) ns) ≡ map (map plain_property) ns
+nodes-again : (ns : List (List Property)) →
+    map (map plain_property) (map (map plain_property) ns) ≡ map (map plain_property) ns
 nodes-again ns = same_map (map plain_property) (same_map plain_property property-again) ns
 
 plain-again : (c : Trees) → plain (plain c) ≡ plain c
@@ -142,9 +162,12 @@ plain-again (tree nodes children later) =
 canonical-again : (c : Trees) → canonical (plain c) ≡ canonical c
 canonical-again none = refl
 canonical-again (tree nodes children later) =
-    ap (λ ns. text_of_parts (opening ∷ (flat_map node_parts ns ++ (parts (plain (plain children)) ++ (closing ∷ [])))) ++ (10 ∷ canonical (plain later)))
+    ap (λ ns. text_of_parts (opening ∷ (flat_map node_parts ns ++ (parts (plain (plain children)) ++ (closing ∷ []))))
+    ++ (10 ∷ canonical (plain later)))
     (nodes-again nodes)
-    ∙ ap (λ t. text_of_parts (opening ∷ (flat_map node_parts (map (map plain_property) nodes) ++ (parts t ++ (closing ∷ [])))) ++ (10 ∷ canonical (plain later)))
+    ∙ ap (λ t. text_of_parts (opening ∷
+    (flat_map node_parts (map (map plain_property) nodes) ++ (parts t ++ (closing ∷ []))))
+    ++ (10 ∷ canonical (plain later)))
     (plain-again children)
     ∙ ap (λ xs. tree_text nodes children ++ (10 ∷ xs)) (canonical-again later)
 
@@ -158,18 +181,22 @@ canonical_parts (tree nodes children later) h =
     let rest : List ℕ = 10 ∷ canonical later in
     let begins : AllByRecursion Begins first = (
       tt,
-      AllByRecursion-append Begins front (parts (plain children) ++ (closing ∷ [])) (nodes_begin (map (map plain_property) nodes) h.1)
-          (AllByRecursion-append Begins (parts (plain children)) (closing ∷ []) (trees_begin (plain children) h.2) (tt, tt)),
+      AllByRecursion-append Begins front (parts (plain children) ++ (closing ∷ []))
+          (nodes_begin (map (map plain_property) nodes) h.1)
+          (AllByRecursion-append Begins (parts (plain children)) (closing ∷ []) (trees_begin (plain children) h.2)
+          (tt, tt)),
     ) in
     let later_spelled : SpellsParts (without_space rest) (parts (plain later)) [] =
-    SpellsParts-same (parts (plain later)) (canonical later) (without_space rest) [] (sym (after_space-again rest)) (canonical_parts later h.3) in
+    SpellsParts-same (parts (plain later)) (canonical later) (without_space rest) [] (sym (after_space-again rest))
+    (canonical_parts later h.3) in
     let whole : first ++ parts (plain later) ≡ parts (plain (tree nodes children later)) =
     ap (λ ps. opening ∷ ps)
     (append_assoc front (parts (plain children) ++ (closing ∷ [])) (parts (plain later))
     ∙ ap (λ ps. front ++ ps) (append_assoc (parts (plain children)) (closing ∷ []) (parts (plain later)))) in
     let P : List Part → Type 0 = λ ps. SpellsParts (canonical (tree nodes children later)) ps [] in
     subst P whole
-    (SpellsParts-append first (parts (plain later)) (text_of_parts first ++ rest) (without_space rest) [] (joined_spells first rest begins) later_spelled)
+    (SpellsParts-append first (parts (plain later)) (text_of_parts first ++ rest) (without_space rest) []
+    (joined_spells first rest begins) later_spelled)
 
 canonical_begins : (c : Trees) → c ≢ none → AreTrees c → tree_in (canonical c) ≡ canonical c
 canonical_begins none some h = refl

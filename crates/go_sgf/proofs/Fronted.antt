@@ -13,13 +13,15 @@ pub cooked_end : (n : ℕ) (m : Mode) → cooked n m [] ≡ []
 unfolding cooked
 cooked_end n m = refl
 
-pub cooked_more : (n : ℕ) (m : Mode) (c : ℕ) (cs : List ℕ) → cooked n m (c ∷ cs) ≡ option_to_list (cooked_next n m c).1 ++ cooked n (cooked_next n m c).0 cs
+pub cooked_more : (n : ℕ) (m : Mode) (c : ℕ) (cs : List ℕ) → cooked n m (c ∷ cs) ≡ option_to_list (cooked_next n m c).1
+    ++ cooked n (cooked_next n m c).0 cs
 unfolding cooked
 cooked_more n m c cs = refl
 
 -- one byte more of what is cooked
 pub cooked_on : (n : ℕ) (m : Mode) (bytes out : List ℕ) (i : ℕ) → i < length bytes →
-    (out ++ option_to_list (cooked_next n m (get_or bytes i 0)).1) ++ cooked n (cooked_next n m (get_or bytes i 0)).0 (drop (i + 1) bytes)
+    (out ++ option_to_list (cooked_next n m (get_or bytes i 0)).1)
+    ++ cooked n (cooked_next n m (get_or bytes i 0)).0 (drop (i + 1) bytes)
     ≡ out ++ cooked n m (drop i bytes)
 cooked_on n m bytes out i less =
     let c : ℕ = get_or bytes i 0 in
@@ -27,7 +29,8 @@ cooked_on n m bytes out i less =
     ∙ ap (λ xs. out ++ xs) (sym (at_drop_more (cooked n m) bytes i 0 less ∙ cooked_more n m c (drop (i + 1) bytes)))
 
 -- no byte is left to cook
-pub cooked_all : (n : ℕ) (m : Mode) (bytes out : List ℕ) (i : ℕ) → length bytes ≤ i → out ≡ out ++ cooked n m (drop i bytes)
+pub cooked_all : (n : ℕ) (m : Mode) (bytes out : List ℕ) (i : ℕ) → length bytes ≤ i → out ≡ out
+    ++ cooked n m (drop i bytes)
 cooked_all n m bytes out i h =
     sym (append-nil out) ∙ ap (λ xs. out ++ xs) (sym (at_drop_all (cooked n m) bytes i h ∙ cooked_end n m))
 
@@ -47,7 +50,8 @@ module _ (n : ℕ) where
   escape_break : (b : ℕ) (t : List ℕ) → is_line_break b ≡ true → cooked n Escape (b ∷ t) ≡ cooked n (Broke b) t
   escape_break b t e = cooked_more n Escape b t ∙ rw e refl
 
-  escape_other : (b : ℕ) (t : List ℕ) → is_line_break b ≡ false → cooked n Escape (b ∷ t) ≡ unblanked b ∷ cooked n Text t
+  escape_other : (b : ℕ) (t : List ℕ) → is_line_break b ≡ false →
+      cooked n Escape (b ∷ t) ≡ unblanked b ∷ cooked n Text t
   escape_other b t e = cooked_more n Escape b t ∙ rw e refl
 
   break_first : (b : ℕ) (t : List ℕ) → is_line_break b ≡ true → cooked n Text (b ∷ t) ≡ n ∷ cooked n (Broke b) t
@@ -55,7 +59,8 @@ module _ (n : ℕ) where
       let other : (b == 92) ≡ false = grind (arith, nat_tests) in
       cooked_more n Text b t ∙ rw (other, e) refl
 
-  other_first : (b : ℕ) (t : List ℕ) → (b == 92) ≡ false → is_line_break b ≡ false → cooked n Text (b ∷ t) ≡ unblanked b ∷ cooked n Text t
+  other_first : (b : ℕ) (t : List ℕ) → (b == 92) ≡ false → is_line_break b ≡ false →
+      cooked n Text (b ∷ t) ≡ unblanked b ∷ cooked n Text t
   other_first b t e f = cooked_more n Text b t ∙ rw (e, f) refl
 
   pub cooked_by_front : CookedByFront n
@@ -94,16 +99,19 @@ cooking_undoes_escaping (c ∷ cs) h =
     elim (cases_Bool (c == 92 || c == 93)) [
       | inl e ↦
           let no : is_line_break c ≡ false = grind (arith, nat_tests) in
-          rw e (front.escaped_other c (escaped cs) no ∙ ap (λ x. x ∷ cooked 10 Text (escaped cs)) same ∙ ap (λ xs. c ∷ xs) later)
+          rw e (front.escaped_other c (escaped cs) no ∙ ap (λ x. x ∷ cooked 10 Text (escaped cs)) same
+          ∙ ap (λ xs. c ∷ xs) later)
       | inr e ↦ rw e (elim (cases_Bool (c == 10)) [
         | inl f ↦
             let is : c ≡ 10 = eqb-true c 10 f in
             let breaks : is_line_break c ≡ true = rw is refl in
             let ends : goes_on c (escaped cs) ≡ false = rw is (no_return cs parts.1) in
-            front.single c (escaped cs) breaks ends ∙ ap (λ x. x ∷ cooked 10 Text (escaped cs)) (sym is) ∙ ap (λ xs. c ∷ xs) later
+            front.single c (escaped cs) breaks ends ∙ ap (λ x. x ∷ cooked 10 Text (escaped cs)) (sym is)
+            ∙ ap (λ xs. c ∷ xs) later
         | inr f ↦
             let plain : (c == 92) ≡ false = (or_parts (c == 92) (c == 93) e).0 in
             let no : is_line_break c ≡ false = rw (f, other) refl in
-            front.other c (escaped cs) plain no ∙ ap (λ x. x ∷ cooked 10 Text (escaped cs)) same ∙ ap (λ xs. c ∷ xs) later
+            front.other c (escaped cs) plain no ∙ ap (λ x. x ∷ cooked 10 Text (escaped cs)) same
+            ∙ ap (λ xs. c ∷ xs) later
       ])
     ]

@@ -28,7 +28,8 @@ pub record WholeIs (s : State) (d : ℕ) (b r : List ℕ) : Type 0 where
   pub left : without_space (drop at b) ≡ r
 
 module _ (limit : ℕ) where
-  whole_here : (s : State) (d c : ℕ) (cs r : List ℕ) (p : StateAt) → s ≢ whole → step s d c ≡ Some p → p.0 ≡ whole → without_space cs ≡ r →
+  whole_here : (s : State) (d c : ℕ) (cs r : List ℕ) (p : StateAt) → s ≢ whole → step s d c ≡ Some p → p.0 ≡ whole →
+      without_space cs ≡ r →
       WholeIs s d (c ∷ cs) r
   whole_here s d c cs r p ne e done left =
       let Q : Option StateAt → Type 0 = λ o. IsWhole o in
@@ -44,7 +45,8 @@ module _ (limit : ℕ) where
       before zero less = ne
       before (suc k) less = absurd (omega arith)
 
-  whole_later : (s : State) (d c : ℕ) (cs r : List ℕ) (p : StateAt) → s ≢ whole → step s d c ≡ Some p → WholeIs p.0 p.1 cs r → WholeIs s d (c ∷ cs) r
+  whole_later : (s : State) (d c : ℕ) (cs r : List ℕ) (p : StateAt) → s ≢ whole → step s d c ≡ Some p →
+      WholeIs p.0 p.1 cs r → WholeIs s d (c ∷ cs) r
   whole_later s d c cs r p ne e i =
       let Q : Option StateAt → Type 0 = λ o. IsWhole o in
       record {
@@ -82,7 +84,8 @@ module _ (limit : ℕ) where
     ]
   ]
 
-  pub whole_is : (b : List ℕ) (s : State) (d : ℕ) (r : List ℕ) → s ≢ whole → IsWithin limit d → outcome limit s d b ≡ Ok r → WholeIs s d b r
+  pub whole_is : (b : List ℕ) (s : State) (d : ℕ) (r : List ℕ) → s ≢ whole → IsWithin limit d →
+      outcome limit s d b ≡ Ok r → WholeIs s d b r
   whole_is [] s d r ne h e = let same : Err End ≡ Ok r = sym (machine.outcome_end limit s d) ∙ e in cc
   whole_is (c ∷ cs) s d r ne h e =
       by_step s d c cs r ne (step s d c) refl (step_leads d h.0 s c) (sym (machine.outcome_more limit s d c cs) ∙ e)
@@ -98,10 +101,14 @@ after_space-append (c ∷ cs) xs e = elim (cases_Bool (is_space c)) [
 ]
 
 -- more of the text behind what is spelled
-SpellsParts-longer : (ps : List Part) (b r xs : List ℕ) → begins_space xs ≡ false → SpellsParts b ps r → SpellsParts (b ++ xs) ps (r ++ xs)
+SpellsParts-longer : (ps : List Part) (b r xs : List ℕ) → begins_space xs ≡ false → SpellsParts b ps r →
+    SpellsParts (b ++ xs) ps (r ++ xs)
 SpellsParts-longer [] b r xs e h = after_space-append b xs e ∙ ap (λ ys. ys ++ xs) h
-SpellsParts-longer (p ∷ ps) b r xs e h =
-    (h.0 ++ xs, after_space-append b xs e ∙ ap (λ ys. ys ++ xs) h.1 ∙ append_assoc (text p) h.0 xs, SpellsParts-longer ps h.0 r xs e h.2)
+SpellsParts-longer (p ∷ ps) b r xs e h = (
+  h.0 ++ xs,
+  after_space-append b xs e ∙ ap (λ ys. ys ++ xs) h.1 ∙ append_assoc (text p) h.0 xs,
+  SpellsParts-longer ps h.0 r xs e h.2,
+)
 
 -- a text that ends with `)` isn't white space
 ends_some : (b : List ℕ) → without_space (b ++ (41 ∷ [])) ≢ []
@@ -121,25 +128,29 @@ tree_closed nodes children ps inner behind r s later =
     subst P (append_assoc (flat_map node_parts nodes) (parts children) (closing ∷ ps))
     (SpellsParts-append own (closing ∷ ps) b (41 ∷ behind) r longer (behind, refl, later))
 
-inner_outcome : (nodes : List (List Property)) (children : Trees) (inner : List ℕ) → AreTrees (tree nodes children none) →
+inner_outcome : (nodes : List (List Property)) (children : Trees) (inner : List ℕ) →
+    AreTrees (tree nodes children none) →
     SpellsParts inner (flat_map node_parts nodes ++ parts children) [] →
     outcome (depth children + 1) opened 1 (inner ++ (41 ∷ [])) ≡ Ok []
 inner_outcome nodes children inner fit s =
     let whole : SpellsParts (inner ++ (41 ∷ [])) (flat_map node_parts nodes ++ (parts children ++ (closing ∷ []))) [] =
     tree_closed nodes children [] inner [] [] s refl in
-    tree_outcome (depth children + 1) 1 (omega arith, omega arith) nodes children (inner ++ (41 ∷ [])) [] fit.0 fit.1 fit.2 (omega arith) whole
+    tree_outcome (depth children + 1) 1 (omega arith, omega arith) nodes children (inner ++ (41 ∷ [])) [] fit.0 fit.1
+    fit.2 (omega arith) whole
 
 -- the tree is whole at the end of its text
 ends_there : (inner : List ℕ) (i : WholeIs opened 1 (inner ++ (41 ∷ [])) []) → i.at ≡ length (inner ++ (41 ∷ []))
 ends_there inner i = elim (cases_lt (length inner) i.at) [
   | inl past ↦ let h = i.within in omega (arith, length-append inner (41 ∷ []))
   | inr before ↦
-      let rest : drop i.at (inner ++ (41 ∷ [])) ≡ drop i.at inner ++ (41 ∷ []) = drop-append-le i.at inner (41 ∷ []) before in
+      let rest : drop i.at (inner ++ (41 ∷ [])) ≡ drop i.at inner ++ (41 ∷ []) =
+      drop-append-le i.at inner (41 ∷ []) before in
       absurd (ends_some (drop i.at inner) (sym (ap without_space rest) ∙ i.left))
 ]
 
 fronts : (b : List ℕ) (i : WholeIs opened 1 b []) → i.at ≡ length b → (k : ℕ) → 0 < k →
-    (k < length (40 ∷ b) → IsUnfinished (stands (take k (40 ∷ b)))) × (length (40 ∷ b) ≤ k → IsWhole (stands (take k (40 ∷ b))))
+    (k < length (40 ∷ b) → IsUnfinished (stands (take k (40 ∷ b))))
+    × (length (40 ∷ b) ≤ k → IsWhole (stands (take k (40 ∷ b))))
 fronts b i e zero some = absurd (omega arith)
 fronts b i e (suc k) some = (
   λ less. i.before k (omega arith),
@@ -153,6 +164,8 @@ pub fronts_stand : FrontsStand
 fronts_stand t nodes children fit s k some =
     let b : List ℕ = s.0 ++ (41 ∷ []) in
     let i : WholeIs opened 1 b [] =
-    whole_is (depth children + 1) b opened 1 [] (λ e. cc) (omega arith, omega arith) (inner_outcome nodes children s.0 fit s.2) in
-    let P : List ℕ → Type 0 = λ xs. (k < length xs → IsUnfinished (stands (take k xs))) × (length xs ≤ k → IsWhole (stands (take k xs))) in
+    whole_is (depth children + 1) b opened 1 [] (λ e. cc) (omega arith, omega arith)
+    (inner_outcome nodes children s.0 fit s.2) in
+    let P : List ℕ → Type 0 = λ xs. (k < length xs → IsUnfinished (stands (take k xs)))
+    × (length xs ≤ k → IsWhole (stands (take k xs))) in
     subst P (sym s.1) (fronts b i (ends_there s.0 i) k some)

@@ -20,22 +20,28 @@ use Rattle.go_sgf.proofs.Parts.{SpellsParts-append, no_space_after, rest_le}
 
 -- ---- one more tree
 
-pub chain-push : (ts : List TreeValue) (t : TreeValue) → AreTrees (chain ts) → t.0 ≢ [] → AllByRecursion (AllByRecursion IsProperty) t.0 → AreTrees t.1 →
+pub chain-push : (ts : List TreeValue) (t : TreeValue) → AreTrees (chain ts) → t.0 ≢ [] →
+    AllByRecursion (AllByRecursion IsProperty) t.0 → AreTrees t.1 →
     AreTrees (chain (ts ++ t ∷ []))
 chain-push [] t h some fit children = (some, fit, children, tt)
 chain-push (x ∷ ts) t h some fit children = (h.0, h.1, h.2, chain-push ts t h.3 some fit children)
 
 pub parts-push : (ts : List TreeValue) (t : TreeValue) →
-    parts (chain (ts ++ t ∷ [])) ≡ parts (chain ts) ++ (opening ∷ (flat_map node_parts t.0 ++ (parts t.1 ++ (closing ∷ []))))
+    parts (chain (ts ++ t ∷ [])) ≡ parts (chain ts)
+    ++ (opening ∷ (flat_map node_parts t.0 ++ (parts t.1 ++ (closing ∷ []))))
 parts-push [] t = refl
 parts-push (x ∷ ts) t =
     let tail : List Part = opening ∷ (flat_map node_parts t.0 ++ (parts t.1 ++ (closing ∷ []))) in
-    let inner : parts x.1 ++ (closing ∷ parts (chain (ts ++ t ∷ []))) ≡ (parts x.1 ++ (closing ∷ parts (chain ts))) ++ tail =
-    ap (λ ps. parts x.1 ++ (closing ∷ ps)) (parts-push ts t) ∙ sym (append_assoc (parts x.1) (closing ∷ parts (chain ts)) tail) in
+    let inner : parts x.1 ++ (closing ∷ parts (chain (ts ++ t ∷ []))) ≡ (parts x.1 ++ (closing ∷ parts (chain ts)))
+    ++ tail =
+    ap (λ ps. parts x.1 ++ (closing ∷ ps)) (parts-push ts t)
+    ∙ sym (append_assoc (parts x.1) (closing ∷ parts (chain ts)) tail) in
     ap (λ ps. opening ∷ (flat_map node_parts x.0 ++ ps)) inner
-    ∙ ap (λ ps. opening ∷ ps) (sym (append_assoc (flat_map node_parts x.0) (parts x.1 ++ (closing ∷ parts (chain ts))) tail))
+    ∙ ap (λ ps. opening ∷ ps) (sym (append_assoc (flat_map node_parts x.0) (parts x.1 ++ (closing ∷ parts (chain ts)))
+    tail))
 
-pub depth-push : (ts : List TreeValue) (t : TreeValue) (n : ℕ) → depth (chain ts) ≤ n → suc (depth t.1) ≤ n → depth (chain (ts ++ t ∷ [])) ≤ n
+pub depth-push : (ts : List TreeValue) (t : TreeValue) (n : ℕ) → depth (chain ts) ≤ n → suc (depth t.1) ≤ n →
+    depth (chain (ts ++ t ∷ [])) ≤ n
 depth-push [] t n h k = omega arith
 depth-push (x ∷ ts) t n h k =
     let later : depth (chain (ts ++ t ∷ [])) ≤ n = depth-push ts t n (omega arith) k in
@@ -52,7 +58,8 @@ module _ (limit : ℕ) where
       outcome limit closed d b ≡ outcome limit opened (d + 1) inside
   into_child d h less b inside e =
       let more : suc d ≡ d + 1 = omega arith in
-      ap (outcome limit closed d) e ∙ machine.goes_on limit closed d 40 inside opened (d + 1) (ap opened_at more) (omega arith, omega arith)
+      ap (outcome limit closed d) e ∙ machine.goes_on limit closed d 40 inside opened (d + 1) (ap opened_at more)
+      (omega arith, omega arith)
 
   -- past a `)`
   pub out_of_child : (d : ℕ) → 1 ≤ d → (rest : List ℕ) → outcome_after limit (d + 1) rest ≡ outcome limit closed d rest
@@ -66,7 +73,8 @@ module _ (limit : ℕ) where
       let same : (suc limit == suc limit) ≡ true = eq-eqb (suc limit) (suc limit) refl in
       rw e (machine.outcome_more limit closed limit 40 inside ∙ rw same refl)
 
-  pub close_stops : (d : ℕ) (ps : List Part) (b rest : List ℕ) → SpellsParts b ps rest → is_first 40 rest ≡ false → is_first 41 rest ≡ false →
+  pub close_stops : (d : ℕ) (ps : List Part) (b rest : List ℕ) → SpellsParts b ps rest → is_first 40 rest ≡ false →
+      is_first 41 rest ≡ false →
       outcome limit closed d rest ≡ Err (here rest)
   close_stops d ps b rest h e f = machine.closed_stops limit d rest (no_space_after ps b rest h) e f
 
@@ -98,13 +106,15 @@ tree_of-out {A} t = fold_out-Tree A TreeValue nodes_and_children t
 
 -- ---- a tree read so far
 
-pub record TreeSoFar (d : ℕ) (b : List ℕ) (ns : List (List Property)) (ts : List TreeValue) (rest : List ℕ) : Type 0 where
+pub record TreeSoFar (d : ℕ) (b : List ℕ) (ns : List (List Property)) (ts : List TreeValue) (rest : List ℕ) :
+    Type 0 where
   pub fit : AreTrees (chain ts)
   pub nesting : depth (chain ts) + d ≤ MAX_DEPTH
   pub spelling : SpellsParts b (flat_map node_parts ns ++ parts (chain ts)) rest
   pub place : outcome MAX_DEPTH opened d b ≡ outcome MAX_DEPTH closed d rest
 
-pub tree_first : (d : ℕ) → IsWithin MAX_DEPTH d → (b : List ℕ) (ns : List (List Property)) (rest : List ℕ) → ReadsNodes b ns rest →
+pub tree_first : (d : ℕ) → IsWithin MAX_DEPTH d → (b : List ℕ) (ns : List (List Property)) (rest : List ℕ) →
+    ReadsNodes b ns rest →
     outcome MAX_DEPTH opened d b ≡ outcome MAX_DEPTH closed d rest → TreeSoFar d b ns [] rest
 tree_first d h b ns rest r place = record {
   fit = tt;
@@ -115,8 +125,10 @@ tree_first d h b ns rest r place = record {
   place = place;
 }
 
-pub tree_more : (d : ℕ) → IsWithin MAX_DEPTH d → d < MAX_DEPTH → (b : List ℕ) (ns : List (List Property)) (ts ts' : List TreeValue) (rest inside : List ℕ) (t : TreeValue)
-    (more : List ℕ) → TreeSoFar d b ns ts rest → ts' ≡ ts ++ t ∷ [] → rest ≡ 40 ∷ inside → ReadsTree (d + 1) inside t more →
+pub tree_more : (d : ℕ) → IsWithin MAX_DEPTH d → d < MAX_DEPTH →
+    (b : List ℕ) (ns : List (List Property)) (ts ts' : List TreeValue) (rest inside : List ℕ) (t : TreeValue)
+    (more : List ℕ) → TreeSoFar d b ns ts rest → ts' ≡ ts ++ t ∷ [] → rest ≡ 40 ∷ inside →
+    ReadsTree (d + 1) inside t more →
     outcome MAX_DEPTH opened (d + 1) inside ≡ outcome_after MAX_DEPTH (d + 1) more → TreeSoFar d b ns ts' more
 tree_more d h less b ns ts ts' rest inside t more far e f r place =
     let Q : List TreeValue → Type 0 = λ xs. TreeSoFar d b ns xs more in
@@ -128,16 +140,20 @@ tree_more d h less b ns ts ts' rest inside t more far e f r place =
           omega arith;
       spelling =
           let tail : List Part = opening ∷ (flat_map node_parts t.0 ++ (parts t.1 ++ (closing ∷ []))) in
-          let whole : flat_map node_parts ns ++ parts (chain (ts ++ t ∷ [])) ≡ (flat_map node_parts ns ++ parts (chain ts)) ++ tail =
-          ap (λ ps. flat_map node_parts ns ++ ps) (parts-push ts t) ∙ sym (append_assoc (flat_map node_parts ns) (parts (chain ts)) tail) in
+          let whole : flat_map node_parts ns
+          ++ parts (chain (ts ++ t ∷ [])) ≡ (flat_map node_parts ns ++ parts (chain ts)) ++ tail =
+          ap (λ ps. flat_map node_parts ns ++ ps) (parts-push ts t)
+          ∙ sym (append_assoc (flat_map node_parts ns) (parts (chain ts)) tail) in
           let P : List Part → Type 0 = λ ps. SpellsParts b ps more in
           subst P (sym whole)
-          (SpellsParts-append (flat_map node_parts ns ++ parts (chain ts)) tail b rest more far.spelling (inside, ap without_space f, r.spelling));
+          (SpellsParts-append (flat_map node_parts ns ++ parts (chain ts)) tail b rest more far.spelling
+          (inside, ap without_space f, r.spelling));
       place = far.place ∙ into_child MAX_DEPTH d h less rest inside f ∙ place ∙ out_of_child MAX_DEPTH d h.0 more;
     })
 
 -- behind the last child
-pub tree_whole : (d : ℕ) (b : List ℕ) (ns : List (List Property)) (ts : List TreeValue) (at rest behind : List ℕ) → ReadsNodes b ns at → TreeSoFar d b ns ts rest →
+pub tree_whole : (d : ℕ) (b : List ℕ) (ns : List (List Property)) (ts : List TreeValue) (at rest behind : List ℕ) →
+    ReadsNodes b ns at → TreeSoFar d b ns ts rest →
     rest ≡ 41 ∷ behind → ReadsToEnd d b (ns, chain ts) behind
 tree_whole d b ns ts at rest behind r far e = record {
   tree = record {
@@ -148,7 +164,8 @@ tree_whole d b ns ts at rest behind r far e = record {
     spelling =
         let P : List Part → Type 0 = λ ps. SpellsParts b ps (without_space behind) in
         subst P (append_assoc (flat_map node_parts ns) (parts (chain ts)) (closing ∷ []))
-        (SpellsParts-append (flat_map node_parts ns ++ parts (chain ts)) (closing ∷ []) b rest (without_space behind) far.spelling (behind, ap without_space e, refl));
+        (SpellsParts-append (flat_map node_parts ns ++ parts (chain ts)) (closing ∷ []) b rest (without_space behind)
+        far.spelling (behind, ap without_space e, refl));
   };
   closed =
       let Q : List ℕ → Type 0 = λ xs. SpellsParts b (flat_map node_parts ns ++ parts (chain ts)) xs in

@@ -47,9 +47,13 @@ byte_at n b front c more h e =
     let split = split_further n b front (c ∷ more) h e in
     let long : length (take (n + length front) b) ≡ n + length front =
     ap length split.0 ∙ length-append (take n b) front ∙ ap (λ k. k + length front) (length-take-le n b h) in
-    let less : n + length front < length b = omega (arith, ap length split.1, length-append (take (n + length front) b) (c ∷ more), long) in
-    let front_is : List ℕ = take (n + length front) b in
-    (less, ap (λ xs. get_or xs (n + length front) 0) split.1 ∙ ap (λ k. get_or (front_is ++ (c ∷ more)) k 0) (sym long) ∙ get_or-append_seam front_is c more 0)
+    let less : n + length front < length b =
+    omega (arith, ap length split.1, length-append (take (n + length front) b) (c ∷ more), long) in
+    let front_is : List ℕ = take (n + length front) b in (
+      less,
+      ap (λ xs. get_or xs (n + length front) 0) split.1 ∙ ap (λ k. get_or (front_is ++ (c ∷ more)) k 0) (sym long)
+          ∙ get_or-append_seam front_is c more 0,
+    )
 
 -- the byte where a search for `]` and `\` stops
 pub stop_is_escape : (c : ℕ) → is_ordinary c ≡ false → c ≢ 93 → c ≡ 92
@@ -59,7 +63,8 @@ stop_is_escape c h ne = elim (or_cases (c == 93) (c == 92) (not-false _ h)) [
 ]
 
 -- a value up to a `]`
-pub value_up_to : (n : ℕ) (b front rest : List ℕ) → n ≤ length b → IsValue (take n b) → list_all is_ordinary front ≡ true →
+pub value_up_to : (n : ℕ) (b front rest : List ℕ) → n ≤ length b → IsValue (take n b) →
+    list_all is_ordinary front ≡ true →
     drop n b ≡ front ++ rest → IsValue (take (n + length front) b)
 value_up_to n b front rest h v o e =
     let P : List ℕ → Type 0 = λ xs. IsValue xs in
@@ -76,7 +81,15 @@ past_escape n b front x rest h v o e =
     let split = split_further n b both rest h (e ∙ sym (append_assoc front (92 ∷ x ∷ []) rest)) in
     let long : n + length both ≡ n + length front + 2 = omega (arith, length-append front (92 ∷ x ∷ [])) in
     let within : n + length front + 2 ≤ length b =
-    omega (arith, ap length split.1, length-append (take (n + length both) b) rest, length-append front (92 ∷ x ∷ []), length-append (take n b) both, ap length split.0, length-take-le n b h) in
+    omega (
+      arith,
+      ap length split.1,
+      length-append (take (n + length both) b) rest,
+      length-append front (92 ∷ x ∷ []),
+      length-append (take n b) both,
+      ap length split.0,
+      length-take-le n b h,
+    ) in
     let inside : IsValue (take (n + length both) b) =
     rw split.0 (is_inside-append false (take n b) both v ∙ escape_inside front x o) in
     let P : ℕ → Type 0 = λ k. IsValue (take k b) in
@@ -101,4 +114,5 @@ pub no_end_escape : (b : List ℕ) → IsValue b → HasNoEnd (b ++ (92 ∷ []))
 no_end_escape b h = λ v more i e.
     let inside : IsValue (b ++ (92 ∷ 120 ∷ [])) = is_inside-append false b (92 ∷ 120 ∷ []) h in
     no_end (b ++ (92 ∷ 120 ∷ [])) inside v (more ++ (120 ∷ [])) i
-    (sym (append_assoc b (92 ∷ []) (120 ∷ [])) ∙ ap (λ (xs : List ℕ). xs ++ (120 ∷ [])) e ∙ append_assoc v (93 ∷ more) (120 ∷ []))
+    (sym (append_assoc b (92 ∷ []) (120 ∷ [])) ∙ ap (λ (xs : List ℕ). xs ++ (120 ∷ [])) e
+    ∙ append_assoc v (93 ∷ more) (120 ∷ []))

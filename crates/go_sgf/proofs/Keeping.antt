@@ -13,8 +13,10 @@ where_kept None h = tt
 where_kept (Some v) h = h refl
 
 -- a tree of nodes and children that are kept was added
-pub added_is : {V : Type 0} (old new : Option (List TreeValue)) (children : Option V) (trees : V → List TreeValue) (ts : List TreeValue) (nodes ns : List (List Property)) →
-    IfSome children (λ list. new ≡ option_map (λ us. us ++ (nodes, chain (trees list)) ∷ []) old) → nodes ≡ ns → option_map trees children ≡ Some ts →
+pub added_is : {V : Type 0} (old new : Option (List TreeValue)) (children : Option V) (trees : V → List TreeValue)
+    (ts : List TreeValue) (nodes ns : List (List Property)) →
+    IfSome children (λ list. new ≡ option_map (λ us. us ++ (nodes, chain (trees list)) ∷ []) old) → nodes ≡ ns →
+    option_map trees children ≡ Some ts →
     new ≡ option_map (λ us. us ++ (ns, chain ts) ∷ []) old
 added_is old new None trees ts nodes ns h e f = cc
 added_is old new (Some list) trees ts nodes ns h e f =

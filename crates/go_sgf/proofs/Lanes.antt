@@ -18,15 +18,18 @@ either_top true false = refl
 either_top false true = refl
 either_top false false = refl
 
-either_lanes : (a b : ℕ) (v : List ℕ) → map (top 7) (zip2 bit_or (map (λ x. hit x a) v) (map (λ x. hit x b) v)) ≡ map (is_byte2 a b) v
+either_lanes : (a b : ℕ) (v : List ℕ) →
+    map (top 7) (zip2 bit_or (map (λ x. hit x a) v) (map (λ x. hit x b) v)) ≡ map (is_byte2 a b) v
 either_lanes a b [] = refl
 either_lanes a b (x ∷ xs) = ap₂ (λ y ys. y ∷ ys) (either_top (eqb x a) (eqb x b)) (either_lanes a b xs)
 
 -- the bits of the bytes that are one of two
 pub either_mask : (a b : ℕ) (v : List ℕ) → length v ≡ 16 →
-    mask_l (map (top 7) (zip2 bit_or (zip2 hit v (replicate 16 a)) (zip2 hit v (replicate 16 b)))) % 2 ^ 64 ≡ mask_l (map (is_byte2 a b) v)
+    mask_l (map (top 7) (zip2 bit_or (zip2 hit v (replicate 16 a)) (zip2 hit v (replicate 16 b)))) % 2 ^ 64 ≡ mask_l
+    (map (is_byte2 a b) v)
 either_mask a b v long =
-    ap (λ l. mask_l (map (top 7) l) % 2 ^ 64) (ap₂ (zip2 bit_or) (zip2_splat hit v 16 a long) (zip2_splat hit v 16 b long))
+    ap (λ l. mask_l (map (top 7) l) % 2 ^ 64)
+    (ap₂ (zip2 bit_or) (zip2_splat hit v 16 a long) (zip2_splat hit v 16 b long))
     ∙ ap (λ l. mask_l l % 2 ^ 64) (either_lanes a b v)
     ∙ mask_l-mod (map (is_byte2 a b) v) 64 (omega (arith, length-map v (is_byte2 a b)))
 
@@ -42,8 +45,10 @@ passes_within p (x ∷ xs) h = elim (cases_Bool (p x)) [
 ]
 
 -- the place of the first byte that passes, from the lowest bit of those from a place on
-pub first_from : (p : ℕ → Bool) (xs : List ℕ) (i found : ℕ) → i + 16 ≤ length xs → found ≡ mask_l (map p (chunk i 16 xs)) → found ≢ 0 →
-    Nowhere (Passes p xs) 0 i → NoneBefore (Passes p xs) 0 (length xs) (i + count_trailing_zeros 64 found) × Passes p xs (i + count_trailing_zeros 64 found)
+pub first_from : (p : ℕ → Bool) (xs : List ℕ) (i found : ℕ) → i + 16 ≤ length xs →
+    found ≡ mask_l (map p (chunk i 16 xs)) → found ≢ 0 →
+    Nowhere (Passes p xs) 0 i → NoneBefore (Passes p xs) 0 (length xs) (i + count_trailing_zeros 64 found)
+    × Passes p xs (i + count_trailing_zeros 64 found)
 first_from p xs i found room is some before =
     let c : List ℕ = chunk i 16 xs in
     let long : length c ≡ 16 = length-chunk i 16 xs room in
@@ -56,14 +61,16 @@ first_from p xs i found room is some before =
         high = omega (arith, less);
         before = λ k low high passes. elim (cases_lt k i) [
           | inl below ↦ before k low below passes
-          | inr above ↦ true≢false (sym passes ∙ run_in_chunk_fails p xs i 16 (count_trailing_zeros 64 found) 0 room counted k above high)
+          | inr above ↦ true≢false (sym passes
+              ∙ run_in_chunk_fails p xs i 16 (count_trailing_zeros 64 found) 0 room counted k above high)
         ];
       },
       run_in_chunk_stops p xs i 16 (count_trailing_zeros 64 found) 0 room counted less,
     )
 
 -- no byte passes up to 16 further on, where none of those has a bit
-pub none_from : (p : ℕ → Bool) (xs : List ℕ) (i found : ℕ) → i + 16 ≤ length xs → found ≡ mask_l (map p (chunk i 16 xs)) → found ≡ 0 →
+pub none_from : (p : ℕ → Bool) (xs : List ℕ) (i found : ℕ) → i + 16 ≤ length xs →
+    found ≡ mask_l (map p (chunk i 16 xs)) → found ≡ 0 →
     Nowhere (Passes p xs) 0 i → Nowhere (Passes p xs) 0 (i + 16)
 none_from p xs i found room is empty before k low high passes = elim (cases_lt k i) [
   | inl below ↦ before k low below passes

@@ -38,13 +38,16 @@ outside_lower s d c e =
     let k : is_upper_byte c ≡ false = grind (arith, nat_tests) in
     rw (a, b, f, g, h, k, e) refl
 
-by_test : (b : Bool) (x y : Option StateAt) → (b ≡ true → x ≡ None) → (b ≡ false → y ≡ None) → (if b then x else y) ≡ None
+by_test : (b : Bool) (x y : Option StateAt) → (b ≡ true → x ≡ None) → (b ≡ false → y ≡ None) →
+    (if b then x else y) ≡ None
 by_test true x y p q = p refl
 by_test false x y p q = q refl
 
 -- no kind of byte fits
-pub outside_none : (s : State) (d c : ℕ) → (is_space c ≡ true → on_space s d ≡ None) → ((c == 40) ≡ true → on_open s d ≡ None) →
-    ((c == 41) ≡ true → on_close s d ≡ None) → ((c == 59) ≡ true → on_semicolon s d ≡ None) → ((c == 91) ≡ true → on_bracket s d ≡ None) →
+pub outside_none : (s : State) (d c : ℕ) → (is_space c ≡ true → on_space s d ≡ None) →
+    ((c == 40) ≡ true → on_open s d ≡ None) →
+    ((c == 41) ≡ true → on_close s d ≡ None) → ((c == 59) ≡ true → on_semicolon s d ≡ None) →
+    ((c == 91) ≡ true → on_bracket s d ≡ None) →
     (is_upper_byte c ≡ true → on_upper s d ≡ None) → (is_lower c ≡ true → on_lower s d ≡ None) → outside s d c ≡ None
 outside_none s d c space opening closing semicolon bracket upper lower =
     by_test (is_space c) _ _ space (λ _. by_test (c == 40) _ _ opening (λ _. by_test (c == 41) _ _ closing
@@ -76,7 +79,8 @@ module _ (limit : ℕ) where
   outcome_more s d c cs = refl
 
   -- a byte after which it goes on
-  pub goes_on : (s : State) (d c : ℕ) (cs : List ℕ) (s' : State) (d' : ℕ) → step s d c ≡ Some (s', d') → IsWithin limit d' →
+  pub goes_on : (s : State) (d c : ℕ) (cs : List ℕ) (s' : State) (d' : ℕ) → step s d c ≡ Some (s', d') →
+      IsWithin limit d' →
       outcome limit s d (c ∷ cs) ≡ outcome limit s' d' cs
   goes_on s d c cs s' d' e h =
       let shallow : (d' == suc limit) ≡ false = grind (arith, nat_tests) in
@@ -84,16 +88,19 @@ module _ (limit : ℕ) where
       outcome_more s d c cs ∙ rw (e, shallow, some) refl
 
   -- a byte that nothing allows
-  pub stuck : (s : State) (d c : ℕ) (cs : List ℕ) → step s d c ≡ None → outcome limit s d (c ∷ cs) ≡ Err (Unexpected (suc (length cs)))
+  pub stuck : (s : State) (d c : ℕ) (cs : List ℕ) → step s d c ≡ None →
+      outcome limit s d (c ∷ cs) ≡ Err (Unexpected (suc (length cs)))
   stuck s d c cs e = outcome_more s d c cs ∙ rw e refl
 
   -- two states from which a byte leads to the same place
-  pub one_step : (s s' : State) (d c : ℕ) (cs : List ℕ) → step s d c ≡ step s' d c → outcome limit s d (c ∷ cs) ≡ outcome limit s' d (c ∷ cs)
+  pub one_step : (s s' : State) (d c : ℕ) (cs : List ℕ) → step s d c ≡ step s' d c →
+      outcome limit s d (c ∷ cs) ≡ outcome limit s' d (c ∷ cs)
   one_step s s' d c cs e = outcome_more s d c cs ∙ rw e (sym (outcome_more s' d c cs))
 
   -- ---- white space
 
-  pub after_white : (s : State) → ((d c : ℕ) → is_space c ≡ true → step s d c ≡ Some (s, d)) → (d : ℕ) → IsWithin limit d →
+  pub after_white : (s : State) → ((d c : ℕ) → is_space c ≡ true → step s d c ≡ Some (s, d)) → (d : ℕ) →
+      IsWithin limit d →
       (b : List ℕ) → outcome limit s d b ≡ outcome limit s d (without_space b)
   after_white s keeps d h [] = refl
   after_white s keeps d h (c ∷ cs) = elim (cases_Bool (is_space c)) [
@@ -101,19 +108,24 @@ module _ (limit : ℕ) where
     | inr e ↦ rw (after_space_stop c cs e) refl
   ]
 
-  pub opened_white : (d : ℕ) → IsWithin limit d → (b : List ℕ) → outcome limit opened d b ≡ outcome limit opened d (without_space b)
+  pub opened_white : (d : ℕ) → IsWithin limit d → (b : List ℕ) →
+      outcome limit opened d b ≡ outcome limit opened d (without_space b)
   opened_white = after_white opened (λ d c e. outside_space opened d c e)
 
-  pub in_node_white : (d : ℕ) → IsWithin limit d → (b : List ℕ) → outcome limit in_node d b ≡ outcome limit in_node d (without_space b)
+  pub in_node_white : (d : ℕ) → IsWithin limit d → (b : List ℕ) →
+      outcome limit in_node d b ≡ outcome limit in_node d (without_space b)
   in_node_white = after_white in_node (λ d c e. outside_space in_node d c e)
 
-  pub gap_white : (d : ℕ) → IsWithin limit d → (b : List ℕ) → outcome limit gap d b ≡ outcome limit gap d (without_space b)
+  pub gap_white : (d : ℕ) → IsWithin limit d → (b : List ℕ) →
+      outcome limit gap d b ≡ outcome limit gap d (without_space b)
   gap_white = after_white gap (λ d c e. outside_space gap d c e)
 
-  pub after_value_white : (d : ℕ) → IsWithin limit d → (b : List ℕ) → outcome limit after d b ≡ outcome limit after d (without_space b)
+  pub after_value_white : (d : ℕ) → IsWithin limit d → (b : List ℕ) →
+      outcome limit after d b ≡ outcome limit after d (without_space b)
   after_value_white = after_white after (λ d c e. outside_space after d c e)
 
-  pub closed_white : (d : ℕ) → IsWithin limit d → (b : List ℕ) → outcome limit closed d b ≡ outcome limit closed d (without_space b)
+  pub closed_white : (d : ℕ) → IsWithin limit d → (b : List ℕ) →
+      outcome limit closed d b ≡ outcome limit closed d (without_space b)
   closed_white = after_white closed (λ d c e. outside_space closed d c e)
 
   -- a name is whole: white space may follow
@@ -130,12 +142,14 @@ module _ (limit : ℕ) where
 
   -- ---- where states agree, and where nothing goes on
 
-  pub gap_stops : (d : ℕ) (b : List ℕ) → begins_space b ≡ false → is_first 91 b ≡ false → outcome limit gap d b ≡ Err (here b)
+  pub gap_stops : (d : ℕ) (b : List ℕ) → begins_space b ≡ false → is_first 91 b ≡ false →
+      outcome limit gap d b ≡ Err (here b)
   gap_stops d [] e f = outcome_end gap d
   gap_stops d (c ∷ cs) e f = stuck gap d c cs
       (outside_none gap d c (λ g. (cc)) (λ _. refl) (λ _. refl) (λ _. refl) (λ g. (cc)) (λ _. refl) (λ _. refl))
 
-  pub opened_stops : (d : ℕ) (b : List ℕ) → begins_space b ≡ false → is_first 59 b ≡ false → outcome limit opened d b ≡ Err (here b)
+  pub opened_stops : (d : ℕ) (b : List ℕ) → begins_space b ≡ false → is_first 59 b ≡ false →
+      outcome limit opened d b ≡ Err (here b)
   opened_stops d [] e f = outcome_end opened d
   opened_stops d (c ∷ cs) e f = stuck opened d c cs
       (outside_none opened d c (λ g. (cc)) (λ _. refl) (λ _. refl) (λ g. (cc)) (λ _. refl) (λ _. refl) (λ _. refl))
@@ -161,7 +175,8 @@ module _ (limit : ℕ) where
   after_is_in_node d (c ∷ cs) e f = one_step after in_node d c cs (rw (e, f) refl)
 
   -- behind the last node
-  pub in_node_is_closed : (d : ℕ) (b : List ℕ) → begins_space b ≡ false → is_first 59 b ≡ false → is_letter_first b ≡ false →
+  pub in_node_is_closed : (d : ℕ) (b : List ℕ) → begins_space b ≡ false → is_first 59 b ≡ false →
+      is_letter_first b ≡ false →
       outcome limit in_node d b ≡ outcome limit closed d b
   in_node_is_closed d [] e f g = outcome_end in_node d ∙ sym (outcome_end closed d)
   in_node_is_closed d (c ∷ cs) e f g =
@@ -182,7 +197,8 @@ module _ (limit : ℕ) where
         | inr l ↦ goes_on named d c (cs ++ b) named d (outside_lower named d c l) h ∙ later
       ]
 
-  low_name : (d : ℕ) → IsWithin limit d → (ds b : List ℕ) → list_all is_letter_byte ds ≡ true → list_any is_upper_byte ds ≡ true →
+  low_name : (d : ℕ) → IsWithin limit d → (ds b : List ℕ) → list_all is_letter_byte ds ≡ true →
+      list_any is_upper_byte ds ≡ true →
       outcome limit low d (ds ++ b) ≡ outcome limit named d b
   low_name d h [] b e f = cc
   low_name d h (c ∷ cs) b e f =
@@ -195,7 +211,8 @@ module _ (limit : ℕ) where
             goes_on low d c (cs ++ b) low d (outside_lower low d c l) h ∙ low_name d h cs b parts.1 any
       ]
 
-  low_letters : (d : ℕ) → IsWithin limit d → (ds b : List ℕ) → list_all is_letter_byte ds ≡ true → list_any is_upper_byte ds ≡ false →
+  low_letters : (d : ℕ) → IsWithin limit d → (ds b : List ℕ) → list_all is_letter_byte ds ≡ true →
+      list_any is_upper_byte ds ≡ false →
       outcome limit low d (ds ++ b) ≡ outcome limit low d b
   low_letters d h [] b e f = refl
   low_letters d h (c ∷ cs) b e f =
@@ -205,21 +222,25 @@ module _ (limit : ℕ) where
       goes_on low d c (cs ++ b) low d (outside_lower low d c l) h ∙ low_letters d h cs b parts.1 none.1
 
   -- a first letter, in a node
-  first_letter : (d c : ℕ) (cs : List ℕ) → is_letter_byte c ≡ true → outcome limit in_node d (c ∷ cs) ≡ outcome limit low d (c ∷ cs)
+  first_letter : (d c : ℕ) (cs : List ℕ) → is_letter_byte c ≡ true →
+      outcome limit in_node d (c ∷ cs) ≡ outcome limit low d (c ∷ cs)
   first_letter d c cs e = one_step in_node low d c cs (elim (or_cases (is_upper_byte c) (is_lower c) e) [
     | inl u ↦ outside_upper in_node d c u ∙ sym (outside_upper low d c u)
     | inr l ↦ outside_lower in_node d c l ∙ sym (outside_lower low d c l)
   ])
 
   -- a name in a node
-  pub name_outcome : (d : ℕ) → IsWithin limit d → (ds b : List ℕ) → list_all is_letter_byte ds ≡ true → list_any is_upper_byte ds ≡ true →
+  pub name_outcome : (d : ℕ) → IsWithin limit d → (ds b : List ℕ) → list_all is_letter_byte ds ≡ true →
+      list_any is_upper_byte ds ≡ true →
       outcome limit in_node d (ds ++ b) ≡ outcome limit named d b
   name_outcome d h [] b e f = cc
   name_outcome d h (c ∷ cs) b e f =
-      first_letter d c (cs ++ b) ((and_parts (is_letter_byte c) (list_all is_letter_byte cs) e).0) ∙ low_name d h (c ∷ cs) b e f
+      first_letter d c (cs ++ b) ((and_parts (is_letter_byte c) (list_all is_letter_byte cs) e).0)
+      ∙ low_name d h (c ∷ cs) b e f
 
   -- letters that are no name
-  pub letters_stop : (d : ℕ) → IsWithin limit d → (ds b : List ℕ) → list_all is_letter_byte ds ≡ true → list_any is_upper_byte ds ≡ false →
+  pub letters_stop : (d : ℕ) → IsWithin limit d → (ds b : List ℕ) → list_all is_letter_byte ds ≡ true →
+      list_any is_upper_byte ds ≡ false →
       is_letter_first (ds ++ b) ≡ true → is_letter_first b ≡ false → outcome limit in_node d (ds ++ b) ≡ Err (here b)
   letters_stop d h [] b e f g k = cc
   letters_stop d h (c ∷ cs) b e f g k =
@@ -235,11 +256,14 @@ module _ (limit : ℕ) where
   value_outcome d h false (c ∷ cs) b e =
       let parts = and_parts (not (c == 93)) (is_inside (c == 92) cs) e in
       let other : (c == 93) ≡ false = not-true (c == 93) parts.0 in
-      goes_on in_value d c (cs ++ b) (value_state (c == 92)) d (rw other (ap (at_depth d) (inside_state (c == 92)))) h ∙ value_outcome d h (c == 92) cs b parts.1
+      goes_on in_value d c (cs ++ b) (value_state (c == 92)) d (rw other (ap (at_depth d) (inside_state (c == 92)))) h
+      ∙ value_outcome d h (c == 92) cs b parts.1
 
   -- a value that has no end
-  pub value_ends : (d : ℕ) → IsWithin limit d → (n : ℕ) (b : List ℕ) (escaped : Bool) → is_inside false (take n b) ≡ true →
-      outcome limit in_value d (drop n b) ≡ outcome limit (value_state escaped) d [] → outcome limit in_value d b ≡ Err End
+  pub value_ends : (d : ℕ) → IsWithin limit d → (n : ℕ) (b : List ℕ) (escaped : Bool) →
+      is_inside false (take n b) ≡ true →
+      outcome limit in_value d (drop n b) ≡ outcome limit (value_state escaped) d [] →
+      outcome limit in_value d b ≡ Err End
   value_ends d h n b escaped v e =
       ap (outcome limit in_value d) (sym (take-append-drop n b)) ∙ value_outcome d h false (take n b) (drop n b) v ∙ e
       ∙ outcome_end (value_state escaped) d
@@ -247,7 +271,8 @@ module _ (limit : ℕ) where
   pub ordinary_ends : (d : ℕ) → IsWithin limit d → (n : ℕ) (b : List ℕ) → is_inside false (take n b) ≡ true →
       list_all is_ordinary (drop n b) ≡ true → outcome limit in_value d b ≡ Err End
   ordinary_ends d h n b v o = value_ends d h n b false v
-      (ap (outcome limit in_value d) (sym (append-nil (drop n b))) ∙ value_outcome d h false (drop n b) [] (ordinary_inside (drop n b) o))
+      (ap (outcome limit in_value d) (sym (append-nil (drop n b)))
+      ∙ value_outcome d h false (drop n b) [] (ordinary_inside (drop n b) o))
 
   pub escape_ends : (d : ℕ) → IsWithin limit d → (n : ℕ) (b front : List ℕ) → is_inside false (take n b) ≡ true →
       list_all is_ordinary front ≡ true → drop n b ≡ front ++ (92 ∷ []) → outcome limit in_value d b ≡ Err End

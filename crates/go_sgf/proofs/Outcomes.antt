@@ -31,37 +31,44 @@ IsInNode _ = Unit {0}
 module _ (limit : ℕ) where
   -- ---- a node
 
-  state_white : (o : Stage) (d : ℕ) → IsWithin limit d → (b : List ℕ) → outcome limit (state_of o) d b ≡ outcome limit (state_of o) d (without_space b)
+  state_white : (o : Stage) (d : ℕ) → IsWithin limit d → (b : List ℕ) →
+      outcome limit (state_of o) d b ≡ outcome limit (state_of o) d (without_space b)
   state_white BehindChild = machine.closed_white limit
   state_white BehindValues = machine.after_value_white limit
   state_white BeforeFirst = machine.in_node_white limit
 
-  values_outcome : (d : ℕ) → IsWithin limit d → (vs : List (List ℕ)) (b r : List ℕ) → AllByRecursion IsValue vs → SpellsParts b (map value_part vs) r →
+  values_outcome : (d : ℕ) → IsWithin limit d → (vs : List (List ℕ)) (b r : List ℕ) → AllByRecursion IsValue vs →
+      SpellsParts b (map value_part vs) r →
       outcome limit after d b ≡ outcome limit after d r
   values_outcome d h [] b r i s = machine.after_value_white limit d h b ∙ ap (outcome limit after d) s
   values_outcome d h (v ∷ vs) b r i s =
       machine.after_value_white limit d h b
-      ∙ value_passed limit d h (without_space b) v (v ++ (93 ∷ s.0)) s.0 (s.1 ∙ ap (λ xs. 91 ∷ xs) (append_assoc v (93 ∷ []) s.0)) refl i.0
+      ∙ value_passed limit d h (without_space b) v (v ++ (93 ∷ s.0)) s.0
+      (s.1 ∙ ap (λ xs. 91 ∷ xs) (append_assoc v (93 ∷ []) s.0)) refl i.0
       ∙ sym (machine.after_value_white limit d h s.0)
       ∙ values_outcome d h vs s.0 r i.1 s.2
 
-  first_value : (d : ℕ) → IsWithin limit d → (vs : List (List ℕ)) (b r : List ℕ) → vs ≢ [] → SpellsParts b (map value_part vs) r →
+  first_value : (d : ℕ) → IsWithin limit d → (vs : List (List ℕ)) (b r : List ℕ) → vs ≢ [] →
+      SpellsParts b (map value_part vs) r →
       outcome limit named d b ≡ outcome limit after d b
   first_value d h [] b r some s = absurd (some refl)
   first_value d h (v ∷ vs) b r some s =
       values_begin limit d h b (without_space b) (bracket_no_letter b ((v ++ (93 ∷ [])) ++ s.0) s.1) refl (rw s.1 refl)
       ∙ sym (machine.after_value_white limit d h b)
 
-  letter_in_node : (d : ℕ) (o : Stage) → IsInNode o → (b : List ℕ) → is_letter_first b ≡ true → outcome limit (state_of o) d b ≡ outcome limit in_node d b
+  letter_in_node : (d : ℕ) (o : Stage) → IsInNode o → (b : List ℕ) → is_letter_first b ≡ true →
+      outcome limit (state_of o) d b ≡ outcome limit in_node d b
   letter_in_node d BehindChild k b e = absurd k
   letter_in_node d BeforeFirst k b e = refl
   letter_in_node d BehindValues k [] e = cc
-  letter_in_node d BehindValues k (c ∷ cs) e = machine.one_step limit after in_node d c cs (elim (or_cases (is_upper_byte c) (is_lower c) e) [
-    | inl u ↦ machine.outside_upper after d c u ∙ sym (machine.outside_upper in_node d c u)
-    | inr l ↦ machine.outside_lower after d c l ∙ sym (machine.outside_lower in_node d c l)
-  ])
+  letter_in_node d BehindValues k (c ∷ cs) e =
+      machine.one_step limit after in_node d c cs (elim (or_cases (is_upper_byte c) (is_lower c) e) [
+        | inl u ↦ machine.outside_upper after d c u ∙ sym (machine.outside_upper in_node d c u)
+        | inr l ↦ machine.outside_lower after d c l ∙ sym (machine.outside_lower in_node d c l)
+      ])
 
-  property_outcome : (d : ℕ) → IsWithin limit d → (o : Stage) → IsInNode o → (p : Property) (b r : List ℕ) → IsProperty p → SpellsParts b (property_parts p) r →
+  property_outcome : (d : ℕ) → IsWithin limit d → (o : Stage) → IsInNode o → (p : Property) (b r : List ℕ) →
+      IsProperty p → SpellsParts b (property_parts p) r →
       outcome limit (state_of o) d b ≡ outcome limit after d r
   property_outcome d h o k p b r i s =
       state_white o d h b ∙ ap (outcome limit (state_of o) d) s.1
@@ -70,8 +77,10 @@ module _ (limit : ℕ) where
       ∙ first_value d h p.values s.0 r i.some s.2
       ∙ values_outcome d h p.values s.0 r i.inside s.2
 
-  properties_outcome : (d : ℕ) → IsWithin limit d → (o : Stage) → IsInNode o → (ps : List Property) (b r : List ℕ) → AllByRecursion IsProperty ps →
-      SpellsParts b (flat_map property_parts ps) r → (o' : Stage) × IsInNode o' × (outcome limit (state_of o) d b ≡ outcome limit (state_of o') d r)
+  properties_outcome : (d : ℕ) → IsWithin limit d → (o : Stage) → IsInNode o → (ps : List Property) (b r : List ℕ) →
+      AllByRecursion IsProperty ps →
+      SpellsParts b (flat_map property_parts ps) r → (o' : Stage) × IsInNode o'
+      × (outcome limit (state_of o) d b ≡ outcome limit (state_of o') d r)
   properties_outcome d h o k [] b r i s = (o, k, state_white o d h b ∙ ap (outcome limit (state_of o) d) s)
   properties_outcome d h o k (p ∷ ps) b r i s =
       let split = SpellsParts-split (property_parts p) (flat_map property_parts ps) b r s in
@@ -79,16 +88,21 @@ module _ (limit : ℕ) where
       (later.0, later.1, property_outcome d h o k p b split.0 i.0 split.1 ∙ later.2)
 
   -- past a `;`
-  semicolon_outcome : (d : ℕ) → IsWithin limit d → (o : Stage) → IsInNode o → (b more : List ℕ) → without_space b ≡ 59 ∷ more →
+  semicolon_outcome : (d : ℕ) → IsWithin limit d → (o : Stage) → IsInNode o → (b more : List ℕ) →
+      without_space b ≡ 59 ∷ more →
       outcome limit (state_of o) d b ≡ outcome limit in_node d more
   semicolon_outcome d h BehindChild k b more e = absurd k
   semicolon_outcome d h BehindValues k b more e =
-      state_white BehindValues d h b ∙ ap (outcome limit after d) e ∙ machine.goes_on limit after d 59 more in_node d refl h
+      state_white BehindValues d h b ∙ ap (outcome limit after d) e
+      ∙ machine.goes_on limit after d 59 more in_node d refl h
   semicolon_outcome d h BeforeFirst k b more e =
-      state_white BeforeFirst d h b ∙ ap (outcome limit in_node d) e ∙ machine.goes_on limit in_node d 59 more in_node d refl h
+      state_white BeforeFirst d h b ∙ ap (outcome limit in_node d) e
+      ∙ machine.goes_on limit in_node d 59 more in_node d refl h
 
-  later_nodes : (d : ℕ) → IsWithin limit d → (o : Stage) → IsInNode o → (ns : List (List Property)) (b r : List ℕ) → AllByRecursion (AllByRecursion IsProperty) ns →
-      SpellsParts b (flat_map node_parts ns) r → (o' : Stage) × (outcome limit (state_of o) d b ≡ outcome limit (state_of o') d r)
+  later_nodes : (d : ℕ) → IsWithin limit d → (o : Stage) → IsInNode o → (ns : List (List Property)) (b r : List ℕ) →
+      AllByRecursion (AllByRecursion IsProperty) ns →
+      SpellsParts b (flat_map node_parts ns) r → (o' : Stage)
+      × (outcome limit (state_of o) d b ≡ outcome limit (state_of o') d r)
   later_nodes d h o k [] b r i s = (o, state_white o d h b ∙ ap (outcome limit (state_of o) d) s)
   later_nodes d h o k (n ∷ ns) b r i s =
       let split = SpellsParts-split (flat_map property_parts n) (flat_map node_parts ns) s.0 r s.2 in
@@ -97,8 +111,10 @@ module _ (limit : ℕ) where
       (later.0, semicolon_outcome d h o k b s.0 s.1 ∙ first.2 ∙ later.1)
 
   -- the nodes of a tree, behind its `(`
-  nodes_outcome : (d : ℕ) → IsWithin limit d → (ns : List (List Property)) (b r : List ℕ) → ns ≢ [] → AllByRecursion (AllByRecursion IsProperty) ns →
-      SpellsParts b (flat_map node_parts ns) r → (o' : Stage) × (outcome limit opened d b ≡ outcome limit (state_of o') d r)
+  nodes_outcome : (d : ℕ) → IsWithin limit d → (ns : List (List Property)) (b r : List ℕ) → ns ≢ [] →
+      AllByRecursion (AllByRecursion IsProperty) ns →
+      SpellsParts b (flat_map node_parts ns) r → (o' : Stage)
+      × (outcome limit opened d b ≡ outcome limit (state_of o') d r)
   nodes_outcome d h [] b r some i s = absurd (some refl)
   nodes_outcome d h (n ∷ ns) b r some i s =
       let split = SpellsParts-split (flat_map property_parts n) (flat_map node_parts ns) s.0 r s.2 in
@@ -112,7 +128,8 @@ module _ (limit : ℕ) where
   -- ---- a tree
 
   -- past a `(`
-  opening_outcome : (d : ℕ) → IsWithin limit d → d < limit → (o : Stage) (b more : List ℕ) → without_space b ≡ 40 ∷ more →
+  opening_outcome : (d : ℕ) → IsWithin limit d → d < limit → (o : Stage) (b more : List ℕ) →
+      without_space b ≡ 40 ∷ more →
       outcome limit (state_of o) d b ≡ outcome limit opened (suc d) more
   opening_outcome d h less o b more e =
       state_white o d h b ∙ ap (outcome limit (state_of o) d) e ∙ opens o
@@ -123,7 +140,8 @@ module _ (limit : ℕ) where
       opens BeforeFirst = machine.goes_on limit in_node d 40 more opened (suc d) refl (omega arith, omega arith)
 
   -- before a `)` all states of a tree are one
-  closing_same : (d : ℕ) (o : Stage) (b more : List ℕ) → b ≡ 41 ∷ more → outcome limit (state_of o) d b ≡ outcome limit closed d b
+  closing_same : (d : ℕ) (o : Stage) (b more : List ℕ) → b ≡ 41 ∷ more →
+      outcome limit (state_of o) d b ≡ outcome limit closed d b
   closing_same d BehindChild b more e = refl
   closing_same d BehindValues b more e = rw e (machine.one_step limit after closed d 41 more refl)
   closing_same d BeforeFirst b more e = rw e (machine.one_step limit in_node closed d 41 more refl)
@@ -135,7 +153,8 @@ module _ (limit : ℕ) where
       ∙ ap (outcome_after limit d) s.2
 
   -- children, one after another
-  children_outcome : (c : Trees) (d : ℕ) → IsWithin limit d → (o : Stage) (b r : List ℕ) → AreTrees c → depth c + d ≤ limit →
+  children_outcome : (c : Trees) (d : ℕ) → IsWithin limit d → (o : Stage) (b r : List ℕ) → AreTrees c →
+      depth c + d ≤ limit →
       SpellsParts b (parts c) r → (o' : Stage) × (outcome limit (state_of o) d b ≡ outcome limit (state_of o') d r)
   children_outcome none d h o b r i deep s = (o, state_white o d h b ∙ ap (outcome limit (state_of o) d) s)
   children_outcome (tree nodes children later) d h o b r i deep s =
@@ -145,10 +164,13 @@ module _ (limit : ℕ) where
       let heads = nodes_outcome (suc d) within nodes s.0 split.0 i.0 i.1 split.1 in
       let inner = children_outcome children (suc d) within heads.0 split.0 rest.0 i.2 (omega arith) rest.1 in
       let behind = rest.2 in
-      let closed_is = closing_outcome (suc d) within inner.0 rest.0 (without_space behind.0) (behind.0, behind.1, refl) in
-      let after_is : outcome_after limit (suc d) (without_space behind.0) ≡ outcome limit closed d (without_space behind.0) =
+      let closed_is = closing_outcome (suc d) within inner.0 rest.0 (without_space behind.0)
+      (behind.0, behind.1, refl) in
+      let after_is : outcome_after limit (suc d) (without_space behind.0) ≡ outcome limit closed d
+      (without_space behind.0) =
       let more : suc d ≡ d + 1 = omega arith in
-      ap (λ k. outcome_after limit k (without_space behind.0)) more ∙ out_of_child limit d h.0 (without_space behind.0) in
+      ap (λ k. outcome_after limit k (without_space behind.0)) more
+      ∙ out_of_child limit d h.0 (without_space behind.0) in
       let others = children_outcome later d h BehindChild behind.0 r i.3 (omega arith) behind.2 in (
         others.0,
         opening_outcome d h (omega arith) o b s.0 s.1 ∙ heads.1 ∙ inner.1 ∙ closed_is ∙ after_is
@@ -156,9 +178,11 @@ module _ (limit : ℕ) where
       )
 
   -- a tree, behind its `(`
-  pub tree_outcome : (d : ℕ) → IsWithin limit d → (nodes : List (List Property)) (children : Trees) (b r : List ℕ) → nodes ≢ [] →
+  pub tree_outcome : (d : ℕ) → IsWithin limit d → (nodes : List (List Property)) (children : Trees) (b r : List ℕ) →
+      nodes ≢ [] →
       AllByRecursion (AllByRecursion IsProperty) nodes → AreTrees children → depth children + d ≤ limit →
-      SpellsParts b (flat_map node_parts nodes ++ (parts children ++ (closing ∷ []))) r → outcome limit opened d b ≡ outcome_after limit d r
+      SpellsParts b (flat_map node_parts nodes ++ (parts children ++ (closing ∷ []))) r →
+      outcome limit opened d b ≡ outcome_after limit d r
   tree_outcome d h nodes children b r some i fit deep s =
       let split = SpellsParts-split (flat_map node_parts nodes) (parts children ++ (closing ∷ [])) b r s in
       let rest = SpellsParts-split (parts children) (closing ∷ []) split.0 r split.2 in

@@ -11,11 +11,13 @@ use Rattle.go_sgf.proofs.Scanning.{after_space_more, after_space_stop}
 
 -- ---- lists
 
-pub AllByRecursion-append : {X : Type 0} (P : X → Type 0) (xs ys : List X) → AllByRecursion P xs → AllByRecursion P ys → AllByRecursion P (xs ++ ys)
+pub AllByRecursion-append : {X : Type 0} (P : X → Type 0) (xs ys : List X) → AllByRecursion P xs → AllByRecursion P ys →
+    AllByRecursion P (xs ++ ys)
 AllByRecursion-append P [] ys h k = k
 AllByRecursion-append P (x ∷ xs) ys h k = (h.0, AllByRecursion-append P xs ys h.1 k)
 
-pub AllByRecursion-push : {X : Type 0} (P : X → Type 0) (xs : List X) (x : X) → AllByRecursion P xs → P x → AllByRecursion P (xs ++ x ∷ [])
+pub AllByRecursion-push : {X : Type 0} (P : X → Type 0) (xs : List X) (x : X) → AllByRecursion P xs → P x →
+    AllByRecursion P (xs ++ x ∷ [])
 AllByRecursion-push P xs x h k = AllByRecursion-append P xs (x ∷ []) h (k, tt)
 
 -- ---- white space
@@ -44,11 +46,13 @@ length-after_space (c ∷ cs) = elim (cases_Bool (is_space c)) [
 -- ---- parts
 
 -- white space at the front is no matter
-pub SpellsParts-same : (ps : List Part) (a b r : List ℕ) → without_space a ≡ without_space b → SpellsParts a ps r → SpellsParts b ps r
+pub SpellsParts-same : (ps : List Part) (a b r : List ℕ) → without_space a ≡ without_space b → SpellsParts a ps r →
+    SpellsParts b ps r
 SpellsParts-same [] a b r e h = sym e ∙ h
 SpellsParts-same (p ∷ ps) a b r e h = (h.0, sym e ∙ h.1, h.2)
 
-pub SpellsParts-append : (ps qs : List Part) (a b r : List ℕ) → SpellsParts a ps b → SpellsParts b qs r → SpellsParts a (ps ++ qs) r
+pub SpellsParts-append : (ps qs : List Part) (a b r : List ℕ) → SpellsParts a ps b → SpellsParts b qs r →
+    SpellsParts a (ps ++ qs) r
 SpellsParts-append [] qs a b r h k = SpellsParts-same qs b a r (ap without_space (sym h) ∙ after_space-again a) k
 SpellsParts-append (p ∷ ps) qs a b r h k = (h.0, h.1, SpellsParts-append ps qs h.0 b r h.2 k)
 
@@ -63,8 +67,10 @@ rest_le (p ∷ ps) b r h =
     let whole : length (without_space b) ≡ length (text p) + length h.0 = ap length h.1 ∙ length-append (text p) h.0 in
     omega (arith, length-after_space b)
 
-pub SpellsParts-split : (ps qs : List Part) (b r : List ℕ) → SpellsParts b (ps ++ qs) r → (mid : List ℕ) × SpellsParts b ps mid × SpellsParts mid qs r
-SpellsParts-split [] qs b r h = (without_space b, refl, SpellsParts-same qs b (without_space b) r (sym (after_space-again b)) h)
+pub SpellsParts-split : (ps qs : List Part) (b r : List ℕ) → SpellsParts b (ps ++ qs) r → (mid : List ℕ)
+    × SpellsParts b ps mid × SpellsParts mid qs r
+SpellsParts-split [] qs b r h =
+    (without_space b, refl, SpellsParts-same qs b (without_space b) r (sym (after_space-again b)) h)
 SpellsParts-split (p ∷ ps) qs b r h =
     let later = SpellsParts-split ps qs h.0 r h.2 in
     (later.0, (h.0, h.1, later.1), later.2)
@@ -76,7 +82,8 @@ letter_same [] e = refl
 letter_same (c ∷ cs) e = let other : is_space c ≡ false = grind (arith, nat_tests) in after_space_stop c cs other
 
 pub bracket_no_letter : (b more : List ℕ) → without_space b ≡ 91 ∷ more → is_letter_first b ≡ false
-bracket_no_letter b more e = false_from_ne_true _ (λ l. let whole : b ≡ 91 ∷ more = sym (letter_same b l) ∙ e in letter_91 b more whole l)
+bracket_no_letter b more e = false_from_ne_true _
+    (λ l. let whole : b ≡ 91 ∷ more = sym (letter_same b l) ∙ e in letter_91 b more whole l)
   where
     letter_91 : (b more : List ℕ) → b ≡ 91 ∷ more → is_letter_first b ≡ true → ⊥
     letter_91 b more whole l = let h : is_letter_first (91 ∷ more) ≡ true = rw whole at l in cc

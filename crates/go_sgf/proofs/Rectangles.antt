@@ -22,41 +22,50 @@ range_append a zero k =
     ap₂ range_with_len (let e : a ≡ a + 0 = omega arith in e) (let e : 0 + k ≡ k = omega arith in e)
 range_append a (suc m) k =
     ap (range_with_len a) (let e : suc m + k ≡ suc (m + k) = omega arith in e)
-    ∙ ap (λ xs. a ∷ xs) (range_append (a + 1) m k ∙ ap (λ j. range_with_len (a + 1) m ++ range_with_len j k) (let e : a + 1 + m ≡ a + suc m = omega arith in e))
+    ∙ ap (λ xs. a ∷ xs) (range_append (a + 1) m k
+    ∙ ap (λ j. range_with_len (a + 1) m ++ range_with_len j k) (let e : a + 1 + m ≡ a + suc m = omega arith in e))
 
 range_more : (m : ℕ) → range_with_len 0 (m + 1) ≡ range_with_len 0 m ++ m ∷ []
 range_more m = range_append 0 m 1 ∙ ap (λ j. range_with_len 0 m ++ j ∷ []) (let e : 0 + m ≡ m = omega arith in e)
 
 -- equal values at numbers side by side
-map_moved : {X : Type 0} (f g : ℕ → X) (a b m : ℕ) → ((k : ℕ) → k < m → f (a + k) ≡ g (b + k)) → map f (range_with_len a m) ≡ map g (range_with_len b m)
+map_moved : {X : Type 0} (f g : ℕ → X) (a b m : ℕ) → ((k : ℕ) → k < m → f (a + k) ≡ g (b + k)) →
+    map f (range_with_len a m) ≡ map g (range_with_len b m)
 map_moved f g a b zero h = refl
 map_moved f g a b (suc m) h =
     ap₂ (λ x xs. x ∷ xs)
     (ap f (let e : a ≡ a + 0 = omega arith in e) ∙ h 0 (omega arith) ∙ ap g (let e : b + 0 ≡ b = omega arith in e))
     (map_moved f g (a + 1) (b + 1) m (λ k low.
-    ap f (let e : a + 1 + k ≡ a + (k + 1) = omega arith in e) ∙ h (k + 1) (omega (arith, low)) ∙ ap g (let e : b + (k + 1) ≡ b + 1 + k = omega arith in e)))
+    ap f (let e : a + 1 + k ≡ a + (k + 1) = omega arith in e) ∙ h (k + 1) (omega (arith, low))
+    ∙ ap g (let e : b + (k + 1) ≡ b + 1 + k = omega arith in e)))
 
-joined_moved : {X : Type 0} (f g : ℕ → List X) (a b m : ℕ) → ((k : ℕ) → k < m → f (a + k) ≡ g (b + k)) → flat_map f (range_with_len a m) ≡ flat_map g (range_with_len b m)
+joined_moved : {X : Type 0} (f g : ℕ → List X) (a b m : ℕ) → ((k : ℕ) → k < m → f (a + k) ≡ g (b + k)) →
+    flat_map f (range_with_len a m) ≡ flat_map g (range_with_len b m)
 joined_moved f g a b zero h = refl
 joined_moved f g a b (suc m) h =
     ap₂ (λ x xs. x ++ xs)
     (ap f (let e : a ≡ a + 0 = omega arith in e) ∙ h 0 (omega arith) ∙ ap g (let e : b + 0 ≡ b = omega arith in e))
     (joined_moved f g (a + 1) (b + 1) m (λ k low.
-    ap f (let e : a + 1 + k ≡ a + (k + 1) = omega arith in e) ∙ h (k + 1) (omega (arith, low)) ∙ ap g (let e : b + (k + 1) ≡ b + 1 + k = omega arith in e)))
+    ap f (let e : a + 1 + k ≡ a + (k + 1) = omega arith in e) ∙ h (k + 1) (omega (arith, low))
+    ∙ ap g (let e : b + (k + 1) ≡ b + 1 + k = omega arith in e)))
 
-joined_none : {X : Type 0} (f : ℕ → List X) (a m : ℕ) → ((k : ℕ) → a ≤ k → k < a + m → f k ≡ []) → flat_map f (range_with_len a m) ≡ []
+joined_none : {X : Type 0} (f : ℕ → List X) (a m : ℕ) → ((k : ℕ) → a ≤ k → k < a + m → f k ≡ []) →
+    flat_map f (range_with_len a m) ≡ []
 joined_none f a zero h = refl
 joined_none f a (suc m) h =
-    ap₂ (λ x xs. x ++ xs) (h a (omega arith) (omega arith)) (joined_none f (a + 1) m (λ k low high. h k (omega (arith, low)) (omega (arith, high))))
+    ap₂ (λ x xs. x ++ xs) (h a (omega arith) (omega arith))
+    (joined_none f (a + 1) m (λ k low high. h k (omega (arith, low)) (omega (arith, high))))
 
 -- Among the first n numbers, only `count` of them from `low` on give anything.
 joined_within : {X : Type 0} (f g : ℕ → List X) (low count n : ℕ) → low + count ≤ n →
-    ((k : ℕ) → k < low → f k ≡ []) → ((k : ℕ) → k < count → f (low + k) ≡ g (0 + k)) → ((k : ℕ) → low + count ≤ k → k < n → f k ≡ []) →
+    ((k : ℕ) → k < low → f k ≡ []) → ((k : ℕ) → k < count → f (low + k) ≡ g (0 + k)) →
+    ((k : ℕ) → low + count ≤ k → k < n → f k ≡ []) →
     flat_map f (range_with_len 0 n) ≡ flat_map g (range_with_len 0 count)
 joined_within f g low count n fits before within behind =
     let rest : ℕ = n - (low + count) in
     let whole : n ≡ low + (count + rest) = omega arith in
-    let split : range_with_len 0 n ≡ range_with_len 0 low ++ (range_with_len low count ++ range_with_len (low + count) rest) =
+    let split : range_with_len 0 n ≡ range_with_len 0 low
+    ++ (range_with_len low count ++ range_with_len (low + count) rest) =
     ap (range_with_len 0) whole ∙ range_append 0 low (count + rest)
     ∙ ap (λ j. range_with_len 0 low ++ range_with_len j (count + rest)) (let e : 0 + low ≡ low = omega arith in e)
     ∙ ap (λ xs. range_with_len 0 low ++ xs) (range_append low count rest) in
@@ -74,7 +83,8 @@ joined_within f g low count n fits before within behind =
 
 -- what is kept of a board of m rows
 by_rows : {X : Type 0} (keep : X → Bool) (f : ℕ → X) (n m : ℕ) →
-    filter keep (map f (range_with_len 0 (m * n))) ≡ flat_map (λ r. filter keep (map f (range_with_len (r * n) n))) (range_with_len 0 m)
+    filter keep (map f (range_with_len 0 (m * n))) ≡ flat_map (λ r. filter keep (map f (range_with_len (r * n) n)))
+    (range_with_len 0 m)
 by_rows keep f n zero = ap (λ j. filter keep (map f (range_with_len 0 j))) (let e : 0 * n ≡ 0 = omega arith in e)
 by_rows keep f n (suc m) =
     let row = λ (r : ℕ). filter keep (map f (range_with_len (r * n) n)) in
@@ -85,7 +95,8 @@ by_rows keep f n (suc m) =
     ∙ ap (λ j. front ++ range_with_len j n) (let e : 0 + m * n ≡ m * n = omega arith in e) in
     let more : range_with_len 0 (suc m) ≡ range_with_len 0 m ++ m ∷ [] =
     ap (range_with_len 0) (let e : suc m ≡ m + 1 = omega arith in e) ∙ range_more m in
-    ap (λ xs. filter keep (map f xs)) split ∙ ap (filter keep) (map-append f front back) ∙ filter-append keep (map f front) (map f back)
+    ap (λ xs. filter keep (map f xs)) split ∙ ap (filter keep) (map-append f front back)
+    ∙ filter-append keep (map f front) (map f back)
     ∙ ap₂ (λ xs ys. xs ++ ys) (by_rows keep f n m) (sym (append-nil (row m)))
     ∙ sym (ap (flat_map row) more ∙ flat_map-append row (range_with_len 0 m) (m ∷ []))
 
@@ -114,14 +125,16 @@ single_joined f (x ∷ xs) = ap (λ ys. f x ∷ ys) (single_joined f xs)
 
 -- of n points, `count` are kept from `low` on
 kept_within : {X : Type 0} (keep : X → Bool) (f : ℕ → X) (low count n : ℕ) → low + count ≤ n →
-    ((k : ℕ) → k < low → keep (f k) ≡ false) → ((k : ℕ) → k < count → keep (f (low + k)) ≡ true) → ((k : ℕ) → low + count ≤ k → k < n → keep (f k) ≡ false) →
+    ((k : ℕ) → k < low → keep (f k) ≡ false) → ((k : ℕ) → k < count → keep (f (low + k)) ≡ true) →
+    ((k : ℕ) → low + count ≤ k → k < n → keep (f k) ≡ false) →
     filter keep (map f (range_with_len 0 n)) ≡ map f (range_with_len low count)
 kept_within keep f low count n fits before within behind =
     let one = λ (k : ℕ). cond (keep (f k)) (f k ∷ []) [] in
     kept_joined keep f (range_with_len 0 n)
     ∙ joined_within one (λ k. f (low + k) ∷ []) low count n fits
     (λ k h. ap (λ (t : Bool). cond t (f k ∷ []) []) (before k h))
-    (λ k h. ap (λ (t : Bool). cond t (f (low + k) ∷ []) []) (within k h) ∙ ap (λ j. f (low + j) ∷ []) (let e : k ≡ 0 + k = omega arith in e))
+    (λ k h. ap (λ (t : Bool). cond t (f (low + k) ∷ []) []) (within k h)
+    ∙ ap (λ j. f (low + j) ∷ []) (let e : k ≡ 0 + k = omega arith in e))
     (λ k h i. ap (λ (t : Bool). cond t (f k ∷ []) []) (behind k h i))
     ∙ single_joined (λ k. f (low + k)) (range_with_len 0 count)
     ∙ map_moved (λ k. f (low + k)) f 0 low count (λ k h. ap (λ j. f (low + j)) (let e : 0 + k ≡ k = omega arith in e))
@@ -159,15 +172,20 @@ row_as n r = map_moved (point_at n) (λ c. record { col = c; row = r }) (r * n) 
 
 module _ (n : ℕ) (p q : Point) (p-on : IsOn n p) (q-on : IsOn n q) where
   row_kept : (r : ℕ) → is_between p.row q.row r ≡ true →
-      filter (is_in p q) (map (point_at n) (range_with_len (r * n) n)) ≡ row_from r (min p.col q.col) (max p.col q.col - min p.col q.col + 1)
+      filter (is_in p q) (map (point_at n) (range_with_len (r * n) n)) ≡ row_from r (min p.col q.col)
+      (max p.col q.col - min p.col q.col + 1)
   row_kept r e =
       ap (filter (is_in p q)) (row_as n r)
-      ∙ kept_within (is_in p q) (λ c. record { col = c; row = r }) (min p.col q.col) (max p.col q.col - min p.col q.col + 1) n (omega (arith, p-on.0, q-on.0))
+      ∙ kept_within (is_in p q) (λ c. record { col = c; row = r }) (min p.col q.col)
+      (max p.col q.col - min p.col q.col + 1) n (omega (arith, p-on.0, q-on.0))
       (λ k h. first_false (is_between p.col q.col k) (is_between p.row q.row r) (between_before p.col q.col k h))
-      (λ k h. both_true (is_between p.col q.col (min p.col q.col + k)) (is_between p.row q.row r) (between_within p.col q.col (min p.col q.col + k) (omega arith) (omega (arith, h))) e)
-      (λ k h i. first_false (is_between p.col q.col k) (is_between p.row q.row r) (between_behind p.col q.col k (omega (arith, h))))
+      (λ k h. both_true (is_between p.col q.col (min p.col q.col + k)) (is_between p.row q.row r)
+      (between_within p.col q.col (min p.col q.col + k) (omega arith) (omega (arith, h))) e)
+      (λ k h i. first_false (is_between p.col q.col k) (is_between p.row q.row r)
+      (between_behind p.col q.col k (omega (arith, h))))
 
-  row_lost : (r : ℕ) → is_between p.row q.row r ≡ false → filter (is_in p q) (map (point_at n) (range_with_len (r * n) n)) ≡ []
+  row_lost : (r : ℕ) → is_between p.row q.row r ≡ false →
+      filter (is_in p q) (map (point_at n) (range_with_len (r * n) n)) ≡ []
   row_lost r e =
       ap (filter (is_in p q)) (row_as n r)
       ∙ kept_within (is_in p q) (λ c. record { col = c; row = r }) 0 0 n (omega arith)
@@ -176,11 +194,13 @@ module _ (n : ℕ) (p q : Point) (p-on : IsOn n p) (q-on : IsOn n q) where
       (λ k h i. second_false (is_between p.col q.col k) (is_between p.row q.row r) e)
 
   -- the rows between two opposite corners have the points of the rectangle
-  pub rows_listed : (r : RectangleValue) → r.column ≡ min p.col q.col → r.columns ≡ max p.col q.col - min p.col q.col + 1 →
+  pub rows_listed : (r : RectangleValue) → r.column ≡ min p.col q.col →
+      r.columns ≡ max p.col q.col - min p.col q.col + 1 →
       r.row ≡ min p.row q.row → r.rows ≡ max p.row q.row - min p.row q.row + 1 → listed r ≡ rectangle n p q
   rows_listed r column columns row rows =
       sym (by_rows (is_in p q) (point_at n) n n
-      ∙ joined_within (λ k. filter (is_in p q) (map (point_at n) (range_with_len (k * n) n))) (points_of_row r) r.row r.rows n (omega (arith, p-on.1, q-on.1))
+      ∙ joined_within (λ k. filter (is_in p q) (map (point_at n) (range_with_len (k * n) n))) (points_of_row r) r.row
+      r.rows n (omega (arith, p-on.1, q-on.1))
       (λ k h. row_lost k (between_before p.row q.row k (omega (arith, h))))
       (λ k h.
       row_kept (r.row + k) (between_within p.row q.row (r.row + k) (omega arith) (omega (arith, h)))
@@ -191,7 +211,8 @@ module _ (n : ℕ) (p q : Point) (p-on : IsOn n p) (q-on : IsOn n q) where
 numbers_below : (m : ℕ) → All (λ k. k < m) (range_with_len 0 m)
 numbers_below m =
     All-from_get_or (λ k. k < m) (range_with_len 0 m) 0
-    (λ i low. let below : i < m = rw length-range_with_len at low in rw (get_or-range_with_len 0 m i 0 below) (omega (arith, below)))
+    (λ i low. let below : i < m = rw length-range_with_len at low in
+    rw (get_or-range_with_len 0 m i 0 below) (omega (arith, below)))
 
 on_at : (n k : ℕ) → k < n * n → IsOn n (point_at n k)
 on_at n k low = (grind (arith, common_steps, rows), grind (arith, common_steps, rows))
@@ -200,17 +221,20 @@ on_at n k low = (grind (arith, common_steps, rows), grind (arith, common_steps, 
 pub rectangle_on : (n : ℕ) (p q : Point) → All (IsOn n) (rectangle n p q)
 rectangle_on n p q =
     All-filter (is_in p q) (IsOn n) (map (point_at n) (points n))
-    (All-map (IsOn n) (point_at n) (points n) (All-weaker (λ k. k < n * n) (λ k. IsOn n (point_at n k)) (on_at n) (points n) (numbers_below (n * n))))
+    (All-map (IsOn n) (point_at n) (points n)
+    (All-weaker (λ k. k < n * n) (λ k. IsOn n (point_at n k)) (on_at n) (points n) (numbers_below (n * n))))
 
 -- ---- rows, one after another
 
-row_more : {X : Type 0} (row : ℕ → List X) (k : ℕ) → flat_map row (range_with_len 0 (k + 1)) ≡ flat_map row (range_with_len 0 k) ++ row k
+row_more : {X : Type 0} (row : ℕ → List X) (k : ℕ) →
+    flat_map row (range_with_len 0 (k + 1)) ≡ flat_map row (range_with_len 0 k) ++ row k
 row_more row k =
     ap (flat_map row) (range_more k) ∙ flat_map-append row (range_with_len 0 k) (k ∷ [])
     ∙ ap (λ xs. flat_map row (range_with_len 0 k) ++ xs) (append-nil (row k))
 
 -- one row more behind others
-pub row_pushed : {X : Type 0} (row : ℕ → List X) (k : ℕ) (old now new one : List X) → now ≡ old ++ flat_map row (range_with_len 0 k) → one ≡ row k →
+pub row_pushed : {X : Type 0} (row : ℕ → List X) (k : ℕ) (old now new one : List X) → now ≡ old
+    ++ flat_map row (range_with_len 0 k) → one ≡ row k →
     new ≡ now ++ one → new ≡ old ++ flat_map row (range_with_len 0 (k + 1))
 row_pushed row k old now new one far is e =
     let before = flat_map row (range_with_len 0 k) in

@@ -84,8 +84,10 @@ module _ (d : ℕ) (h : 1 ≤ d) where
 
   outside_leads : (s : State) (c : ℕ) → MayLead d (outside s d c)
   outside_leads s c =
-      either (is_space c) _ _ (on_space_leads s) (either (c == 40) _ _ (on_open_leads s) (either (c == 41) _ _ (on_close_leads s)
-      (either (c == 59) _ _ (on_semicolon_leads s) (either (c == 91) _ _ (on_bracket_leads s) (either (is_upper_byte c) _ _ (on_upper_leads s)
+      either (is_space c) _ _ (on_space_leads s)
+      (either (c == 40) _ _ (on_open_leads s) (either (c == 41) _ _ (on_close_leads s)
+      (either (c == 59) _ _ (on_semicolon_leads s)
+      (either (c == 91) _ _ (on_bracket_leads s) (either (is_upper_byte c) _ _ (on_upper_leads s)
       (either (is_lower c) _ _ (on_lower_leads s) tt))))))
 
   inside_other : (b e : Bool) → (if b then after else (if e then escape else in_value)) ≢ whole
@@ -139,11 +141,13 @@ module _ (limit : ℕ) where
       })
 
   -- nothing stands past the first byte
-  stuck_past : (s : State) (d c : ℕ) (cs : List ℕ) → step s d c ≡ None → (k : ℕ) → 0 < k → run s d (take k (c ∷ cs)) ≡ None
+  stuck_past : (s : State) (d c : ℕ) (cs : List ℕ) → step s d c ≡ None → (k : ℕ) → 0 < k →
+      run s d (take k (c ∷ cs)) ≡ None
   stuck_past s d c cs e zero less = absurd (omega arith)
   stuck_past s d c cs e (suc k) less = rw e refl
 
-  at_start : (s : State) (d : ℕ) (b : List ℕ) → d ≤ limit → (k : ℕ) → k ≤ 0 → IsAtDepth (suc limit) (run s d (take k b)) → ⊥
+  at_start : (s : State) (d : ℕ) (b : List ℕ) → d ≤ limit → (k : ℕ) → k ≤ 0 →
+      IsAtDepth (suc limit) (run s d (take k b)) → ⊥
   at_start s d b deep zero less h = omega arith
   at_start s d b deep (suc k) less h = omega arith
 
@@ -159,7 +163,8 @@ module _ (limit : ℕ) where
         stops = (omega arith, stuck_past s d c cs step_is);
       })
 
-  fault_deep : (s : State) (d c : ℕ) (cs : List ℕ) (f : Fault) (p : StateAt) → s ≢ whole → d ≤ limit → step s d c ≡ Some p → p.1 ≡ suc limit →
+  fault_deep : (s : State) (d c : ℕ) (cs : List ℕ) (f : Fault) (p : StateAt) → s ≢ whole → d ≤ limit →
+      step s d c ≡ Some p → p.1 ≡ suc limit →
       TooDeep (suc (length cs)) ≡ f → FaultIs limit s d (c ∷ cs) f
   fault_deep s d c cs f p ne deep step_is at_limit e =
       let P : Fault → Type 0 = λ x. FaultIs limit s d (c ∷ cs) x in
@@ -173,7 +178,8 @@ module _ (limit : ℕ) where
       })
 
   -- a fault further on
-  pub run_more : (s : State) (d c : ℕ) (b : List ℕ) (p : StateAt) → step s d c ≡ Some p → run s d (c ∷ b) ≡ run p.0 p.1 b
+  pub run_more : (s : State) (d c : ℕ) (b : List ℕ) (p : StateAt) → step s d c ≡ Some p →
+      run s d (c ∷ b) ≡ run p.0 p.1 b
   run_more s d c b p e = rw e refl
 
   why_later : (s : State) (d c : ℕ) (cs : List ℕ) (p : StateAt) (f : Fault) (at : ℕ) → step s d c ≡ Some p →
@@ -207,9 +213,11 @@ module _ (limit : ℕ) where
       shallow zero less h = omega arith
       shallow (suc k) less h = i.shallow k (omega arith) (rw (run_more s d c (take k cs) p e) at h)
 
-  by_step : (s : State) (d c : ℕ) (cs : List ℕ) (f : Fault) → s ≢ whole → IsWithin limit d → (o : Option StateAt) → step s d c ≡ o → MayLead d o →
+  by_step : (s : State) (d c : ℕ) (cs : List ℕ) (f : Fault) → s ≢ whole → IsWithin limit d → (o : Option StateAt) →
+      step s d c ≡ o → MayLead d o →
       outcome_on limit o (suc (length cs)) cs (λ p. outcome limit p.0 p.1 cs) ≡ Err f →
-      ((s' : State) (d' : ℕ) → s' ≢ whole → IsWithin limit d' → outcome limit s' d' cs ≡ Err f → FaultIs limit s' d' cs f) →
+      ((s' : State) (d' : ℕ) → s' ≢ whole → IsWithin limit d' → outcome limit s' d' cs ≡ Err f →
+      FaultIs limit s' d' cs f) →
       FaultIs limit s d (c ∷ cs) f
   by_step s d c cs f ne h None step_is leads e later = fault_here s d c cs f ne h.1 step_is (cc)
   by_step s d c cs f ne h (Some p) step_is leads e later = elim (cases_Bool (p.1 == suc limit)) [
@@ -228,7 +236,8 @@ module _ (limit : ℕ) where
     ]
   ]
 
-  pub fault_is : (b : List ℕ) (s : State) (d : ℕ) (f : Fault) → s ≢ whole → IsWithin limit d → outcome limit s d b ≡ Err f → FaultIs limit s d b f
+  pub fault_is : (b : List ℕ) (s : State) (d : ℕ) (f : Fault) → s ≢ whole → IsWithin limit d →
+      outcome limit s d b ≡ Err f → FaultIs limit s d b f
   fault_is [] s d f ne h e =
       let same : Err End ≡ Err f = sym (machine.outcome_end limit s d) ∙ e in
       fault_end s d f ne h.1 (cc)

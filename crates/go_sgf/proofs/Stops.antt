@@ -45,7 +45,8 @@ begins_no_space (c ∷ cs) e =
 -- ---- two readings of one text
 
 -- a first tree, and what follows it
-first_tree : (nodes : List (List Property)) (children later : Trees) (b r : List ℕ) → nodes ≢ [] → AllByRecursion (AllByRecursion IsProperty) nodes →
+first_tree : (nodes : List (List Property)) (children later : Trees) (b r : List ℕ) → nodes ≢ [] →
+    AllByRecursion (AllByRecursion IsProperty) nodes →
     AreTrees children → suc (depth children) ≤ MAX_DEPTH →
     SpellsParts b (flat_map node_parts nodes ++ (parts children ++ (closing ∷ parts later))) r →
     (behind : List ℕ) × (outcome MAX_DEPTH opened 1 b ≡ Ok behind) × SpellsParts behind (parts later) r
@@ -62,14 +63,17 @@ first_tree nodes children later b r some fit below deep s =
       SpellsParts-same (parts later) close.0 behind r (sym (after_space-again close.0)) close.2,
     )
 
-pub tree_begins : (nodes : List (List Property)) (ps : List Part) (b r : List ℕ) → nodes ≢ [] → SpellsParts b (flat_map node_parts nodes ++ ps) r →
+pub tree_begins : (nodes : List (List Property)) (ps : List Part) (b r : List ℕ) → nodes ≢ [] →
+    SpellsParts b (flat_map node_parts nodes ++ ps) r →
     is_tree_first (40 ∷ b) ≡ true
 tree_begins [] ps b r some s = absurd (some refl)
 tree_begins (n ∷ ns) ps b r some s = rw s.1 refl
 
 -- trees and then a fault, and trees and then no tree, aren't both read from one text
-pub two_ways : (before c : Trees) (b at rest inside : List ℕ) (f : Fault) → AreTrees before → depth before ≤ MAX_DEPTH → AreTrees c → depth c ≤ MAX_DEPTH →
-    SpellsParts b (parts before) at → SpellsParts b (parts c) rest → is_tree_first rest ≡ false → is_tree_first at ≡ true → at ≡ 40 ∷ inside →
+pub two_ways : (before c : Trees) (b at rest inside : List ℕ) (f : Fault) → AreTrees before → depth before ≤ MAX_DEPTH →
+    AreTrees c → depth c ≤ MAX_DEPTH →
+    SpellsParts b (parts before) at → SpellsParts b (parts c) rest → is_tree_first rest ≡ false →
+    is_tree_first at ≡ true → at ≡ 40 ∷ inside →
     outcome MAX_DEPTH opened 1 inside ≡ Err f → ⊥
 two_ways none none b at rest inside f w n w' n' s s' ended begins is e =
     let same : is_tree_first at ≡ is_tree_first rest = ap is_tree_first (sym s ∙ s') in
@@ -82,7 +86,8 @@ two_ways none (tree nodes children later) b at rest inside f w n w' n' s s' ende
 two_ways (tree nodes children later) none b at rest inside f w n w' n' s s' ended begins is e =
     let same : 40 ∷ s.0 ≡ rest = sym s.1 ∙ s' in
     let h : true ≡ false = sym (tree_begins nodes _ s.0 at w.0 s.2) ∙ ap is_tree_first same ∙ ended in cc
-two_ways (tree nodes children later) (tree nodes' children' later') b at rest inside f w n w' n' s s' ended begins is e =
+two_ways (tree nodes children later) (tree nodes' children' later') b at rest inside f w n w' n' s s' ended begins is
+    e =
     let first = first_tree nodes children later s.0 at w.0 w.1 w.2 (omega arith) s.2 in
     let first' = first_tree nodes' children' later' s'.0 rest w'.0 w'.1 w'.2 (omega arith) s'.2 in
     let same : 40 ∷ s.0 ≡ 40 ∷ s'.0 = sym s.1 ∙ s'.1 in
@@ -90,7 +95,8 @@ two_ways (tree nodes children later) (tree nodes' children' later') b at rest in
     let both : Ok first.0 ≡ Ok first'.0 = sym first.1 ∙ ap (outcome MAX_DEPTH opened 1) inner ∙ first'.1 in
     let behind : first.0 ≡ first'.0 = cc in
     let P : List ℕ → Type 0 = λ xs. SpellsParts xs (parts later') rest in
-    two_ways later later' first.0 at rest inside f w.3 (omega arith) w'.3 (omega arith) first.2 (subst P (sym behind) first'.2) ended begins is e
+    two_ways later later' first.0 at rest inside f w.3 (omega arith) w'.3 (omega arith) first.2
+    (subst P (sym behind) first'.2) ended begins is e
 
 -- ---- a collection read so far
 
@@ -110,7 +116,8 @@ trees_first source rest e some =
       spelling = begins_no_space (tree_in source) begins ∙ sym e;
     }
 
-pub trees_more : (source : List ℕ) (ts ts' : List TreeValue) (rest inside : List ℕ) (t : TreeValue) (more : List ℕ) → TreesSoFar source ts rest →
+pub trees_more : (source : List ℕ) (ts ts' : List TreeValue) (rest inside : List ℕ) (t : TreeValue) (more : List ℕ) →
+    TreesSoFar source ts rest →
     ts' ≡ ts ++ t ∷ [] → rest ≡ 40 ∷ inside → ReadsTree 1 inside t more → TreesSoFar source ts' more
 trees_more source ts ts' rest inside t more far e f r =
     let Q : List TreeValue → Type 0 = λ xs. TreesSoFar source xs more in
@@ -122,14 +129,16 @@ trees_more source ts ts' rest inside t more far e f r =
       spelling =
           let tail : List Part = opening ∷ (flat_map node_parts t.0 ++ (parts t.1 ++ (closing ∷ []))) in
           subst P (sym (parts-push ts t))
-          (SpellsParts-append (parts (chain ts)) tail (tree_in source) rest more far.spelling (inside, ap without_space f, r.spelling));
+          (SpellsParts-append (parts (chain ts)) tail (tree_in source) rest more far.spelling
+          (inside, ap without_space f, r.spelling));
     })
 
 chain_some : (ts : List TreeValue) → ts ≢ [] → chain ts ≢ none
 chain_some [] some e = some refl
 chain_some (t ∷ ts) some e = cc
 
-pub trees_whole : (source : List ℕ) (ts : List TreeValue) (rest : List ℕ) → TreesSoFar source ts rest → is_tree_first rest ≡ false → Spells source (chain ts)
+pub trees_whole : (source : List ℕ) (ts : List TreeValue) (rest : List ℕ) → TreesSoFar source ts rest →
+    is_tree_first rest ≡ false → Spells source (chain ts)
 trees_whole source ts rest far ended = record {
   fit = record { some = chain_some ts (λ empty. let h = far.some empty in cc); trees = far.fit; nesting = far.nesting };
   rest = rest;
@@ -139,7 +148,8 @@ trees_whole source ts rest far ended = record {
 
 -- ---- a refusal
 
-shallow_text : (inside : List ℕ) (at : ℕ) → ((k : ℕ) → k ≤ at → IsAtDepth (suc MAX_DEPTH) (run opened 1 (take k inside)) → ⊥) →
+shallow_text : (inside : List ℕ) (at : ℕ) →
+    ((k : ℕ) → k ≤ at → IsAtDepth (suc MAX_DEPTH) (run opened 1 (take k inside)) → ⊥) →
     (k : ℕ) → k ≤ suc at → IsAtDepth (suc MAX_DEPTH) (stands (take k (40 ∷ inside))) → ⊥
 shallow_text inside at h zero less deep = deep
 shallow_text inside at h (suc k) less deep = h k (omega arith) deep
@@ -166,21 +176,25 @@ why_in inside (TooDeep n) at w =
     (omega arith, subst P same w.1)
 
 -- how far the text of a tree with a fault is read
-pub read_up_to : (inside : List ℕ) (f : Fault) (i : FaultIs MAX_DEPTH opened 1 inside f) → IsReadUpTo (40 ∷ inside) (suc i.at) (WhyIn f)
+pub read_up_to : (inside : List ℕ) (f : Fault) (i : FaultIs MAX_DEPTH opened 1 inside f) →
+    IsReadUpTo (40 ∷ inside) (suc i.at) (WhyIn f)
 read_up_to inside f i = record {
   unfinished = i.unfinished;
   shallow = shallow_text inside i.at i.shallow;
   stops = why_in inside f i.at i.stops;
 }
 
-stops_at : (source : List ℕ) (ts : List TreeValue) (inside : List ℕ) (f : Fault) (place : ℕ) → TreesSoFar source ts (40 ∷ inside) →
+stops_at : (source : List ℕ) (ts : List TreeValue) (inside : List ℕ) (f : Fault) (place : ℕ) →
+    TreesSoFar source ts (40 ∷ inside) →
     is_tree_first (40 ∷ inside) ≡ true → outcome MAX_DEPTH opened 1 inside ≡ Err f → place + left_of f ≡ length source →
     StopsAt source place (WhyIn f)
 stops_at source ts inside f place far begins e placed =
-    let i : FaultIs MAX_DEPTH opened 1 inside f = fault_is MAX_DEPTH inside opened 1 f (λ h. cc) (omega arith, omega arith) e in
+    let i : FaultIs MAX_DEPTH opened 1 inside f =
+    fault_is MAX_DEPTH inside opened 1 f (λ h. cc) (omega arith, omega arith) e in
     record {
       spells_none = λ c s.
-          two_ways (chain ts) c (tree_in source) (40 ∷ inside) s.rest inside f far.fit far.nesting s.fit.trees s.fit.nesting
+          two_ways (chain ts) c (tree_in source) (40 ∷ inside) s.rest inside f far.fit far.nesting s.fit.trees
+          s.fit.nesting
           far.spelling s.spelling s.ended begins refl e;
       before = chain ts;
       text = 40 ∷ inside;
@@ -191,16 +205,20 @@ stops_at source ts inside f place far begins e placed =
     }
 
 -- no more bytes are left at a fault than the source has
-left_in : (source : List ℕ) (ts : List TreeValue) (rest inside : List ℕ) (f : Fault) → TreesSoFar source ts rest → rest ≡ 40 ∷ inside →
+left_in : (source : List ℕ) (ts : List TreeValue) (rest inside : List ℕ) (f : Fault) → TreesSoFar source ts rest →
+    rest ≡ 40 ∷ inside →
     outcome MAX_DEPTH opened 1 inside ≡ Err f → left_of f ≤ length source
 left_in source ts rest inside f far is e =
-    let i : FaultIs MAX_DEPTH opened 1 inside f = fault_is MAX_DEPTH inside opened 1 f (λ h. cc) (omega arith, omega arith) e in
+    let i : FaultIs MAX_DEPTH opened 1 inside f =
+    fault_is MAX_DEPTH inside opened 1 f (λ h. cc) (omega arith, omega arith) e in
     let h = i.left in
     let whole : length rest ≤ length (tree_in source) = rest_le (parts (chain ts)) (tree_in source) rest far.spelling in
     omega (arith, length-from_tree source, ap length is)
 
-module _ {X : Type 0} (later : X → Result (List ℕ) Fault) (source : List ℕ) (ts : List TreeValue) (rest inside : List ℕ) where
-  pub left_by : (f : Fault) → TreesSoFar source ts rest → rest ≡ 40 ∷ inside → Meets (Err f) (outcome MAX_DEPTH opened 1 inside) later →
+module _ {X : Type 0} (later : X → Result (List ℕ) Fault) (source : List ℕ) (ts : List TreeValue)
+    (rest inside : List ℕ) where
+  pub left_by : (f : Fault) → TreesSoFar source ts rest → rest ≡ 40 ∷ inside →
+      Meets (Err f) (outcome MAX_DEPTH opened 1 inside) later →
       left_of f ≤ length source
   left_by Memory far is m = omega arith
   left_by End far is m = omega arith

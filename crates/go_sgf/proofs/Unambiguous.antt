@@ -14,7 +14,8 @@ use Rattle.go_sgf.proofs.Stops.{tree_begins}
 -- ---- values
 
 -- a value ends at its first `]` that belongs to no `\`
-pub value_same : (e : Bool) (v w a b : List ℕ) → is_inside e v ≡ true → is_inside e w ≡ true → v ++ (93 ∷ a) ≡ w ++ (93 ∷ b) → (v ≡ w) × (a ≡ b)
+pub value_same : (e : Bool) (v w a b : List ℕ) → is_inside e v ≡ true → is_inside e w ≡ true → v ++ (93 ∷ a) ≡ w
+    ++ (93 ∷ b) → (v ≡ w) × (a ≡ b)
 value_same true [] w a b h k e = cc
 value_same true (c ∷ cs) [] a b h k e = cc
 value_same true (c ∷ cs) (d ∷ ds) a b h k e =
@@ -39,7 +40,8 @@ value_same false (c ∷ cs) (d ∷ ds) a b h k e =
     (cc (later.0), later.1)
 
 values_same : (vs ws : List (List ℕ)) (b r q : List ℕ) → AllByRecursion IsValue vs → AllByRecursion IsValue ws →
-    SpellsParts b (map value_part vs) r → SpellsParts b (map value_part ws) q → is_first 91 r ≡ false → is_first 91 q ≡ false → (vs ≡ ws) × (r ≡ q)
+    SpellsParts b (map value_part vs) r → SpellsParts b (map value_part ws) q → is_first 91 r ≡ false →
+    is_first 91 q ≡ false → (vs ≡ ws) × (r ≡ q)
 values_same [] [] b r q i j s t e f = (refl, sym s ∙ t)
 values_same [] (w ∷ ws) b r q i j s t e f =
     let is : r ≡ 91 ∷ ((w ++ (93 ∷ [])) ++ t.0) = sym s ∙ t.1 in
@@ -50,7 +52,8 @@ values_same (v ∷ vs) [] b r q i j s t e f =
 values_same (v ∷ vs) (w ∷ ws) b r q i j s t e f =
     let both : 91 ∷ ((v ++ (93 ∷ [])) ++ s.0) ≡ 91 ∷ ((w ++ (93 ∷ [])) ++ t.0) = sym s.1 ∙ t.1 in
     let inner : (v ++ (93 ∷ [])) ++ s.0 ≡ (w ++ (93 ∷ [])) ++ t.0 = cc in
-    let flat : v ++ (93 ∷ s.0) ≡ w ++ (93 ∷ t.0) = sym (append_assoc v (93 ∷ []) s.0) ∙ inner ∙ append_assoc w (93 ∷ []) t.0 in
+    let flat : v ++ (93 ∷ s.0) ≡ w ++ (93 ∷ t.0) = sym (append_assoc v (93 ∷ []) s.0) ∙ inner
+    ∙ append_assoc w (93 ∷ []) t.0 in
     let first = value_same false v w s.0 t.0 i.0 j.0 flat in
     let P : List ℕ → Type 0 = λ x. SpellsParts x (map value_part ws) q in
     let later = values_same vs ws s.0 r q i.1 j.1 s.2 (subst P (sym first.1) t.2) e f in
@@ -59,7 +62,8 @@ values_same (v ∷ vs) (w ∷ ws) b r q i j s t e f =
 -- ---- properties
 
 -- letters end where no letter follows
-pub letters_same : (n m a b : List ℕ) → list_all is_letter_byte n ≡ true → list_all is_letter_byte m ≡ true → n ++ a ≡ m ++ b →
+pub letters_same : (n m a b : List ℕ) → list_all is_letter_byte n ≡ true → list_all is_letter_byte m ≡ true → n ++ a ≡ m
+    ++ b →
     is_letter_first a ≡ false → is_letter_first b ≡ false → (n ≡ m) × (a ≡ b)
 letters_same [] [] a b h k e f g = (refl, e)
 letters_same [] (d ∷ ds) a b h k e f g =
@@ -71,22 +75,26 @@ letters_same (c ∷ cs) [] a b h k e f g =
 letters_same (c ∷ cs) (d ∷ ds) a b h k e f g =
     let head : c ≡ d = cc in
     let tail : cs ++ a ≡ ds ++ b = cc in
-    let later = letters_same cs ds a b (and_parts (is_letter_byte c) (list_all is_letter_byte cs) h).1 (and_parts (is_letter_byte d) (list_all is_letter_byte ds) k).1 tail f g in
+    let later = letters_same cs ds a b (and_parts (is_letter_byte c) (list_all is_letter_byte cs) h).1
+    (and_parts (is_letter_byte d) (list_all is_letter_byte ds) k).1 tail f g in
     (cc (later.0), later.1)
 
 -- behind a name comes no letter
-no_letter : (vs : List (List ℕ)) (b r : List ℕ) → vs ≢ [] → SpellsParts b (map value_part vs) r → is_letter_first b ≡ false
+no_letter : (vs : List (List ℕ)) (b r : List ℕ) → vs ≢ [] → SpellsParts b (map value_part vs) r →
+    is_letter_first b ≡ false
 no_letter [] b r some s = absurd (some refl)
 no_letter (v ∷ vs) b r some s = bracket_no_letter b ((v ++ (93 ∷ [])) ++ s.0) s.1
 
 abbrev made : List ℕ → List (List ℕ) → Property
 made n vs = record { name = n; values = vs }
 
-property_same : (p q : Property) (b r u : List ℕ) → IsProperty p → IsProperty q → SpellsParts b (property_parts p) r → SpellsParts b (property_parts q) u →
+property_same : (p q : Property) (b r u : List ℕ) → IsProperty p → IsProperty q → SpellsParts b (property_parts p) r →
+    SpellsParts b (property_parts q) u →
     is_first 91 r ≡ false → is_first 91 u ≡ false → (p ≡ q) × (r ≡ u)
 property_same p q b r u i j s t e f =
     let both : p.name ++ s.0 ≡ q.name ++ t.0 = sym s.1 ∙ t.1 in
-    let names = letters_same p.name q.name s.0 t.0 i.named.0 j.named.0 both (no_letter p.values s.0 r i.some s.2) (no_letter q.values t.0 u j.some t.2) in
+    let names = letters_same p.name q.name s.0 t.0 i.named.0 j.named.0 both (no_letter p.values s.0 r i.some s.2)
+    (no_letter q.values t.0 u j.some t.2) in
     let P : List ℕ → Type 0 = λ x. SpellsParts x (map value_part q.values) u in
     let values = values_same p.values q.values s.0 r u i.inside j.inside s.2 (subst P (sym names.1) t.2) e f in
     (ap (λ n. made n p.values) names.0 ∙ ap (made q.name) values.0, values.1)
@@ -109,8 +117,10 @@ pub record EndsNode (b : List ℕ) : Type 0 where
   pub letter : is_letter_first b ≡ false
   pub bracket : is_first 91 b ≡ false
 
-properties_same : (ps qs : List Property) (b r u : List ℕ) → AllByRecursion IsProperty ps → AllByRecursion IsProperty qs →
-    SpellsParts b (flat_map property_parts ps) r → SpellsParts b (flat_map property_parts qs) u → EndsNode r → EndsNode u → (ps ≡ qs) × (r ≡ u)
+properties_same : (ps qs : List Property) (b r u : List ℕ) → AllByRecursion IsProperty ps →
+    AllByRecursion IsProperty qs →
+    SpellsParts b (flat_map property_parts ps) r → SpellsParts b (flat_map property_parts qs) u → EndsNode r →
+    EndsNode u → (ps ≡ qs) × (r ≡ u)
 properties_same [] [] b r u i j s t e f = (refl, sym s ∙ t)
 properties_same [] (q ∷ qs) b r u i j s t e f =
     let is : r ≡ q.name ++ t.0 = sym s ∙ t.1 in
@@ -140,12 +150,16 @@ pub record EndsNodes (b : List ℕ) : Type 0 where
 semicolon_ends : (b more : List ℕ) → b ≡ 59 ∷ more → EndsNode b
 semicolon_ends b more e = record { letter = rw e refl; bracket = rw e refl }
 
-node_ends : (ns : List (List Property)) (b r : List ℕ) → begins_space b ≡ false → SpellsParts b (flat_map node_parts ns) r → EndsNodes r → EndsNode b
-node_ends [] b r w s e = let P : List ℕ → Type 0 = λ x. EndsNode x in subst P (sym (sym (after_space-same b w) ∙ s)) e.node
+node_ends : (ns : List (List Property)) (b r : List ℕ) → begins_space b ≡ false →
+    SpellsParts b (flat_map node_parts ns) r → EndsNodes r → EndsNode b
+node_ends [] b r w s e = let P : List ℕ → Type 0 = λ x. EndsNode x in
+    subst P (sym (sym (after_space-same b w) ∙ s)) e.node
 node_ends (n ∷ ns) b r w s e = semicolon_ends b s.0 (sym (after_space-same b w) ∙ s.1)
 
-nodes_same : (ns ms : List (List Property)) (b r u : List ℕ) → AllByRecursion (AllByRecursion IsProperty) ns → AllByRecursion (AllByRecursion IsProperty) ms →
-    SpellsParts b (flat_map node_parts ns) r → SpellsParts b (flat_map node_parts ms) u → EndsNodes r → EndsNodes u → (ns ≡ ms) × (r ≡ u)
+nodes_same : (ns ms : List (List Property)) (b r u : List ℕ) → AllByRecursion (AllByRecursion IsProperty) ns →
+    AllByRecursion (AllByRecursion IsProperty) ms →
+    SpellsParts b (flat_map node_parts ns) r → SpellsParts b (flat_map node_parts ms) u → EndsNodes r → EndsNodes u →
+    (ns ≡ ms) × (r ≡ u)
 nodes_same [] [] b r u i j s t e f = (refl, sym s ∙ t)
 nodes_same [] (m ∷ ms) b r u i j s t e f =
     let is : r ≡ 59 ∷ t.0 = sym s ∙ t.1 in
@@ -158,7 +172,8 @@ nodes_same (n ∷ ns) (m ∷ ms) b r u i j s t e f =
     let inner : s.0 ≡ t.0 = cc in
     let P : List ℕ → Type 0 = λ x. SpellsParts x (flat_map property_parts m ++ flat_map node_parts ms) u in
     let left = SpellsParts-split (flat_map property_parts n) (flat_map node_parts ns) s.0 r s.2 in
-    let right = SpellsParts-split (flat_map property_parts m) (flat_map node_parts ms) s.0 u (subst P (sym inner) t.2) in
+    let right = SpellsParts-split (flat_map property_parts m) (flat_map node_parts ms) s.0 u
+    (subst P (sym inner) t.2) in
     let first = properties_same n m s.0 left.0 right.0 i.0 j.0 left.1 right.1
     (node_ends ns left.0 r (no_space_after (flat_map property_parts n) s.0 left.0 left.1) left.2 e)
     (node_ends ms right.0 u (no_space_after (flat_map property_parts m) s.0 right.0 right.1) right.2 f) in
@@ -171,16 +186,21 @@ nodes_same (n ∷ ns) (m ∷ ms) b r u i j s t e f =
 paren_ends : (c : ℕ) (b more : List ℕ) → b ≡ c ∷ more → EndsNodes (c ∷ more) → EndsNodes b
 paren_ends c b more e h = let P : List ℕ → Type 0 = λ x. EndsNodes x in subst P (sym e) h
 
-nodes_end : (c : Trees) (ps : List Part) (b r : List ℕ) → begins_space b ≡ false → SpellsParts b (parts c ++ (closing ∷ ps)) r → EndsNodes b
+nodes_end : (c : Trees) (ps : List Part) (b r : List ℕ) → begins_space b ≡ false →
+    SpellsParts b (parts c ++ (closing ∷ ps)) r → EndsNodes b
 nodes_end none ps b r w s =
-    paren_ends 41 b s.0 (sym (after_space-same b w) ∙ s.1) record { node = record { letter = refl; bracket = refl }; semicolon = refl }
+    paren_ends 41 b s.0 (sym (after_space-same b w) ∙ s.1) record
+    { node = record { letter = refl; bracket = refl }; semicolon = refl }
 nodes_end (tree nodes children later) ps b r w s =
-    paren_ends 40 b s.0 (sym (after_space-same b w) ∙ s.1) record { node = record { letter = refl; bracket = refl }; semicolon = refl }
+    paren_ends 40 b s.0 (sym (after_space-same b w) ∙ s.1) record
+    { node = record { letter = refl; bracket = refl }; semicolon = refl }
 
-close_ends : (ps : List Part) (b r : List ℕ) → begins_space b ≡ false → SpellsParts b (closing ∷ ps) r → is_tree_first b ≡ false
+close_ends : (ps : List Part) (b r : List ℕ) → begins_space b ≡ false → SpellsParts b (closing ∷ ps) r →
+    is_tree_first b ≡ false
 close_ends ps b r w s = let is : b ≡ 41 ∷ s.0 = sym (after_space-same b w) ∙ s.1 in rw is refl
 
-trees_same : (c d : Trees) (b r u : List ℕ) → AreTrees c → AreTrees d → SpellsParts b (parts c) r → SpellsParts b (parts d) u →
+trees_same : (c d : Trees) (b r u : List ℕ) → AreTrees c → AreTrees d → SpellsParts b (parts c) r →
+    SpellsParts b (parts d) u →
     is_tree_first r ≡ false → is_tree_first u ≡ false → (c ≡ d) × (r ≡ u)
 trees_same none none b r u i j s t e f = (refl, sym s ∙ t)
 trees_same none (tree ms ds later) b r u i j s t e f =
@@ -194,7 +214,8 @@ trees_same (tree ns cs later) (tree ms ds after) b r u i j s t e f =
     let inner : s.0 ≡ t.0 = cc in
     let P : List ℕ → Type 0 = λ x. SpellsParts x (flat_map node_parts ms ++ (parts ds ++ (closing ∷ parts after))) u in
     let left = SpellsParts-split (flat_map node_parts ns) (parts cs ++ (closing ∷ parts later)) s.0 r s.2 in
-    let right = SpellsParts-split (flat_map node_parts ms) (parts ds ++ (closing ∷ parts after)) s.0 u (subst P (sym inner) t.2) in
+    let right = SpellsParts-split (flat_map node_parts ms) (parts ds ++ (closing ∷ parts after)) s.0 u
+    (subst P (sym inner) t.2) in
     let nodes = nodes_same ns ms s.0 left.0 right.0 i.1 j.1 left.1 right.1
     (nodes_end cs (parts later) left.0 r (no_space_after (flat_map node_parts ns) s.0 left.0 left.1) left.2)
     (nodes_end ds (parts after) right.0 u (no_space_after (flat_map node_parts ms) s.0 right.0 right.1) right.2) in
@@ -209,8 +230,11 @@ trees_same (tree ns cs later) (tree ms ds after) b r u i j s t e f =
     let behind : 41 ∷ close.0 ≡ 41 ∷ close'.0 = sym close.1 ∙ ap without_space children.1 ∙ close'.1 in
     let rest : close.0 ≡ close'.0 = cc in
     let R : List ℕ → Type 0 = λ x. SpellsParts x (parts after) u in
-    let others = trees_same later after close.0 r u i.3 j.3 close.2 (subst R (sym rest) close'.2) e f in
-    (ap (λ x. tree x cs later) nodes.0 ∙ ap (λ x. tree ms x later) children.0 ∙ ap (λ x. tree ms ds x) others.0, others.1)
+    let others = trees_same later after close.0 r u i.3 j.3 close.2 (subst R (sym rest) close'.2) e f in (
+      ap (λ x. tree x cs later) nodes.0 ∙ ap (λ x. tree ms x later) children.0 ∙ ap (λ x. tree ms ds x) others.0,
+      others.1,
+    )
 
 pub one_record : OneRecord
-one_record b c d s t = (trees_same c d (tree_in b) s.rest t.rest s.fit.trees t.fit.trees s.spelling t.spelling s.ended t.ended).0
+one_record b c d s t = (trees_same c d (tree_in b) s.rest t.rest s.fit.trees t.fit.trees s.spelling t.spelling s.ended
+    t.ended).0

@@ -48,7 +48,8 @@ front_no_space [] ys e = refl
 front_no_space (c ∷ cs) ys e = e
 
 -- what spells parts up to a rest is a front of the text, which spells them alone
-pub spelled_front : (ps : List Part) (b r : List ℕ) → SpellsParts b ps r → (front : List ℕ) × (b ≡ front ++ r) × SpellsParts front ps []
+pub spelled_front : (ps : List Part) (b r : List ℕ) → SpellsParts b ps r → (front : List ℕ) × (b ≡ front ++ r)
+    × SpellsParts front ps []
 spelled_front [] b r s =
     let before = space_before b in
     (before.0, before.1 ∙ ap (λ xs. before.0 ++ xs) s, before.2)
@@ -121,7 +122,8 @@ begins_by source from begin left some =
     record { later = omega arith; within = omega arith; first = first }
 
 -- the same, of a text that begins there
-pub begins_here : (source text found : List ℕ) (from : ℕ) → text ≡ drop from source → found ≡ tree_in text → length found ≢ 0 →
+pub begins_here : (source text found : List ℕ) (from : ℕ) → text ≡ drop from source → found ≡ tree_in text →
+    length found ≢ 0 →
     BeginsAt source from (length source - length found)
 begins_here source text found from e f some =
     let is : found ≡ tree_in (drop from source) = f ∙ ap tree_in e in
@@ -132,7 +134,8 @@ begins_here source text found from e f some =
 -- what stands there
 pub begun : (source : List ℕ) (from begin : ℕ) → BeginsAt source from begin → is_tree_first (drop begin source) ≡ true
 begun source from begin b =
-    let some : drop begin source ≢ [] = λ e. let h : length source - begin ≡ 0 = sym (length-drop begin source) ∙ ap length e in let w = b.within in omega arith in
+    let some : drop begin source ≢ [] = λ e. let h : length source - begin ≡ 0 = sym (length-drop begin source)
+    ∙ ap length e in let w = b.within in omega arith in
     rw (← b.first) (from_tree_begins (drop from source) (λ e. some (sym b.first ∙ e)))
 
 opened_text : (b : List ℕ) → is_tree_first b ≡ true → b ≡ 40 ∷ drop 1 b
@@ -141,17 +144,21 @@ opened_text (c ∷ cs) e =
     let is : c ≡ 40 = eqb-true c 40 (and_parts (c == 40) (is_first 59 (without_space cs)) e).0 in
     ap (λ x. x ∷ cs) is
 
-pub text_from : (source : List ℕ) (from begin : ℕ) → BeginsAt source from begin → drop begin source ≡ 40 ∷ drop (begin + 1) source
-text_from source from begin b = opened_text (drop begin source) (begun source from begin b) ∙ ap (λ xs. 40 ∷ xs) (drop-drop 1 begin source)
+pub text_from : (source : List ℕ) (from begin : ℕ) → BeginsAt source from begin →
+    drop begin source ≡ 40 ∷ drop (begin + 1) source
+text_from source from begin b = opened_text (drop begin source) (begun source from begin b)
+    ∙ ap (λ xs. 40 ∷ xs) (drop-drop 1 begin source)
 
 -- ---- a tree that stands
 
 -- a tree's text alone
-spells_alone : (t : List ℕ) (nodes : List (List Property)) (children : Trees) → IsFit (tree nodes children none) → SpellsTree t nodes children →
+spells_alone : (t : List ℕ) (nodes : List (List Property)) (children : Trees) → IsFit (tree nodes children none) →
+    SpellsTree t nodes children →
     Spells t (tree nodes children none)
 spells_alone t nodes children fit s =
     let inside : List ℕ = s.0 ++ (41 ∷ []) in
-    let all : SpellsParts inside (flat_map node_parts nodes ++ (parts children ++ (closing ∷ []))) [] = tree_closed nodes children [] s.0 [] [] s.2 refl in
+    let all : SpellsParts inside (flat_map node_parts nodes ++ (parts children ++ (closing ∷ []))) [] =
+    tree_closed nodes children [] s.0 [] [] s.2 refl in
     let begins : is_tree_first (40 ∷ inside) ≡ true = tree_begins nodes _ inside [] fit.trees.0 all in
     let P : List ℕ → Type 0 = λ xs. Spells xs (tree nodes children none) in
     subst P (sym s.1) (record {
@@ -164,7 +171,8 @@ spells_alone t nodes children fit s =
     })
 
 -- it is read from its `(` to its `)`
-pub stands_there : (source : List ℕ) (span : TreeSpan) (nodes : List (List Property)) (children : Trees) (inside behind : List ℕ) →
+pub stands_there : (source : List ℕ) (span : TreeSpan) (nodes : List (List Property)) (children : Trees)
+    (inside behind : List ℕ) →
     span.begin < length source → drop span.begin source ≡ 40 ∷ inside → span.end + length behind ≡ length source →
     IsFit (tree nodes children none) → SpellsParts inside (flat_map node_parts nodes ++ parts children) (41 ∷ behind) →
     IsTreeAt source span nodes children × (drop span.end source ≡ behind)
@@ -187,13 +195,16 @@ stands_there source span nodes children inside behind within opens ends fit s =
         alone = spells_alone (span_text source span) nodes children fit bracketed;
         text = bracketed;
       },
-      sym (sym (drop-append_seam own behind) ∙ ap (drop (length own)) (sym whole) ∙ drop-drop (length own) span.begin source ∙ ap (λ n. drop n source) past),
+      sym (sym (drop-append_seam own behind) ∙ ap (drop (length own)) (sym whole)
+          ∙ drop-drop (length own) span.begin source ∙ ap (λ n. drop n source) past),
     )
 
 -- it is read up to what follows it
-pub read_there : (source : List ℕ) (from begin : ℕ) (inside behind : List ℕ) (t : TreeValue) → BeginsAt source from begin → inside ≡ drop (begin + 1) source →
+pub read_there : (source : List ℕ) (from begin : ℕ) (inside behind : List ℕ) (t : TreeValue) →
+    BeginsAt source from begin → inside ≡ drop (begin + 1) source →
     ReadsToEnd 1 inside t behind →
-    (length behind ≤ length source) × IsTreeAt source (record { begin = begin; end = length source - length behind }) t.0 t.1
+    (length behind ≤ length source)
+    × IsTreeAt source (record { begin = begin; end = length source - length behind }) t.0 t.1
 read_there source from begin inside behind t b e r =
     let own : List Part = flat_map node_parts t.0 ++ parts t.1 in
     let opens : drop begin source ≡ 40 ∷ inside = text_from source from begin b ∙ ap (λ xs. 40 ∷ xs) (sym e) in
@@ -201,17 +212,24 @@ read_there source from begin inside behind t b e r =
     let sized : length source - begin ≡ suc (length inside) = sym (length-drop begin source) ∙ ap length opens in
     let within : length behind ≤ length source = omega arith in
     let fit : IsFit (tree t.0 t.1 none) =
-    record { some = λ e. cc; trees = (r.tree.some, r.tree.nodes, r.tree.children, tt); nesting = let h = r.tree.nesting in omega arith } in
+    record {
+      some = λ e. cc;
+      trees = (r.tree.some, r.tree.nodes, r.tree.children, tt);
+      nesting = let h =
+          r.tree.nesting in omega arith;
+    } in
     let span : TreeSpan = record { begin = begin; end = length source - length behind } in
     (within, (stands_there source span t.0 t.1 inside behind b.within opens (omega arith) fit r.closed).0)
 
 -- ---- a tree that stops
 
-pub stops_in_first : (source : List ℕ) (from begin : ℕ) (inside : List ℕ) (f : Fault) (place : ℕ) → BeginsAt source from begin →
+pub stops_in_first : (source : List ℕ) (from begin : ℕ) (inside : List ℕ) (f : Fault) (place : ℕ) →
+    BeginsAt source from begin →
     drop begin source ≡ 40 ∷ inside → outcome MAX_DEPTH opened 1 inside ≡ Err f → place + left_of f ≡ length source →
     StopsInFirst source from place (WhyIn f)
 stops_in_first source from begin inside f place b opens e placed =
-    let i : FaultIs MAX_DEPTH opened 1 inside f = fault_is MAX_DEPTH inside opened 1 f (λ h. cc) (omega arith, omega arith) e in
+    let i : FaultIs MAX_DEPTH opened 1 inside f =
+    fault_is MAX_DEPTH inside opened 1 f (λ h. cc) (omega arith, omega arith) e in
     let is : tree_in (drop from source) ≡ 40 ∷ inside = b.first ∙ opens in
     let B : List ℕ → Type 0 = λ xs. is_tree_first xs ≡ true in
     let begins : is_tree_first (40 ∷ inside) ≡ true = subst B opens (begun source from begin b) in
@@ -220,7 +238,8 @@ stops_in_first source from begin inside f place b opens e placed =
     let sized : length source - begin ≡ suc (length inside) = sym (length-drop begin source) ∙ ap length opens in
     record {
       spells_none = λ c s.
-          two_ways none c (tree_in (drop from source)) (40 ∷ inside) s.rest inside f tt (omega arith) s.fit.trees s.fit.nesting
+          two_ways none c (tree_in (drop from source)) (40 ∷ inside) s.rest inside f tt (omega arith) s.fit.trees
+          s.fit.nesting
           first s.spelling s.ended begins refl e;
       begin = begin;
       begins = b;
@@ -234,13 +253,15 @@ stops_in_first source from begin inside f place b opens e placed =
 left_in_source : (source : List ℕ) (begin : ℕ) (inside : List ℕ) (f : Fault) → drop begin source ≡ 40 ∷ inside →
     outcome MAX_DEPTH opened 1 inside ≡ Err f → left_of f ≤ length source
 left_in_source source begin inside f opens e =
-    let i : FaultIs MAX_DEPTH opened 1 inside f = fault_is MAX_DEPTH inside opened 1 f (λ h. cc) (omega arith, omega arith) e in
+    let i : FaultIs MAX_DEPTH opened 1 inside f =
+    fault_is MAX_DEPTH inside opened 1 f (λ h. cc) (omega arith, omega arith) e in
     let h = i.left in
     let sized : length source - begin ≡ suc (length inside) = sym (length-drop begin source) ∙ ap length opens in
     omega arith
 
 module _ {X : Type 0} (later : X → Result (List ℕ) Fault) (source : List ℕ) (from begin : ℕ) (inside : List ℕ) where
-  pub left_there : (f : Fault) → drop begin source ≡ 40 ∷ inside → Meets (Err f) (outcome MAX_DEPTH opened 1 inside) later → left_of f ≤ length source
+  pub left_there : (f : Fault) → drop begin source ≡ 40 ∷ inside →
+      Meets (Err f) (outcome MAX_DEPTH opened 1 inside) later → left_of f ≤ length source
   left_there Memory opens m = omega arith
   left_there End opens m = omega arith
   left_there (Unexpected n) opens m = left_in_source source begin inside (Unexpected n) opens m
@@ -249,7 +270,8 @@ module _ {X : Type 0} (later : X → Result (List ℕ) Fault) (source : List ℕ
   pub refused_there : (f : Fault) → f ≢ Memory → BeginsAt source from begin → drop begin source ≡ 40 ∷ inside →
       Meets (Err f) (outcome MAX_DEPTH opened 1 inside) later → IsRefusalFrom source from (error_at (length source) f)
   refused_there Memory ne b opens m = absurd (ne refl)
-  refused_there End ne b opens m = (refl, stops_in_first source from begin inside End (length source) b opens m (omega arith))
+  refused_there End ne b opens m =
+      (refl, stops_in_first source from begin inside End (length source) b opens m (omega arith))
   refused_there (Unexpected n) ne b opens m =
       let left : n ≤ length source = left_in_source source begin inside (Unexpected n) opens m in
       stops_in_first source from begin inside (Unexpected n) (length source - n) b opens m (omega arith)
@@ -258,7 +280,8 @@ module _ {X : Type 0} (later : X → Result (List ℕ) Fault) (source : List ℕ
       stops_in_first source from begin inside (TooDeep n) (length source - n) b opens m (omega arith)
 
 -- the same refusal of the text from there on
-stops_alike : (source : List ℕ) (from place : ℕ) (Reason : List ℕ → ℕ → Type 0) → StopsInFirst source from place Reason →
+stops_alike : (source : List ℕ) (from place : ℕ) (Reason : List ℕ → ℕ → Type 0) →
+    StopsInFirst source from place Reason →
     (at : ℕ) × StopsAt (drop from source) at Reason × (place ≡ from + at)
 stops_alike source from place Reason s =
     let b = s.begins in
@@ -305,30 +328,39 @@ refused_alike source from error.TooLong r = absurd r
 -- ---- a walk over what a text spells
 
 -- the first of the trees that a text spells from its first tree on, and the text after it
-first_stands : (source : List ℕ) (from : ℕ) (inside : List ℕ) (nodes : List (List Property)) (children later : Trees) (rest : List ℕ) →
-    tree_in (drop from source) ≡ 40 ∷ inside → AreTrees (tree nodes children later) → depth (tree nodes children later) ≤ MAX_DEPTH →
+first_stands : (source : List ℕ) (from : ℕ) (inside : List ℕ) (nodes : List (List Property)) (children later : Trees)
+    (rest : List ℕ) →
+    tree_in (drop from source) ≡ 40 ∷ inside → AreTrees (tree nodes children later) →
+    depth (tree nodes children later) ≤ MAX_DEPTH →
     SpellsParts inside (flat_map node_parts nodes ++ (parts children ++ (closing ∷ parts later))) rest →
-    (span : TreeSpan) × IsNextTree source from span nodes children × SpellsParts (drop span.end source) (parts later) rest
+    (span : TreeSpan) × IsNextTree source from span nodes children
+    × SpellsParts (drop span.end source) (parts later) rest
 first_stands source from inside nodes children later rest is fit deep s =
     let P : List Part → Type 0 = λ ps. SpellsParts inside ps rest in
     let own : List Part = flat_map node_parts nodes ++ parts children in
-    let split = SpellsParts-split own (closing ∷ parts later) inside rest (subst P (sym (append_assoc (flat_map node_parts nodes) (parts children) (closing ∷ parts later))) s) in
+    let split = SpellsParts-split own (closing ∷ parts later) inside rest
+    (subst P (sym (append_assoc (flat_map node_parts nodes) (parts children) (closing ∷ parts later))) s) in
     let behind : List ℕ = split.2.0 in
-    let closes : split.0 ≡ 41 ∷ behind = sym (after_space-same split.0 (no_space_after own inside split.0 split.1)) ∙ split.2.1 in
+    let closes : split.0 ≡ 41 ∷ behind = sym (after_space-same split.0 (no_space_after own inside split.0 split.1))
+    ∙ split.2.1 in
     let Q : List ℕ → Type 0 = λ xs. SpellsParts inside own xs in
     let to_end : SpellsParts inside own (41 ∷ behind) = subst Q closes split.1 in
     let front = spelled_front own inside (41 ∷ behind) to_end in
-    let sizes : length inside ≡ length front.0 + suc (length behind) = ap length front.1 ∙ length-append front.0 (41 ∷ behind) in
+    let sizes : length inside ≡ length front.0 + suc (length behind) = ap length front.1
+    ∙ length-append front.0 (41 ∷ behind) in
     let before = tree_front (drop from source) in
     let whole : length (drop from source) ≡ length before.0 + suc (length inside) =
-    ap length before.1 ∙ length-append before.0 (tree_in (drop from source)) ∙ ap (λ xs. length before.0 + length xs) is in
+    ap length before.1 ∙ length-append before.0 (tree_in (drop from source))
+    ∙ ap (λ xs. length before.0 + length xs) is in
     let sized : length (drop from source) ≡ length source - from = length-drop from source in
     let left : length (tree_in (drop from source)) ≡ suc (length inside) = ap length is in
     let span : TreeSpan = record { begin = length source - suc (length inside); end = length source - length behind } in
-    let begins : BeginsAt source from span.begin = begins_by source from span.begin (omega arith) (λ none. omega arith) in
+    let begins : BeginsAt source from span.begin =
+    begins_by source from span.begin (omega arith) (λ none. omega arith) in
     let fits : IsFit (tree nodes children none) =
     record { some = λ e. cc; trees = (fit.0, fit.1, fit.2, tt); nesting = omega arith } in
-    let there = stands_there source span nodes children inside behind begins.within (sym begins.first ∙ is) (omega arith) fits to_end in
+    let there = stands_there source span nodes children inside behind begins.within (sym begins.first ∙ is)
+    (omega arith) fits to_end in
     let R : List ℕ → Type 0 = λ xs. SpellsParts xs (parts later) rest in
     (span, record { begins = begins; stands = there.0 }, subst R (sym there.1) split.2.2)
 
@@ -336,19 +368,27 @@ trees_follow : (c : Trees) (source : List ℕ) (from : ℕ) (rest : List ℕ) �
     SpellsParts (drop from source) (parts c) rest → is_tree_first rest ≡ false → AreNextTrees source from c
 trees_follow none source from rest fit deep s ended = rw s ended
 trees_follow (tree nodes children later) source from rest fit deep s ended =
-    let begins : is_tree_first (without_space (drop from source)) ≡ true = rw s.1 (tree_begins nodes _ s.0 rest fit.0 s.2) in
-    let first = first_stands source from s.0 nodes children later rest (tree_after_space (drop from source) begins ∙ s.1) fit deep s.2 in
+    let begins : is_tree_first (without_space (drop from source)) ≡ true =
+    rw s.1 (tree_begins nodes _ s.0 rest fit.0 s.2) in
+    let first = first_stands source from s.0 nodes children later rest
+    (tree_after_space (drop from source) begins ∙ s.1) fit deep s.2 in
     (begins, first.0, first.1, trees_follow later source first.0.end rest fit.3 (omega arith) first.2 ended)
 
 spelled_walked : (b : List ℕ) (c : Trees) → Spells b c → AreWalked b c
 spelled_walked b none s = s.fit.some refl
 spelled_walked b (tree nodes children later) s =
     let from_start = s.spelling in
-    let begins : is_tree_first (40 ∷ from_start.0) ≡ true = tree_begins nodes _ from_start.0 s.rest s.fit.trees.0 from_start.2 in
+    let begins : is_tree_first (40 ∷ from_start.0) ≡ true =
+    tree_begins nodes _ from_start.0 s.rest s.fit.trees.0 from_start.2 in
     let some : tree_in b ≢ [] = λ e. let no : 40 ∷ from_start.0 ≡ [] = sym from_start.1 ∙ ap without_space e in cc in
-    let is : tree_in b ≡ 40 ∷ from_start.0 = sym (begins_no_space (tree_in b) (from_tree_begins b some)) ∙ from_start.1 in
-    let first = first_stands b 0 from_start.0 nodes children later s.rest is s.fit.trees s.fit.nesting from_start.2 in
-    (first.0, first.1, trees_follow later b first.0.end s.rest s.fit.trees.3 (let h = s.fit.nesting in omega arith) first.2 s.ended)
+    let is : tree_in b ≡ 40 ∷ from_start.0 = sym (begins_no_space (tree_in b) (from_tree_begins b some))
+    ∙ from_start.1 in
+    let first = first_stands b 0 from_start.0 nodes children later s.rest is s.fit.trees s.fit.nesting from_start.2 in (
+      first.0,
+      first.1,
+      trees_follow later b first.0.end s.rest s.fit.trees.3 (let h = s.fit.nesting in omega arith)
+          first.2 s.ended,
+    )
 
 -- ---- what a walk meets is spelled
 
@@ -361,7 +401,8 @@ record GoesOn (b : List ℕ) (c : Trees) : Type 0 where
   ended : is_tree_first rest ≡ false
 
 -- one tree more before them
-one_before : (source : List ℕ) (from : ℕ) (span : TreeSpan) (nodes : List (List Property)) (children later : Trees) → IsNextTree source from span nodes children →
+one_before : (source : List ℕ) (from : ℕ) (span : TreeSpan) (nodes : List (List Property)) (children later : Trees) →
+    IsNextTree source from span nodes children →
     GoesOn (drop span.end source) later → GoesOn (tree_in (drop from source)) (tree nodes children later)
 one_before source from span nodes children later next g =
     let t = next.stands.text in
@@ -371,35 +412,44 @@ one_before source from span nodes children later next g =
     let past : span.begin + (span.end - span.begin) ≡ span.end = omega arith in
     let whole : drop span.begin source ≡ span_text source span ++ behind =
     sym (take-append-drop (span.end - span.begin) (drop span.begin source))
-    ∙ ap (λ xs. span_text source span ++ xs) (drop-drop (span.end - span.begin) span.begin source ∙ ap (λ n. drop n source) past) in
+    ∙ ap (λ xs. span_text source span ++ xs)
+    (drop-drop (span.end - span.begin) span.begin source ∙ ap (λ n. drop n source) past) in
     let is : tree_in (drop from source) ≡ 40 ∷ (t.0 ++ (41 ∷ behind)) =
     next.begins.first ∙ whole ∙ ap (λ xs. xs ++ behind) t.1 ∙ ap (λ xs. 40 ∷ xs) (append_assoc t.0 (41 ∷ []) behind) in
     record {
       trees = (fit.trees.0, fit.trees.1, fit.trees.2, g.trees);
       nesting = let h = fit.nesting in let k = g.nesting in omega arith;
       rest = g.rest;
-      spelling = (t.0 ++ (41 ∷ behind), ap without_space is, tree_closed nodes children (parts later) t.0 behind g.rest t.2 g.spelling);
+      spelling = (
+        t.0 ++ (41 ∷ behind),
+        ap without_space is,
+        tree_closed nodes children (parts later) t.0 behind g.rest t.2 g.spelling,
+      );
       ended = g.ended;
     }
 
 goes_on : (c : Trees) (source : List ℕ) (from : ℕ) → AreNextTrees source from c → GoesOn (drop from source) c
-goes_on none source from h = record { trees = tt; nesting = omega arith; rest = without_space (drop from source); spelling = refl; ended = h }
+goes_on none source from h = record
+    { trees = tt; nesting = omega arith; rest = without_space (drop from source); spelling = refl; ended = h }
 goes_on (tree nodes children later) source from h =
-    let g : GoesOn (tree_in (drop from source)) (tree nodes children later) = one_before source from h.1 nodes children later h.2 (goes_on later source h.1.end h.3) in
+    let g : GoesOn (tree_in (drop from source)) (tree nodes children later) =
+    one_before source from h.1 nodes children later h.2 (goes_on later source h.1.end h.3) in
     let same : without_space (tree_in (drop from source)) ≡ without_space (drop from source) =
     ap without_space (tree_after_space (drop from source) h.0) ∙ after_space-again (drop from source) in
     record {
       trees = g.trees;
       nesting = g.nesting;
       rest = g.rest;
-      spelling = SpellsParts-same (parts (tree nodes children later)) (tree_in (drop from source)) (drop from source) g.rest same g.spelling;
+      spelling = SpellsParts-same (parts (tree nodes children later)) (tree_in (drop from source)) (drop from source)
+          g.rest same g.spelling;
       ended = g.ended;
     }
 
 walked_spelled : (b : List ℕ) (c : Trees) → AreWalked b c → Spells b c
 walked_spelled b none h = absurd h
 walked_spelled b (tree nodes children later) h =
-    let g : GoesOn (tree_in b) (tree nodes children later) = one_before b 0 h.0 nodes children later h.1 (goes_on later b h.0.end h.2) in
+    let g : GoesOn (tree_in b) (tree nodes children later) =
+    one_before b 0 h.0 nodes children later h.1 (goes_on later b h.0.end h.2) in
     record {
       fit = record { some = λ e. cc; trees = g.trees; nesting = g.nesting };
       rest = g.rest;

@@ -12,11 +12,13 @@ joined-append ps qs = flat_map-append text ps qs
 
 -- a tree's text, and what follows it
 pub tree_then : (nodes : List (List Property)) (children : Trees) (ps : List Part) →
-    text_of_parts (opening ∷ (flat_map node_parts (map (map plain_property) nodes) ++ (parts (plain children) ++ (closing ∷ ps))))
+    text_of_parts (opening ∷ (flat_map node_parts (map (map plain_property) nodes)
+    ++ (parts (plain children) ++ (closing ∷ ps))))
     ≡ tree_text nodes children ++ text_of_parts ps
 tree_then nodes children ps =
     let front : List Part = flat_map node_parts (map (map plain_property) nodes) in
-    let inner : front ++ (parts (plain children) ++ (closing ∷ ps)) ≡ (front ++ (parts (plain children) ++ (closing ∷ []))) ++ ps =
+    let inner : front ++ (parts (plain children) ++ (closing ∷ ps)) ≡
+    (front ++ (parts (plain children) ++ (closing ∷ []))) ++ ps =
     ap (λ qs. front ++ qs) (sym (append_assoc (parts (plain children)) (closing ∷ []) ps))
     ∙ sym (append_assoc front (parts (plain children) ++ (closing ∷ [])) ps) in
     ap (λ qs. text_of_parts (opening ∷ qs)) inner

@@ -53,7 +53,7 @@ abbrev pub points_alone : ℕ → List ℕ → Option (List Point)
 points_alone n [] = Some []
 points_alone n (c ∷ cs) = option_map (λ p. p ∷ []) (point_in n (c ∷ cs))
 
--- the points of one value, whose first `:` stands at a place, if there is one
+-- the points of one value, whose first `:` is at a place, if there is one
 abbrev pub points_by : ℕ → List ℕ → Option ℕ → Option (List Point)
 points_by n v (Some k) = rectangle_by n (point_in n (trimmed (take k v))) (point_in n (trimmed (drop 1 (drop k v))))
 points_by n v None = points_alone n (trimmed v)

@@ -49,7 +49,7 @@ abbrev pub goes_on : ℕ → List ℕ → Bool
 goes_on b [] = false
 goes_on b (c ∷ cs) = is_line_break c && not (c == b)
 
--- What a text gives, by its front. CR LF, LF CR, CR and LF are one line break each, the longest first.
+-- What a text gives, prefix by prefix. CR LF, LF CR, CR and LF are one line break each, the longest first.
 pub record CookedByFront (line_break : ℕ) : Type 0 where
   pub empty : cooked line_break Text [] ≡ []
   pub lone_escape : cooked line_break Text (92 ∷ []) ≡ []

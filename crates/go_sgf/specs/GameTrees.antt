@@ -66,7 +66,7 @@ pub record IsNextTree (source : List ℕ) (from : ℕ) (span : TreeSpan) (nodes 
   pub stands : IsTreeAt source span nodes children
 
 -- From a place on come these trees, each from the end of the one before on with white space alone between them, and
--- then no tree, white space aside.
+-- then no tree, but for white space.
 abbrev pub AreNextTrees : List ℕ → ℕ → Trees → Type 0
 AreNextTrees source from none = is_tree_first (without_space (drop from source)) ≡ false
 AreNextTrees source from (tree nodes children later) =

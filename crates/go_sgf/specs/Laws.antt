@@ -21,7 +21,7 @@ SpelledIsFit = (b : List ℕ) (c : Trees) → Spells b c → IsFit c
 abbrev pub OneRecord : Type 0
 OneRecord = (b : List ℕ) (c d : Trees) → Spells b c → Spells b d → c ≡ d
 
--- a text that spells a record, and isn't too long for one, is refused for want of memory alone
+-- a text that spells a record, and isn't too long for one, is refused only where memory lacks
 abbrev pub SpelledIsRead : Type 0
 SpelledIsRead = (b : List ℕ) (c : Trees) (why : SgfError)
     → Spells b c → IsRefusal b why → length b ≤ MAX_RECORD → why ≡ Memory
@@ -32,7 +32,7 @@ SpellsTree t nodes children =
     (inner : List ℕ) × (t ≡ 40 ∷ (inner ++ (41 ∷ [])))
     × SpellsParts inner (flat_map node_parts nodes ++ parts children) []
 
--- each front of a tree's text that has a byte stands, of a tree of any depth, and as a whole tree exactly where it
+-- each prefix of a tree's text that has a byte stands, of a tree of any depth, and as a whole tree exactly where it
 -- is all of it
 abbrev pub FrontsStand : Type 0
 FrontsStand = (t : List ℕ) (nodes : List (List Property)) (children : Trees)

@@ -11,3 +11,4 @@ pub mod Numbers
 pub mod BoardValues
 pub mod Rectangles
 pub mod inner
+pub mod lemmas

@@ -10,8 +10,10 @@ abbrev pub main_line : Trees → List (List Property)
 main_line none = []
 main_line (tree nodes children later) = nodes ++ main_line children
 
--- What is left of a main line: values of a property, the properties behind it in its node, and the nodes behind that.
--- The text goes on with them, the last nodes in children, and then it closes their tree.
+-- What is left of a main line: values of a property, the properties after it in its node, and the nodes after that.
+-- The text goes on with them and closes their tree:
+--     [value].. PROPERTY[value].. ;node.. (child.. ) )
+-- where `own` are the nodes that stand in this tree itself, and `children` has the main line's others.
 pub record IsLeft (text : List ℕ) (values : List (List ℕ)) (properties : List Property)
     (nodes : List (List Property)) : Type 0 where
   pub own : List (List Property)

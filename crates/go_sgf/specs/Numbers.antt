@@ -32,18 +32,18 @@ abbrev pub behind_sign : List ℕ → List ℕ
 behind_sign [] = []
 behind_sign (c ∷ cs) = if c == 43 || c == 45 then cs else c ∷ cs
 
--- where the point stands, or where the number ends
+-- the place of the point, or of the number's end
 abbrev pub point_place : List ℕ → ℕ
 point_place number = unwrap_or (position (λ c. c == 46) number) (length number)
 
--- what stands before the point, and what stands behind it
+-- what comes before the point, and what comes after it
 abbrev pub whole_part : List ℕ → List ℕ
 whole_part number = take (point_place number) number
 
 abbrev pub decimals_in : List ℕ → List ℕ
 decimals_in number = drop 1 (drop (point_place number) number)
 
--- digits, at least one in all, and none but 0 behind the second decimal
+-- digits, at least one in all, and none but 0 after the second decimal
 abbrev pub is_decimal : List ℕ → List ℕ → Bool
 is_decimal whole decimals =
     ((list_all is_ascii_digit whole && list_all is_ascii_digit decimals)
@@ -66,7 +66,7 @@ size_of_number number = size_by (whole_part number) (decimals_in number)
 abbrev pub with_sign : Bool → ℕ → ℤ
 with_sign minus size = if minus then pos 0 -ℤ pos size else pos size
 
--- the komi that a word spells, in hundredths: an optional sign, digits, and an optional point among or behind them
+-- the komi that a word spells, in hundredths: an optional sign, digits, and an optional point among or after them
 abbrev pub komi_of : List ℕ → Option ℤ
 komi_of word = option_map (with_sign (has_minus word)) (size_of_number (behind_sign word))
 

@@ -35,7 +35,7 @@ is_letter_byte c = is_upper_byte c || is_lower c
 abbrev pub IsName : List ℕ → Type 0
 IsName n = (list_all is_letter_byte n ≡ true) × (list_any is_upper_byte n ≡ true)
 
--- A `\` and the byte after it belong together, and no other `]` stands inside. A first byte may be escaped from before.
+-- A `\` and the byte after it belong together, and no other `]` is inside. A first byte may be escaped from before.
 abbrev pub is_inside : Bool → List ℕ → Bool
 is_inside escaped [] = not escaped
 is_inside true (c ∷ cs) = is_inside false cs
@@ -49,7 +49,7 @@ pub record IsProperty (p : Property) : Type 0 where
   pub some : p.values ≢ []
   pub inside : AllByRecursion IsValue p.values
 
--- each tree has a node, and its nodes have names and values as they are to be
+-- each tree has a node, and its nodes have well-formed names and values
 abbrev pub AreTrees : Trees → Type 0
 AreTrees none = Unit {0}
 AreTrees (tree nodes children later) =

@@ -10,7 +10,7 @@ pub record RectangleValue : Type 0 where
   pub row : ℕ
   pub rows : ℕ
 
--- so many points of a row, from a column on
+-- this number of points of a row, from a column on
 abbrev pub row_from : ℕ → ℕ → ℕ → List Point
 row_from row column count = map (λ c. record { col = c; row = row }) (range_with_len column count)
 

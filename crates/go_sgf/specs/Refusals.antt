@@ -16,14 +16,14 @@ pub record IsBehind (source : List ℕ) (before : Trees) (text : List ℕ) : Typ
   pub spelling : SpellsParts (tree_in source) (parts before) text
   pub begins : is_tree_first text ≡ true
 
--- So many bytes of this text are read, and no more. They stand as no whole tree, and no front of them is nested too
--- deep. Why no more are read says Reason.
+-- This number of bytes of this text is read, and no more. They stand as no whole tree, and no prefix of them is nested
+-- too deep. Why no more are read says Reason.
 pub record IsReadUpTo (text : List ℕ) (count : ℕ) (Reason : List ℕ → ℕ → Type 0) : Type 0 where
   pub unfinished : IsUnfinished (stands (take count text))
   pub shallow : (k : ℕ) → k ≤ count → IsAtDepth (suc MAX_DEPTH) (stands (take k text)) → ⊥
   pub stops : Reason text count
 
--- The source spells no record. Behind whole trees it goes on with a text, and so many bytes of that text are read:
+-- The source spells no record. After whole trees comes a text, of which this number of bytes is read:
 -- those before the place, which is a byte's number in the source.
 pub record StopsAt (source : List ℕ) (place : ℕ) (Reason : List ℕ → ℕ → Type 0) : Type 0 where
   pub spells_none : (c : Trees) → Spells source c → ⊥
@@ -38,7 +38,7 @@ pub record StopsAt (source : List ℕ) (place : ℕ) (Reason : List ℕ → ℕ 
 abbrev pub EndsAt : List ℕ → ℕ → Type 0
 EndsAt text count = count ≡ length text
 
--- no longer front of the text stands, and there is a byte more
+-- no longer prefix of the text stands, and there is a byte more
 abbrev pub StandsNoLonger : List ℕ → ℕ → Type 0
 StandsNoLonger text count = (count < length text) × ((k : ℕ) → count < k → stands (take k text) ≡ None)
 

@@ -35,7 +35,7 @@ parts (tree nodes children later) =
 abbrev pub is_space : ℕ → Bool
 is_space c = (c == 32) || (nat_le 9 c && nat_le c 13)
 
--- the text after the white space at its front
+-- the text after the white space that it begins with
 abbrev pub without_space : List ℕ → List ℕ
 without_space [] = []
 without_space (c ∷ cs) = if is_space c then without_space cs else c ∷ cs
@@ -50,7 +50,7 @@ abbrev pub is_first : ℕ → List ℕ → Bool
 is_first c [] = false
 is_first c (d ∷ ds) = d == c
 
--- the text begins with `(`, and `;` follows, white space aside
+-- the text begins with `(`, and `;` follows, with white space between them or none
 abbrev pub is_tree_first : List ℕ → Bool
 is_tree_first [] = false
 is_tree_first (c ∷ cs) = (c == 40) && is_first 59 (without_space cs)
@@ -60,7 +60,7 @@ abbrev pub tree_in : List ℕ → List ℕ
 tree_in [] = []
 tree_in (c ∷ cs) = if is_tree_first (c ∷ cs) then c ∷ cs else tree_in cs
 
--- The text spells the trees: a front without a tree, the trees, and a rest that goes on with no tree.
+-- The text spells the trees: a prefix without a tree, the trees, and a rest that begins with no tree.
 pub record Spells (b : List ℕ) (c : Trees) : Type 0 where
   pub fit : IsFit c
   pub rest : List ℕ

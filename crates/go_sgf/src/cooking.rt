@@ -81,7 +81,7 @@ fn push_given<A: Allocator + Copy>(
     Ok(())
 }
 
-/// What is open behind a byte, and what the byte gives.
+/// What is open after a byte, and what the byte gives.
 fn step(line_break: u8, mode: Mode, byte: u8) -> (Mode, Option<u8>)
     ensures { result ≡ cooked_next line_break mode byte }
 {

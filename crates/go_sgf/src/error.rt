@@ -9,11 +9,11 @@ use std::fmt;
 /// Why a source can't be read. A place is a byte's number in the source, from 0.
 #[derive(Clone, Copy, Debug, PartialEq, Eq)]
 pub enum SgfError {
-    /// No `(` is followed by `;`, white space aside.
+    /// After no `(` comes a `;`. White space between them doesn't count.
     NoTree,
     /// The source ends before a tree does. The place is its length.
     EndInside(usize),
-    /// The first byte that nothing allows where it stands.
+    /// The first byte that the grammar doesn't allow at its place.
     Unexpected(usize),
     /// The `(` of the first tree that is nested deeper than [`MAX_DEPTH`](crate::MAX_DEPTH).
     TooDeep(usize),

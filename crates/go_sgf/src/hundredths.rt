@@ -13,7 +13,7 @@ use go_board::{MAX_KOMI, are_digits, value_of_digits, with_digit};
 const PAST_MOST: u64 = MAX_KOMI + 1;
 
 /// The komi that a value spells, in hundredths of a point: an optional sign, digits, and an
-/// optional point among or behind them, with white space at both ends skipped. Digits past the
+/// optional point among or after them, with white space at both ends skipped. Digits past the
 /// second decimal must be 0. None where it spells no komi, or one of more than 999,999,999.99.
 pub fn hundredths_of(value: &[u8]) -> Option<i64>
     ensures value { result ≡ hundredths_by value.now }
@@ -85,7 +85,7 @@ fn size_of_parts(whole: &[u8], decimals: &[u8]) -> Option<u64>
     if size > MAX_KOMI { None } else { Some(size) }
 }
 
-/// Whether the parts are digits, at least one in all, with none but 0 behind the second decimal.
+/// Whether the parts are digits, at least one in all, with none but 0 after the second decimal.
 fn are_decimal(whole: &[u8], decimals: &[u8]) -> bool
     ensures { result ≡ is_decimal whole.now decimals.now }
 {

@@ -17,13 +17,13 @@ pub fn canonical_spells_plain()
     ensures { CanonicalSpellsPlain }
 {}
 
-/// What a text spells can be spelled: it has a tree, its names and values are as they are to be,
-/// and it isn't nested too deep.
+/// What a text spells can be spelled: it has a tree, its names and values are well formed, and it
+/// isn't nested too deep.
 pub fn spelled_is_fit()
     ensures { SpelledIsFit }
 {}
 
-/// What spells a record is refused for want of memory alone, if it isn't too long.
+/// A text that spells a record and isn't too long is refused only where memory lacks.
 pub fn spelled_is_read()
     ensures { SpelledIsRead }
 {}
@@ -33,7 +33,7 @@ pub fn one_record()
     ensures { OneRecord }
 {}
 
-/// Each front of a tree's text stands, of a tree of any depth, and as a whole tree exactly where
+/// Each prefix of a tree's text stands, of a tree of any depth, and as a whole tree exactly where
 /// it is all of the text.
 pub fn fronts_stand()
     ensures { FrontsStand }
@@ -51,7 +51,7 @@ pub fn refused_alike()
     ensures { RefusedAlike }
 {}
 
-/// What a value says, by its front, is what cooking gives, whatever a line break gives.
+/// What a value says, prefix by prefix, is what cooking gives, whatever a line break gives.
 pub fn cooked_by_front()
     ensures { (line_break : ℕ) → CookedByFront line_break }
 {}

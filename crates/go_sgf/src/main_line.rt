@@ -135,7 +135,7 @@ impl<'a> MainLine<'a> {
     }
 }
 
-/// What stands behind the `;` of the next node, which may be the first of a child.
+/// The text after the `;` of the next node, which may be the first of a child.
 fn to_node(text: &[u8]) -> Option<&[u8]>
     ensures some { IfSome result (λ inside. (nodes : List (List Property))
         → IsLeft text.now [] [] nodes → NextNode true nodes inside.now) }

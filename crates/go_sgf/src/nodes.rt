@@ -16,7 +16,7 @@ pub struct Property<'a, A: Allocator + Copy> {
     item: Item<'a, A>,
 }
 
-/// A short name with one value, as most properties have, stands in place.
+/// A short name with one value lies in place, as most properties are.
 #[derive(Drop)]
 enum Item<'a, A: Allocator + Copy> {
     Letter([u8; 1], &'a [u8]),
@@ -80,7 +80,7 @@ impl<'a, A: Allocator + Copy> Property<'a, A> {
         }
     }
 
-    /// Whether this is its name, lower-case letters aside.
+    /// Whether this is its name. Lower-case letters of the record's name don't count.
     pub fn is(&self, name: &[u8]) -> bool
         ensures { result ≡ bytes_eq (plain_property self.now).name name.now }
     {
@@ -158,7 +158,7 @@ impl<'a, A: Allocator + Copy> Sequence<'a, A> {
     }
 }
 
-/// Whether a property's name, lower-case letters aside, is this one.
+/// Whether this is a property's name. Its lower-case letters don't count.
 pub fn is_named(name: &[u8], plain: &[u8]) -> bool
     ensures { result ≡ bytes_eq (filter is_upper_byte name.now) plain.now }
 {

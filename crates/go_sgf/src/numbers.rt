@@ -5,7 +5,7 @@ ghost use Rattle.go_sgf.specs.Numbers.{number_in, trimmed, trimmed_end};
 use crate::scan::{after_space, is_white};
 use go_board::{MAX_INT, read_int};
 
-/// The number that a value spells: one or more digits behind an optional `+`, at most
+/// The number that a value spells: one or more digits after an optional `+`, at most
 /// [`MAX_INT`], with white space at both ends skipped. None where it spells no number.
 pub fn number_of(value: &[u8]) -> Option<u32>
     ensures value { result ≡ number_in value.now }

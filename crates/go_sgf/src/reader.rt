@@ -43,7 +43,7 @@ fn add<T: Drop, K: Keep>(keep: K, list: &mut Few<T, K::Alloc>, item: T) -> Resul
     Ok(())
 }
 
-/// Reads the values from behind a name on, at least one, into a list, and gives what follows them.
+/// Reads the values after a name into a list, at least one, and gives the text after them.
 fn values<'a, K: Keep>(
     keep: K,
     list: &mut Few<&'a [u8], K::Alloc>,
@@ -114,7 +114,7 @@ fn add_property<'a, K: Keep>(
     Ok(())
 }
 
-/// Reads a node from behind its `;` on into a list, and gives what follows it.
+/// Reads a node, after its `;`, into a list, and gives the text after it.
 fn node<'a, K: Keep>(
     keep: K,
     list: &mut Few<Node<'a, K::Alloc>, K::Alloc>,
@@ -164,8 +164,8 @@ fn add_node<'a, K: Keep>(
     Ok(())
 }
 
-/// Reads the nodes of a tree from behind its `(` on, at least one, into a list, and gives what
-/// follows them.
+/// Reads the nodes of a tree, after its `(`, into a list, at least one, and gives the text after
+/// them.
 fn nodes<'a, K: Keep>(
     keep: K,
     list: &mut Few<Node<'a, K::Alloc>, K::Alloc>,
@@ -233,8 +233,8 @@ fn push<T: Drop, A: Allocator + Copy>(list: &mut Vec<T, A>, item: T) -> Result<(
     Ok(())
 }
 
-/// Reads a tree at this depth, from behind its `(` on, into a list of trees where there is one, and
-/// gives what follows its `)`.
+/// Reads a tree at this depth, after its `(`, into a list of trees where there is one, and gives the
+/// text after its `)`.
 pub(crate) fn tree<'a, K: Keep>(
     keep: K,
     trees: &mut Option<Vec<Tree<'a, K::Alloc>, K::Alloc>>,
@@ -310,9 +310,9 @@ fn trees<'a, K: Keep>(
     Ok(trees)
 }
 
-/// Reads a record. What stands before its first tree is skipped; the trees go on as long as `(`
-/// and `;` come next, white space aside, and what follows the last of them is skipped too. Names
-/// and values are parts of the source, which isn't copied.
+/// Reads a record. It skips the bytes before the first tree. A further tree begins where `(` and `;`
+/// come next, with white space between them or none. It skips what follows the last tree. Names and
+/// values are parts of the source, which isn't copied.
 ///
 /// # Errors
 ///

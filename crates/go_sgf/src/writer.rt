@@ -16,7 +16,7 @@ use go_board::{Pen, Sink, WriteFault};
 use std::alloc::Allocator;
 
 /// Writes a record in its canonical spelling: each tree and LF, names by their upper-case letters
-/// alone, values as they are, and no other byte. On a fault the device took a front of that text.
+/// alone, values as they are, and no other byte. On a fault the device took a prefix of that text.
 pub fn write<A: Allocator + Copy, W: Sink>(
     collection: &Collection<'_, A>,
     writer: &mut W,
@@ -31,7 +31,7 @@ pub fn write<A: Allocator + Copy, W: Sink>(
 
 /// Writes the canonical spelling of the record that a source spells: each tree and LF, names by
 /// their upper-case letters alone, values as they are, and no other byte. On a fault the device
-/// took a front of that text. It takes no memory.
+/// took a prefix of that text. It takes no memory.
 pub fn tidy<W: Sink>(source: &Checked<'_>, writer: &mut W) -> Result<(), WriteFault>
     ensures sent { OfRecord source.now (λ c.
         Sent result (W.taken writer.old) (W.taken writer.new) (canonical c)) }
@@ -55,8 +55,8 @@ fn put_trees<W: Sink>(source: &[u8], pen: &mut Pen<'_, W>)
     }
 }
 
-/// Writes a tree from behind its `(` on, and gives what follows its `)` and white space. What stands
-/// there just as it is written goes in one piece.
+/// Writes a tree, after its `(`, and gives the text after its `)` and white space. It writes what the
+/// canonical spelling has unchanged in one piece.
 fn put_tree<'a, W: Sink>(text: &'a [u8], pen: &mut Pen<'_, W>) -> &'a [u8]
     ensures written { Writes W.Sink pen.old pen.new (tidied_from Outside 1 text.now) }
     ensures rest { result.now ≡ without_space (behind_from Outside 1 text.now) }

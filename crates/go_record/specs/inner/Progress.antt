@@ -1,4 +1,4 @@
--- How far the walk along a main line is. It serves the contracts of private functions alone.
+-- How far a walk along a main line is, for the contracts of private functions.
 use Rattle.go_sgf.specs.MainLine.{IsLeft}
 use Rattle.go_sgf.specs.Record.{Property, Trees}
 use Rattle.std.specs.Prelude.{◌≡◌, ◌≢◌, codes, ◌-◌, ◌++◌, ◌∷◌, ℕ, ℤ, Bool, true, false, if◌then◌else◌, List, [], Option, Some, None, Result, Err, MatchResult}
@@ -19,24 +19,24 @@ use Rattle.go_record.specs.Games.{is_go_value, komi_in, lines_in, value_at_root,
 use Rattle.go_record.specs.MainLine.{Event, before_move, move_met}
 use Rattle.go_record.specs.Walks.{Outcome, Plays, SetsUp}
 
--- what is still looked at
+-- the later events that are visited
 abbrev pub seen : Left → List Event → List Event
 seen All events = events
 seen (Moves k) events = before_move k events
 seen Nothing events = []
 
--- nothing more is looked at
+-- no later event is visited
 abbrev pub is_nothing : Left → Bool
 is_nothing All = false
 is_nothing (Moves k) = false
 is_nothing Nothing = true
 
--- what comes of events before the first move, or behind one
+-- the outcome of events before the first move, or after one
 abbrev pub From : ℕ → ℤ → Colouring → Option Colour → Option GameValue → List Event → Outcome → Type 0
 From n komi g given None events outcome = SetsUp n komi g given events outcome
 From n komi g given (Some game) events outcome = Plays game.standing events outcome
 
--- where this game stands, all of these events come to the outcome
+-- from this game on, all of these events have the outcome
 abbrev pub GoesFrom : Walk → Option GameValue → List Event → Outcome → Type 0
 GoesFrom w game events outcome = From w.grid.lines w.komi w.grid.colours w.turn game events outcome
 
@@ -48,11 +48,11 @@ WalkedGame = Walk × GameValue
 abbrev pub playing : WalkedGame → Option GameValue
 playing at = if at.0.is_playing then Some at.1 else None
 
--- from here on these events come to the outcome
+-- from here on these events have the outcome
 abbrev pub Goes : WalkedGame → List Event → Outcome → Type 0
 Goes at events outcome = GoesFrom at.0 (playing at) (seen at.0.left events) outcome
 
--- Between the two the walk passed these events.
+-- Between the two states the walk visited these events.
 pub record Passes (old : WalkedGame) (events : List Event) (new : WalkedGame) : Type 0 where
   pub passed : (later : List Event) (outcome : Outcome) → Goes new later outcome → Goes old (events ++ later) outcome
 
@@ -63,13 +63,13 @@ pub record Stops (old : WalkedGame) (events : List Event) (error : RecordError) 
 abbrev pub Walked : {T : Type 0} → Result T RecordError → WalkedGame → List Event → WalkedGame → Type 0
 Walked result old events new = MatchResult result (λ _. Passes old events new) (Stops old events)
 
--- a record is of a game of Go on so many lines with this komi
+-- a record is of a game of Go on this many lines with this komi
 pub record Says (c : Trees) (n : ℕ) (komi : ℤ) : Type 0 where
   pub go : is_go_value (value_at_root (codes "GM") c) ≡ true
   pub size : lines_in (value_at_root (codes "SZ") c) ≡ Some n
   pub komi_said : komi_in (value_at_root (codes "KM") c) ≡ Some komi
 
--- what a walk looks at that ends before the move of a number
+-- the events that are visited by a walk that ends before the move of a number
 abbrev pub left_by : Option ℕ → Left
 left_by None = All
 left_by (Some n) = Moves (n - 1)
@@ -90,14 +90,14 @@ abbrev pub value_from : List ℕ → Option (Bor (List ℕ)) → List Property �
 value_from name None left = value_named name left
 value_from name (Some value) left = value.now
 
--- what was found of the values at the root of a record, of whose first node these properties are left
+-- the values at the root of a record that were found so far, with these properties of the first node left
 pub record AreFoundOf (found : Found) (left : List Property) (c : Trees) : Type 0 where
   pub game : value_from (codes "GM") found.game left ≡ value_at_root (codes "GM") c
   pub size : value_from (codes "SZ") found.size left ≡ value_at_root (codes "SZ") c
   pub komi : value_from (codes "KM") found.komi left ≡ value_at_root (codes "KM") c
   pub result_said : value_from (codes "RE") found.result left ≡ value_at_root (codes "RE") c
 
--- the moves that were met are these; where there are more than one, nothing is said of them
+-- the moves that were met are these; if there are more than one, it says nothing of them
 abbrev pub AreMoves : ℕ → MovesMet → List Event → Type 0
 AreMoves node NoMove events = events ≡ []
 AreMoves node (OneMove colour value) events = events ≡ move_met node colour value.now ∷ []

@@ -1,4 +1,4 @@
--- The pieces of a record's text. They serve the contracts of private functions alone.
+-- The pieces of a record's text, for the contracts of private functions.
 use Rattle.std.specs.Prelude.{ℕ, List, [], ◌∷◌, ◌++◌, Some, codes, decimal, filter, option_to_list, slice_get}
 use Rattle.std.specs.List.{flat_map, range_with_len}
 use Rattle.go_board.specs.declared.colour.Colour.{Colour}
@@ -26,7 +26,7 @@ point_text n k = 91 ∷ (point_value n (point_at n k) ++ codes "]")
 abbrev pub coloured_within : Colouring → Colour → ℕ → List ℕ
 coloured_within g c count = filter (λ k. has_colour g k (Some c)) (range_with_len 0 count)
 
--- stones behind the name of their property, which isn't there where there is none
+-- stones after the name of their property, or nothing where there are none
 abbrev pub named_stones : List ℕ → ℕ → List ℕ → List ℕ
 named_stones name n [] = []
 named_stones name n (k ∷ ks) = name ++ flat_map (point_text n) (k ∷ ks)

@@ -38,5 +38,6 @@ made_back (tree nodes children later) more done =
 
 abbrev pub trees_code : Coded Trees
 trees_code =
-    code_by (List Step) (coded_list (coded_option (coded_list (coded_list property_code)))) steps (λ xs. last_made (made xs []))
+    code_by (List Step) (coded_list (coded_option (coded_list (coded_list property_code)))) steps
+    (λ xs. last_made (made xs []))
     (λ t. ap (λ xs. last_made (made xs [])) (sym (append-nil (steps t))) ∙ ap last_made (made_back t [] []))

@@ -23,7 +23,7 @@ pub record ReadsNodes (b : List ℕ) (ns : List (List Property)) (rest : List �
   pub fit : AllByRecursion (AllByRecursion IsProperty) ns
   pub spelling : SpellsParts b (flat_map node_parts ns) rest
 
--- a tree at this depth, from behind its `(` to behind its `)`
+-- a tree at this depth, from after its `(` to after its `)`
 pub record ReadsTree (d : ℕ) (b : List ℕ) (t : TreeValue) (rest : List ℕ) : Type 0 where
   pub some : t.0 ≢ []
   pub nodes : AllByRecursion (AllByRecursion IsProperty) t.0
@@ -40,7 +40,7 @@ pub record ReadsToEnd (d : ℕ) (b : List ℕ) (t : TreeValue) (behind : List �
 abbrev pub is_ordinary : ℕ → Bool
 is_ordinary c = not (c == 93 || c == 92)
 
--- a `]` stands at this place
+-- a `]` is at this place
 abbrev pub IsBracketAt : List ℕ → ℕ → Type 0
 IsBracketAt b place = (place < length b) × (slice_index b place ≡ 93)
 

@@ -11,19 +11,19 @@ abbrev pub is_left_out_first : List ℕ → Bool
 is_left_out_first [] = false
 is_left_out_first (c ∷ cs) = is_left_out_byte c
 
--- where a byte stands: outside of values, inside of one, or inside of one behind the `\` that escapes it
+-- where a byte is: outside of values, inside of one, or inside of one after the `\` that escapes it
 pub data Spot : Type 0 where
   Outside : Spot
   Inside : Spot
   Escaped : Spot
 
--- where the next byte stands
+-- where the next byte is
 abbrev pub spot_after : Spot → ℕ → Spot
 spot_after Outside c = if c == 91 then Inside else Outside
 spot_after Inside c = if c == 93 then Outside else (if c == 92 then Escaped else Inside)
 spot_after Escaped c = Inside
 
--- how many trees are open behind a byte
+-- how many trees are open after a byte
 abbrev pub open_after : Spot → ℕ → ℕ → ℕ
 open_after Outside d c = if c == 40 then suc d else (if c == 41 then d - 1 else d)
 open_after _ d c = d
@@ -33,7 +33,7 @@ abbrev pub written : Spot → ℕ → List ℕ
 written Outside c = if is_left_out_byte c then [] else c ∷ []
 written _ c = c ∷ []
 
--- with so many trees open, what is written until all of them are closed
+-- what is written from here until all open trees are closed, of which this is the number
 unfoldable pub tidied_from : Spot → ℕ → List ℕ → List ℕ
 tidied_from spot d [] = []
 tidied_from spot zero (c ∷ cs) = []
@@ -45,7 +45,7 @@ behind_from spot d [] = []
 behind_from spot zero (c ∷ cs) = c ∷ cs
 behind_from spot (suc d) (c ∷ cs) = behind_from (spot_after spot c) (open_after spot (suc d) c) cs
 
--- From a text on, where so many trees are open, up to a later one and those open there, outside of values, all is written as it stands.
+-- From a text with this number of open trees up to a later one outside of values, with the number there, all bytes are written.
 pub record StaysTo (spot : Spot) (d : ℕ) (b : List ℕ) (e : ℕ) (rest : List ℕ) : Type 0 where
   pub front : List ℕ
   pub whole : b ≡ front ++ rest

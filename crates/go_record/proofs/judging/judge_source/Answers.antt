@@ -12,7 +12,8 @@ returns-clause-ok g c =
     let of = c.root_values-values.ensures in
     let t = of.0 in
     let root = of.2 in
-    let is : c.in_ok-stated.stated ≡ margin_by t = c.in_ok-stated.ensures ∙ ap (λ v. margin_spelled (trimmed (cooked_simple v))) root.result_said in (
+    let is : c.in_ok-stated.stated ≡ margin_by t = c.in_ok-stated.ensures
+    ∙ ap (λ v. margin_spelled (trimmed (cooked_simple v))) root.result_said in (
       t,
       of.1,
       record {
@@ -20,6 +21,7 @@ returns-clause-ok g c =
         game = c.in_ok-walk_on.ensures.ok t of.1 (c.in_ok-root.ensures.ok t root);
         moves = search rules;
         margin = search rules;
-        stated = subst (λ (o : Option ℤ). IsStated o (margin_of c.walk_on.new.game.standing) c.compared.result) is (search rules);
+        stated = subst (λ (o : Option ℤ). IsStated o (margin_of c.walk_on.new.game.standing) c.compared.result) is
+            (search rules);
       },
     )

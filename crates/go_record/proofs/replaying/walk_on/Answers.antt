@@ -7,27 +7,33 @@ use Rattle.go_record.proofs.Lines.{game_walked}
 use Rattle.go_record.proofs.Walking.{if_err, on_ok}
 use Rattle.go_record.proofs.replaying.walk_on.Goals as goal
 
-pub returns-in_err-pass_line-clause-err : goal.returns-in_err-pass_line-clause-err
-returns-in_err-pass_line-clause-err g c =
+pub returns-in_err-visit_line-clause-err : goal.returns-in_err-visit_line-clause-err
+returns-in_err-visit_line-clause-err g c =
     let komi = c.args.root.now.komi in
     let back : to_z w64 (of_z w64 komi) ≡ komi = omega (arith, ints, c.args.root.now.in_range) in
     let p = err_from_is_err_and c.from_residual.result c.from_residual.ensures.1 in
-    λ t s says. rw (p.1, p.2) (λ some. game_walked t c.args.number c.args.root.now.size c.new.result.lines komi (to_z w64 (of_z w64 komi))
-    c.new.result.colours c.left_of.result (Err c.in_err-pass_line.field-0.0) says c.new.ensures.lines back c.new.ensures.colours c.left_of.ensures
-    ((c.in_err-pass_line.ensures t s).stopped some _))
+    λ t s says. rw (p.1, p.2) (λ some.
+    game_walked t c.args.number c.args.root.now.size c.new.result.lines komi (to_z w64 (of_z w64 komi))
+    c.new.result.colours c.left_of.result (Err c.in_err-visit_line.field-0.0) says c.new.ensures.lines back
+    c.new.ensures.colours c.left_of.ensures
+    ((c.in_err-visit_line.ensures t s).stopped some _))
 
 pub returns-clause-ok : goal.returns-clause-ok
 returns-clause-ok g c =
     let komi = c.args.root.now.komi in
     let back : to_z w64 (of_z w64 komi) ≡ komi = omega (arith, ints, c.args.root.now.in_range) in
-    λ t s says. on_ok c.finish.result (λ goes. game_walked t c.args.number c.args.root.now.size c.new.result.lines komi (to_z w64 (of_z w64 komi))
-    c.new.result.colours c.left_of.result (Ok c.finish.new.game.standing) says c.new.ensures.lines back c.new.ensures.colours c.left_of.ensures
-    ((c.in_ok-pass_line.ensures t s).passed _ (Ok c.finish.new.game.standing) goes)) c.finish.ensures.ok
+    λ t s says. on_ok c.finish.result
+    (λ goes. game_walked t c.args.number c.args.root.now.size c.new.result.lines komi (to_z w64 (of_z w64 komi))
+    c.new.result.colours c.left_of.result (Ok c.finish.new.game.standing) says c.new.ensures.lines back
+    c.new.ensures.colours c.left_of.ensures
+    ((c.in_ok-visit_line.ensures t s).passed _ (Ok c.finish.new.game.standing) goes)) c.finish.ensures.ok
 
 pub returns-clause-err : goal.returns-clause-err
 returns-clause-err g c =
     let komi = c.args.root.now.komi in
     let back : to_z w64 (of_z w64 komi) ≡ komi = omega (arith, ints, c.args.root.now.in_range) in
-    λ t s says. if_err c.finish.result (λ e goes some. game_walked t c.args.number c.args.root.now.size c.new.result.lines komi (to_z w64 (of_z w64 komi))
+    λ t s says. if_err c.finish.result
+    (λ e goes some. game_walked t c.args.number c.args.root.now.size c.new.result.lines komi
+    (to_z w64 (of_z w64 komi))
     c.new.result.colours c.left_of.result (Err e) says c.new.ensures.lines back c.new.ensures.colours c.left_of.ensures
-    ((c.in_ok-pass_line.ensures t s).passed _ (Err e) (goes some))) c.finish.ensures.err
+    ((c.in_ok-visit_line.ensures t s).passed _ (Err e) (goes some))) c.finish.ensures.err

@@ -5,7 +5,8 @@ use Rattle.go_record.specs.inner.Progress.{AreFoundOf, IsAmongValues}
 use Rattle.go_record.proofs.root.root_values.Given as goal
 
 abbrev pub invariant-loop-name : goal.invariant-loop-name
-invariant-loop-name l = OfRecord l.source (λ t. (left : List Property) × (nodes : List (List Property)) × IsAmongValues l.line left nodes
+invariant-loop-name l = OfRecord l.source
+    (λ t. (left : List Property) × (nodes : List (List Property)) × IsAmongValues l.line left nodes
     × AreFoundOf l.found left t)
 
 abbrev pub decreases-loop-name : goal.decreases-loop-name

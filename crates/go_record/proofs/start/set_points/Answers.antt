@@ -9,7 +9,11 @@ pub loop-value-init : goal.loop-value-init
 loop-value-init c = record {
   lines = refl;
   onward = omega arith;
-  set = λ values later nodes l. (values, l, set_first c.args.grid.now.lines c.args.colour c.args.grid.now.colours values);
+  set = λ values later nodes l. (
+    values,
+    l,
+    set_first c.args.grid.now.lines c.args.colour c.args.grid.now.colours values,
+  );
 }
 
 pub loop-value-preserved : goal.loop-value-preserved
@@ -24,13 +28,16 @@ loop-value-preserved c =
           let next = c.in-Some.ensures.next i.0 later nodes i.1 in
           let value = c.in-Some.value.now in
           let before : SetSoFar n colour c.args.grid.now.colours values (value ∷ next.0) c.loop-value.grid.colours =
-          subst (λ (vs : List (List ℕ)). SetSoFar n colour c.args.grid.now.colours values vs c.loop-value.grid.colours) next.1 i.2 in
+          subst (λ (vs : List (List ℕ)). SetSoFar n colour c.args.grid.now.colours values vs c.loop-value.grid.colours)
+          next.1 i.2 in
           let is : Some ps ≡ points_listed n value =
           c.in_ok-points_in.ensures.value ∙ ap (λ (m : ℕ). points_listed m value) c.size-size.ensures.lines in (
             next.0,
             next.2,
-            set_more n colour c.args.grid.now.colours values value next.0 c.loop-value.grid.colours c.set_rows.new.grid.colours ps before is
-                (c.set_rows.ensures.colours ∙ ap (λ (m : ℕ). with_points m colour c.loop-value.grid.colours ps) c.loop-value.invariant.lines),
+            set_more n colour c.args.grid.now.colours values value next.0 c.loop-value.grid.colours
+                c.set_rows.new.grid.colours ps before is
+                (c.set_rows.ensures.colours ∙ ap (λ (m : ℕ). with_points m colour c.loop-value.grid.colours ps)
+                c.loop-value.invariant.lines),
           );
     }
 
@@ -55,7 +62,8 @@ returns-in_err-points_in-clause-bad c = rw c.from_residual.ensures (λ values la
     let next = c.in-Some.ensures.next i.0 later nodes i.1 in
     let value = c.in-Some.value.now in
     let before : SetSoFar n c.args.colour c.args.grid.now.colours values (value ∷ next.0) c.loop-value.grid.colours =
-    subst (λ (vs : List (List ℕ)). SetSoFar n c.args.colour c.args.grid.now.colours values vs c.loop-value.grid.colours) next.1 i.2 in
+    subst (λ (vs : List (List ℕ)). SetSoFar n c.args.colour c.args.grid.now.colours values vs c.loop-value.grid.colours)
+    next.1 i.2 in
     set_bad n c.args.colour c.args.grid.now.colours values value next.0 c.loop-value.grid.colours before
     (sym (c.in_err-points_in.ensures.value ∙ ap (λ (m : ℕ). points_listed m value) c.size-size.ensures.lines)))
 

@@ -8,8 +8,10 @@ abbrev pub invariant-loop-value : goal.invariant-loop-value
 invariant-loop-value l = record {
   lines : l.grid.lines ≡ l.fn.grid.lines;
   onward : length l.line ≤ length l.fn.line;
-  set : (values : List (List ℕ)) (later : List Property) (nodes : List (List Property)) → IsLeft l.fn.line values later nodes →
-      (left : List (List ℕ)) × IsLeft l.line left later nodes × SetSoFar l.fn.grid.lines l.colour l.fn.grid.colours values left l.grid.colours;
+  set : (values : List (List ℕ)) (later : List Property) (nodes : List (List Property)) →
+      IsLeft l.fn.line values later nodes →
+      (left : List (List ℕ)) × IsLeft l.line left later nodes
+      × SetSoFar l.fn.grid.lines l.colour l.fn.grid.colours values left l.grid.colours;
 }
 
 abbrev pub decreases-loop-value : goal.decreases-loop-value

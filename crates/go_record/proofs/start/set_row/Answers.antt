@@ -17,7 +17,9 @@ loop-point-preserved c =
       lines = c.set.ensures.lines ∙ c.loop-point.invariant.lines;
       on = All-rest (IsOn n) point rest c.loop-point.point-iterator c.in-Some.ensures.steps c.loop-point.invariant.on;
       colours =
-          ap (λ (g : Colouring). with_points n colour g rest) (c.set.ensures.colours ∙ ap (λ (m : ℕ). slice_set now (number_of m point) colour) c.loop-point.invariant.lines)
+          ap (λ (g : Colouring). with_points n colour g rest)
+          (c.set.ensures.colours ∙ ap (λ (m : ℕ). slice_set now (number_of m point) colour)
+          c.loop-point.invariant.lines)
           ∙ ap (with_points n colour now) (sym c.in-Some.ensures.steps)
           ∙ c.loop-point.invariant.colours;
     }

@@ -16,7 +16,8 @@ set_row-requires c =
     let low : at < c.args.rectangle.rows = omega (arith, c.loop-number-test.true, c.rows-number-end.ensures) in
     let same : c.row.result ≡ row (0 + at) = c.row.ensures ∙ ap row (let e : at ≡ 0 + at = omega arith in e) in
     subst (λ (m : ℕ). All (IsOn m) c.row.result) (sym c.loop-number.invariant.lines)
-    (All-same (IsOn n) c.row.result (row (0 + at)) same (all_in_row (IsOn n) row 0 c.args.rectangle.rows at low c.requires))
+    (All-same (IsOn n) c.row.result (row (0 + at)) same
+    (all_in_row (IsOn n) row 0 c.args.rectangle.rows at low c.requires))
 
 pub loop-number-preserved : goal.loop-number-preserved
 loop-number-preserved c =

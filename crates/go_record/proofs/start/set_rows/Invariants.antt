@@ -8,5 +8,6 @@ abbrev pub invariant-loop-number : goal.invariant-loop-number
 invariant-loop-number l = record {
   lines : l.grid.lines ≡ l.initial.grid.lines;
   colours : l.grid.colours
-      ≡ with_points l.initial.grid.lines l.colour l.initial.grid.colours (flat_map (points_of_row l.rectangle) (range_with_len 0 l.number));
+      ≡ with_points l.initial.grid.lines l.colour l.initial.grid.colours
+      (flat_map (points_of_row l.rectangle) (range_with_len 0 l.number));
 }

@@ -9,10 +9,12 @@ returns-in-Some-clause-value c = λ values later nodes l.
     value_leads c.in-Some.value.now values next.0 next.1
 
 pub returns-in-Some-clause-line : goal.returns-in-Some-clause-line
-returns-in-Some-clause-line c = λ later nodes at. let next = c.in-Some.ensures.next at.0 later nodes at.1 in (next.0, next.2)
+returns-in-Some-clause-line c = λ later nodes at. let next = c.in-Some.ensures.next at.0 later nodes at.1 in
+    (next.0, next.2)
 
 pub returns-in-None-clause-value : goal.returns-in-None-clause-value
-returns-in-None-clause-value c = λ values later nodes l. sym (ap leading_value (c.in-None.ensures.next values later nodes l).0)
+returns-in-None-clause-value c = λ values later nodes l.
+    sym (ap leading_value (c.in-None.ensures.next values later nodes l).0)
 
 pub returns-in-None-clause-line : goal.returns-in-None-clause-line
 returns-in-None-clause-line c = λ later nodes at. ([], (c.in-None.ensures.next at.0 later nodes at.1).1)

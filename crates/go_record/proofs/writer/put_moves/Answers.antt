@@ -6,4 +6,5 @@ use Rattle.go_record.proofs.writer.put_moves.Goals as goal
 pub loop-number-preserved : goal.loop-number-preserved
 loop-number-preserved g c =
     let s = c.args.game.now.standing in
-    writes_then _ c.loop-number.invariant c.put_numbered.ensures (taken_more (move_text s.lines) s.moves c.loop-number.number)
+    writes_then _ c.loop-number.invariant c.put_numbered.ensures
+    (taken_more (move_text s.lines) s.moves c.loop-number.number)

@@ -6,5 +6,6 @@ use Rattle.go_record.proofs.writer.put_record.Goals as goal
 pub returns : goal.returns
 returns g c =
     writes_then (record_body c.args.game.now.standing)
-    c.put_setting.ensures (writes_writes c.put_turn.ensures (writes_writes c.put_stones.ensures (writes_writes c.put_stones-2.ensures
+    c.put_setting.ensures (writes_writes c.put_turn.ensures
+    (writes_writes c.put_stones.ensures (writes_writes c.put_stones-2.ensures
     (writes_writes c.put_moves.ensures c.put.ensures)))) (record_text-is c.args.game.now.standing)

@@ -11,7 +11,9 @@ loop-number-preserved g c =
     let is = rw c.size-size.ensures.lines at c.numbered.ensures.value in
     record {
       written =
-          writes_then _ c.loop-number.invariant.written (rw (back, is, c.loop-number.invariant.front) at c.put_if_coloured-front.ensures.stone)
+          writes_then _ c.loop-number.invariant.written
+          (rw (back, is, c.loop-number.invariant.prefix) at c.put_if_coloured-prefix.ensures.stone)
           (stones_more c.args.name.now s.lines s.start c.args.colour k);
-      front = rw (back, c.loop-number.invariant.front) at c.put_if_coloured-front.ensures.next ∙ front_more c.args.name.now s.start c.args.colour k;
+      prefix = rw (back, c.loop-number.invariant.prefix) at c.put_if_coloured-prefix.ensures.next
+          ∙ front_more c.args.name.now s.start c.args.colour k;
     }

@@ -16,5 +16,6 @@ pub returns-clause-begins : goal.returns-clause-begins
 returns-clause-begins c =
     let source = c.args.source.now in
     begins_here source c.split_at.result.1.now c.from_tree-found.result.now c.args.from
-    (c.split_at.ensures.back ∙ ap (λ n. drop n source) c.min.ensures ∙ drop_min c.args.from source) c.from_tree-found.ensures
+    (c.split_at.ensures.back ∙ ap (λ n. drop n source) c.min.ensures ∙ drop_min c.args.from source)
+    c.from_tree-found.ensures
     (eqb-false (length c.from_tree-found.result.now) 0 (sym c.if-is_empty.ensures))

@@ -12,8 +12,10 @@ none_spelled : (c : Trees) (rest : List ℕ) → SpellsParts [] (parts c) rest �
 none_spelled none rest s = refl
 none_spelled (tree nodes children later) rest s = let e = s.1 in cc
 
-not_refused : (b : List ℕ) (c : Trees) (why : SgfError) → Spells b c → IsRefusal b why → length b ≤ MAX_RECORD → why ≡ Memory
-not_refused b c NoTree s r short = absurd (s.fit.some (none_spelled c s.rest (subst (λ (x : List ℕ). SpellsParts x (parts c) s.rest) r s.spelling)))
+not_refused : (b : List ℕ) (c : Trees) (why : SgfError) → Spells b c → IsRefusal b why → length b ≤ MAX_RECORD →
+    why ≡ Memory
+not_refused b c NoTree s r short =
+    absurd (s.fit.some (none_spelled c s.rest (subst (λ (x : List ℕ). SpellsParts x (parts c) s.rest) r s.spelling)))
 not_refused b c (EndInside place) s r short = absurd (r.1.spells_none c s)
 not_refused b c (Unexpected place) s r short = absurd (r.spells_none c s)
 not_refused b c (TooDeep place) s r short = absurd (r.spells_none c s)

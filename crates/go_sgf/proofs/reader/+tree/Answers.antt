@@ -16,9 +16,11 @@ use Rattle.go_sgf.proofs.reader.+tree.Goals as goal
 
 pub returns-then-depth-eq-MAX_DEPTH-clause-place : goal.returns-then-depth-eq-MAX_DEPTH-clause-place
 returns-then-depth-eq-MAX_DEPTH-clause-place g t c =
-    let P : ℕ → Type 0 = λ k. outcome MAX_DEPTH closed k c.loop-inside.rest.now ≡ Err (TooDeep (length c.loop-inside.rest.now)) in
+    let P : ℕ → Type 0 = λ k. outcome MAX_DEPTH closed k c.loop-inside.rest.now ≡ Err
+    (TooDeep (length c.loop-inside.rest.now)) in
     c.loop-inside.invariant.5.place
-    ∙ subst P (sym c.if-depth-eq-MAX_DEPTH.true) (too_deep MAX_DEPTH c.loop-inside.rest.now c.in-Some.inside.now c.in-Some.ensures.stripped)
+    ∙ subst P (sym c.if-depth-eq-MAX_DEPTH.true)
+    (too_deep MAX_DEPTH c.loop-inside.rest.now c.in-Some.inside.now c.in-Some.ensures.stripped)
 
 pub returns-in_err-behind-clause-place : goal.returns-in_err-behind-clause-place
 returns-in_err-behind-clause-place g t c =
@@ -27,7 +29,8 @@ returns-in_err-behind-clause-place g t c =
     rw (p.1, p.2)
     (passes _ _ _ _ _
     (c.loop-inside.invariant.5.place
-    ∙ into_child MAX_DEPTH c.args.depth c.requires.depth less c.loop-inside.rest.now c.in-Some.inside.now c.in-Some.ensures.stripped)
+    ∙ into_child MAX_DEPTH c.args.depth c.requires.depth less c.loop-inside.rest.now c.in-Some.inside.now
+    c.in-Some.ensures.stripped)
     c.in_err-behind.ensures.place)
 
 pub loop-inside-init : goal.loop-inside-init
@@ -38,7 +41,8 @@ loop-inside-init g t c =
       λ keeps. c.own.view_is ∙ read.1 keeps ∙ ap (λ us. us ++ read.0) c.new-own.ensures,
       c.no_trees-children.ensures.kept,
       kept_where c.no_trees-children.result c.no_trees-children.ensures.some,
-      tree_first c.args.depth c.requires.depth c.args.bytes.now read.0 c.in_ok-rest.rest.now read.2 (c.in_ok-rest.ensures.place c.args.depth c.requires.depth),
+      tree_first c.args.depth c.requires.depth c.args.bytes.now read.0 c.in_ok-rest.rest.now read.2
+          (c.in_ok-rest.ensures.place c.args.depth c.requires.depth),
       c.in_ok-rest.rest.now,
       read.2,
     )
@@ -47,7 +51,8 @@ pub loop-inside-smaller : goal.loop-inside-smaller
 loop-inside-smaller g t c =
     let read = c.in_ok-behind.ensures.read in
     rw c.after_space-rest.ensures
-    (shorter 40 c.loop-inside.rest.now c.in-Some.inside.now (without_space c.in_ok-behind.behind.now) c.in-Some.ensures.stripped
+    (shorter 40 c.loop-inside.rest.now c.in-Some.inside.now (without_space c.in_ok-behind.behind.now)
+    c.in-Some.ensures.stripped
     (tree_le _ c.in-Some.inside.now read.0 (without_space c.in_ok-behind.behind.now) read.2.tree))
 
 pub loop-inside-preserved : goal.loop-inside-preserved
@@ -61,8 +66,10 @@ loop-inside-preserved g t c =
       λ keeps. read.1 keeps ∙ ap (option_map (λ us. us ++ read.0 ∷ [])) (i.3 keeps),
       λ kept. i.4 (sym c.in_ok-behind.ensures.kept ∙ kept),
       rw c.after_space-rest.ensures
-          (tree_more c.args.depth c.requires.depth less c.args.bytes.now i.0 i.1 (i.1 ++ read.0 ∷ []) c.loop-inside.rest.now
-          c.in-Some.inside.now read.0 (without_space c.in_ok-behind.behind.now) i.5 refl c.in-Some.ensures.stripped read.2.tree
+          (tree_more c.args.depth c.requires.depth less c.args.bytes.now i.0 i.1 (i.1 ++ read.0 ∷ [])
+          c.loop-inside.rest.now
+          c.in-Some.inside.now read.0 (without_space c.in_ok-behind.behind.now) i.5 refl c.in-Some.ensures.stripped
+          read.2.tree
           c.in_ok-behind.ensures.place),
       i.6,
       i.7,
@@ -78,20 +85,24 @@ returns-clause-read g t c =
     let i = c.loop-inside.invariant in (
       (i.0, chain i.1),
       λ keeps.
-          added_is (trees_in c.args.trees.now) (trees_in c.add_tree.new.trees) c.loop-inside.children (λ list. map tree_of list.items) i.1 c.nodes.new.list i.0
+          added_is (trees_in c.args.trees.now) (trees_in c.add_tree.new.trees) c.loop-inside.children
+          (λ list. map tree_of list.items) i.1 c.nodes.new.list i.0
           c.in_ok-add_tree.ensures.added (sym c.own.view_is ∙ i.2 keeps) (i.3 keeps),
-      tree_whole c.args.depth c.args.bytes.now i.0 i.1 i.6 c.loop-inside.rest.now c.in-Some-strip.behind.now i.7 i.5 c.in-Some-strip.ensures.stripped,
+      tree_whole c.args.depth c.args.bytes.now i.0 i.1 i.6 c.loop-inside.rest.now c.in-Some-strip.behind.now i.7 i.5
+          c.in-Some-strip.ensures.stripped,
     )
 
 pub returns-clause-place : goal.returns-clause-place
 returns-clause-place g t c =
     c.loop-inside.invariant.5.place
-    ∙ closes MAX_DEPTH c.args.depth c.requires.depth c.loop-inside.rest.now c.in-Some-strip.behind.now c.in-Some-strip.ensures.stripped
+    ∙ closes MAX_DEPTH c.args.depth c.requires.depth c.loop-inside.rest.now c.in-Some-strip.behind.now
+    c.in-Some-strip.ensures.stripped
 
 pub returns-in_default-strip-clause-place : goal.returns-in_default-strip-clause-place
 returns-in_default-strip-clause-place g t c = refuses _ _ _
     (c.loop-inside.invariant.5.place
     ∙ close_stops MAX_DEPTH c.args.depth
     (flat_map node_parts c.loop-inside.invariant.0 ++ parts (chain c.loop-inside.invariant.1))
-    c.args.bytes.now c.loop-inside.rest.now c.loop-inside.invariant.5.spelling c.in_default.ensures.other c.in_default-strip.ensures.other
+    c.args.bytes.now c.loop-inside.rest.now c.loop-inside.invariant.5.spelling c.in_default.ensures.other
+    c.in_default-strip.ensures.other
     ∙ ap Err (sym c.unexpected.ensures))

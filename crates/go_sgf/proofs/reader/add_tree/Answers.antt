@@ -6,6 +6,8 @@ use Rattle.go_sgf.proofs.reader.add_tree.Goals as goal
 
 pub returns-in_ok-push-clause-added : goal.returns-in_ok-push-clause-added
 returns-in_ok-push-clause-added g c =
-    let more : map tree_of c.push.new.list.items ≡ map tree_of c.in-Some.list.items ++ (c.new-nodes.result, trees_of c.in-Some-children.children.items) ∷ [] =
-    ap (map tree_of) c.in_ok-push.ensures ∙ map-append tree_of c.in-Some.list.items _ ∙ ap (λ t. map tree_of c.in-Some.list.items ++ t ∷ []) (tree_of-roll _) in
+    let more : map tree_of c.push.new.list.items ≡ map tree_of c.in-Some.list.items
+    ++ (c.new-nodes.result, trees_of c.in-Some-children.children.items) ∷ [] =
+    ap (map tree_of) c.in_ok-push.ensures ∙ map-append tree_of c.in-Some.list.items _
+    ∙ ap (λ t. map tree_of c.in-Some.list.items ++ t ∷ []) (tree_of-roll _) in
     search (rules, more)

@@ -32,7 +32,8 @@ pub loop-inside-smaller : goal.loop-inside-smaller
 loop-inside-smaller g c =
     let read = c.in-Ok.ensures.read in
     rw c.after_space-rest.ensures
-    (shorter 40 c.loop-inside.rest.now c.in-Some.inside.now (without_space c.in-Ok.behind.now) c.in-Some.ensures.stripped
+    (shorter 40 c.loop-inside.rest.now c.in-Some.inside.now (without_space c.in-Ok.behind.now)
+    c.in-Some.ensures.stripped
     (tree_le 1 c.in-Some.inside.now read.0 (without_space c.in-Ok.behind.now) read.2.tree))
 
 pub loop-inside-preserved : goal.loop-inside-preserved
@@ -43,7 +44,8 @@ loop-inside-preserved g c =
       λ keeps. read.1 keeps ∙ ap (option_map (λ us. us ++ read.0 ∷ [])) (c.loop-inside.invariant.1 keeps),
       λ kept. c.loop-inside.invariant.2 (sym c.in-Ok.ensures.kept ∙ kept),
       rw c.after_space-rest.ensures
-          (trees_more c.args.source.now ts (ts ++ read.0 ∷ []) c.loop-inside.rest.now c.in-Some.inside.now read.0 (without_space c.in-Ok.behind.now)
+          (trees_more c.args.source.now ts (ts ++ read.0 ∷ []) c.loop-inside.rest.now c.in-Some.inside.now read.0
+          (without_space c.in-Ok.behind.now)
           c.loop-inside.invariant.3 refl c.in-Some.ensures.stripped read.2.tree),
     )
 
@@ -51,8 +53,10 @@ pub returns-clause-read : goal.returns-clause-read
 returns-clause-read g c = (
   c.loop-inside.invariant.0,
   c.loop-inside.invariant.1,
-  trees_whole c.args.source.now c.loop-inside.invariant.0 c.loop-inside.rest.now c.loop-inside.invariant.3 c.in_default.ensures.other,
+  trees_whole c.args.source.now c.loop-inside.invariant.0 c.loop-inside.rest.now c.loop-inside.invariant.3
+      c.in_default.ensures.other,
 )
 
 pub returns-then-is_empty-clause-refused : goal.returns-then-is_empty-clause-refused
-returns-then-is_empty-clause-refused g c = sym c.from_tree-rest.ensures ∙ nil_from_length _ (eqb-true _ 0 (sym c.if-is_empty.ensures))
+returns-then-is_empty-clause-refused g c = sym c.from_tree-rest.ensures
+    ∙ nil_from_length _ (eqb-true _ 0 (sym c.if-is_empty.ensures))

@@ -12,12 +12,18 @@ returns-then-not-begins_with-clause-place g c = λ d h. refuses _ _ _
     (sym c.if-not-begins_with.ensures) ∙ ap Err (sym c.unexpected.ensures))
 
 pub loop-inside-init : goal.loop-inside-init
-loop-inside-init g c = ([], λ _. sym (append-nil _), values_first c.args.bytes.now c.after_space-rest.result.now c.requires c.after_space-rest.ensures (sym c.if-not-begins_with.ensures))
+loop-inside-init g c = (
+  [],
+  λ _. sym (append-nil _),
+  values_first c.args.bytes.now c.after_space-rest.result.now c.requires c.after_space-rest.ensures
+      (sym c.if-not-begins_with.ensures),
+)
 
 pub returns-in_default-value-clause-place : goal.returns-in_default-value-clause-place
 returns-in_default-value-clause-place g c = λ d h.
     c.loop-inside.invariant.2.place d h
-    ∙ value_endless MAX_DEPTH d h c.loop-inside.rest.now c.in-Some.inside.now c.in-Some.ensures.stripped (c.in_default-value.ensures.none d h)
+    ∙ value_endless MAX_DEPTH d h c.loop-inside.rest.now c.in-Some.inside.now c.in-Some.ensures.stripped
+    (c.in_default-value.ensures.none d h)
 
 pub loop-inside-smaller : goal.loop-inside-smaller
 loop-inside-smaller g c =
@@ -31,13 +37,17 @@ loop-inside-preserved g c =
     let one = c.in-Some-value.one.now in (
       vs ++ one ∷ [],
       λ keeps.
-          map-push (λ (v : Bor (List ℕ)). v.now) c.loop-inside.list c.add.new.list c.in-Some-value.one (c.in_ok-add.ensures.added keeps)
-          ∙ ap (λ us. us ++ one ∷ []) (c.loop-inside.invariant.1 keeps) ∙ append_assoc (values_of c.args.list.now) vs (one ∷ []),
+          map-push (λ (v : Bor (List ℕ)). v.now) c.loop-inside.list c.add.new.list c.in-Some-value.one
+          (c.in_ok-add.ensures.added keeps)
+          ∙ ap (λ us. us ++ one ∷ []) (c.loop-inside.invariant.1 keeps)
+          ∙ append_assoc (values_of c.args.list.now) vs (one ∷ []),
       rw c.after_space-rest-in-Some.ensures
-          (values_more c.args.bytes.now vs (vs ++ one ∷ []) c.loop-inside.rest.now one c.in-Some.inside.now c.in-Some-value.more.now c.loop-inside.invariant.2 refl
+          (values_more c.args.bytes.now vs (vs ++ one ∷ []) c.loop-inside.rest.now one c.in-Some.inside.now
+          c.in-Some-value.more.now c.loop-inside.invariant.2 refl
           c.in-Some.ensures.stripped c.in-Some-value.ensures.whole c.in-Some-value.ensures.inside),
     )
 
 pub returns-clause-place : goal.returns-clause-place
 returns-clause-place g c =
-    values_passed c.args.bytes.now c.loop-inside.invariant.0 c.loop-inside.rest.now c.loop-inside.invariant.2 c.in_default.ensures.other
+    values_passed c.args.bytes.now c.loop-inside.invariant.0 c.loop-inside.rest.now c.loop-inside.invariant.2
+    c.in_default.ensures.other

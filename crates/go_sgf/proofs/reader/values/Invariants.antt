@@ -5,7 +5,8 @@ use Rattle.go_sgf.proofs.reader.values.Given as goal
 
 abbrev pub invariant-loop-inside : goal.invariant-loop-inside
 invariant-loop-inside g l =
-    (vs : List (List ℕ)) × (g.K.Keep.keeps → values_of l.list ≡ values_of l.initial.list ++ vs) × ValuesSoFar l.bytes vs l.rest
+    (vs : List (List ℕ)) × (g.K.Keep.keeps → values_of l.list ≡ values_of l.initial.list ++ vs)
+    × ValuesSoFar l.bytes vs l.rest
 
 abbrev pub decreases-loop-inside : goal.decreases-loop-inside
 decreases-loop-inside g l = length l.rest

@@ -8,7 +8,9 @@ loop-first-preserved c =
     let i = c.loop-first.invariant in
     let whole = c.in-Some.ensures.cases.0 in
     record {
-      written = λ d some. i.written d some ∙ ap (tidied_from Outside d) whole ∙ left_out_tidied c.in-Some.first.now c.in-Some.more.now (sym c.if-not-is_left_out.ensures) d some;
-      behind = λ d some. i.behind d some ∙ ap (behind_from Outside d) whole ∙ left_out_behind c.in-Some.first.now c.in-Some.more.now (sym c.if-not-is_left_out.ensures) d some;
+      written = λ d some. i.written d some ∙ ap (tidied_from Outside d) whole
+          ∙ left_out_tidied c.in-Some.first.now c.in-Some.more.now (sym c.if-not-is_left_out.ensures) d some;
+      behind = λ d some. i.behind d some ∙ ap (behind_from Outside d) whole
+          ∙ left_out_behind c.in-Some.first.now c.in-Some.more.now (sym c.if-not-is_left_out.ensures) d some;
       shorter = omega (arith, i.shorter, ap length whole);
     }

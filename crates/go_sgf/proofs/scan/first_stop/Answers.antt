@@ -9,4 +9,5 @@ returns c =
     let place = c.in_ok-place.place in
     first_behind stops c.args.bytes.now c.min-passed.result place (omega arith)
     (λ k low less. c.in_default.ensures.none k low (omega arith))
-    (subst (λ rest. NoneBefore (Passes stops rest) 0 (length rest) place × Passes stops rest place) c.split_at.ensures.back c.in_ok-place.ensures)
+    (subst (λ rest. NoneBefore (Passes stops rest) 0 (length rest) place × Passes stops rest place)
+    c.split_at.ensures.back c.in_ok-place.ensures)

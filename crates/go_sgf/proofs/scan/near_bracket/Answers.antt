@@ -4,4 +4,5 @@ use Rattle.go_sgf.proofs.scan.near_bracket.Goals as goal
 
 pub returns-then-bytes-place-eq93-clause-front : goal.returns-then-bytes-place-eq93-clause-front
 returns-then-bytes-place-eq93-clause-front c =
-    ordinary_before c.args.bytes.now c.in_ok-place.place (λ k less. c.in_ok-place.ensures.some.0.before k (omega arith) less)
+    ordinary_before c.args.bytes.now c.in_ok-place.place
+    (λ k less. c.in_ok-place.ensures.some.0.before k (omega arith) less)

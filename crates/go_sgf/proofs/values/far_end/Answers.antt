@@ -44,28 +44,34 @@ pub returns-then-is_empty-clause-unended : goal.returns-then-is_empty-clause-une
 returns-then-is_empty-clause-unended c =
     let escape : c.in-Some.byte ≡ 92 = stop_is_escape c.in-Some.byte c.in-Some.ensures.stopped c.if-byte-eq93.false in
     let end : c.in-Some.more.now ≡ [] = nil_from_length _ (eqb-true _ 0 (sym c.if-is_empty.ensures)) in
-    let split = split_further c.loop-front.read c.args.bytes.now c.in-Some.front.now (92 ∷ []) c.loop-front.invariant.within
+    let split = split_further c.loop-front.read c.args.bytes.now c.in-Some.front.now (92 ∷ [])
+    c.loop-front.invariant.within
     (rw (← escape, ← end) (sym c.split_at.ensures.back ∙ c.in-Some.ensures.whole)) in
-    let inside = value_up_to c.loop-front.read c.args.bytes.now c.in-Some.front.now (92 ∷ []) c.loop-front.invariant.within c.loop-front.invariant.inside
+    let inside = value_up_to c.loop-front.read c.args.bytes.now c.in-Some.front.now (92 ∷ [])
+    c.loop-front.invariant.within c.loop-front.invariant.inside
     c.in-Some.ensures.front (rw (← escape, ← end) (sym c.split_at.ensures.back ∙ c.in-Some.ensures.whole)) in
     subst NeverEnds (sym split.1) (never_ends_escape _ inside)
 
 pub returns-clause-unended : goal.returns-clause-unended
 returns-clause-unended c =
     subst NeverEnds (take-append-drop c.loop-front.read c.args.bytes.now)
-    (never_ends _ (ordinary_on (take c.loop-front.read c.args.bytes.now) _ c.loop-front.invariant.inside (rw (← c.split_at.ensures.back) c.in_default.ensures.none)))
+    (never_ends _ (ordinary_on (take c.loop-front.read c.args.bytes.now) _ c.loop-front.invariant.inside
+    (rw (← c.split_at.ensures.back) c.in_default.ensures.none)))
 
 pub returns-then-is_empty-clause-no_end : goal.returns-then-is_empty-clause-no_end
 returns-then-is_empty-clause-no_end c =
     let escape : c.in-Some.byte ≡ 92 = stop_is_escape c.in-Some.byte c.in-Some.ensures.stopped c.if-byte-eq93.false in
     let end : c.in-Some.more.now ≡ [] = nil_from_length _ (eqb-true _ 0 (sym c.if-is_empty.ensures)) in
-    let split = split_further c.loop-front.read c.args.bytes.now c.in-Some.front.now (92 ∷ []) c.loop-front.invariant.within
+    let split = split_further c.loop-front.read c.args.bytes.now c.in-Some.front.now (92 ∷ [])
+    c.loop-front.invariant.within
     (rw (← escape, ← end) (sym c.split_at.ensures.back ∙ c.in-Some.ensures.whole)) in
-    let inside = value_up_to c.loop-front.read c.args.bytes.now c.in-Some.front.now (92 ∷ []) c.loop-front.invariant.within c.loop-front.invariant.inside
+    let inside = value_up_to c.loop-front.read c.args.bytes.now c.in-Some.front.now (92 ∷ [])
+    c.loop-front.invariant.within c.loop-front.invariant.inside
     c.in-Some.ensures.front (rw (← escape, ← end) (sym c.split_at.ensures.back ∙ c.in-Some.ensures.whole)) in
     subst HasNoEnd (sym split.1) (no_end_escape _ inside)
 
 pub returns-clause-no_end : goal.returns-clause-no_end
 returns-clause-no_end c =
     subst HasNoEnd (take-append-drop c.loop-front.read c.args.bytes.now)
-    (no_end _ (ordinary_on (take c.loop-front.read c.args.bytes.now) _ c.loop-front.invariant.inside (rw (← c.split_at.ensures.back) c.in_default.ensures.none)))
+    (no_end _ (ordinary_on (take c.loop-front.read c.args.bytes.now) _ c.loop-front.invariant.inside
+    (rw (← c.split_at.ensures.back) c.in_default.ensures.none)))

@@ -13,7 +13,9 @@ returns-in_default-clause-written g c =
     let i = c.loop-depth.invariant in
     let skip = c.behind_left_out.ensures in
     let none = c.in_default.ensures.none skip.stopped c.loop-depth-test.true in
-    let last : tidied_from Outside c.loop-depth.depth c.loop-depth.rest.now ≡ [] = skip.written c.loop-depth.depth c.loop-depth-test.true ∙ ap (tidied_from Outside c.loop-depth.depth) none ∙ tidied_end Outside c.loop-depth.depth in
+    let last : tidied_from Outside c.loop-depth.depth c.loop-depth.rest.now ≡ [] =
+    skip.written c.loop-depth.depth c.loop-depth-test.true ∙ ap (tidied_from Outside c.loop-depth.depth) none
+    ∙ tidied_end Outside c.loop-depth.depth in
     subst (λ (xs : List ℕ). Writes g.W.Sink c.args.pen.now c.loop-depth.pen xs)
     (sym (i.written.2 ∙ ap (λ xs. i.written.0 ++ xs) last ∙ append-nil i.written.0)) i.written.1
 
@@ -22,7 +24,8 @@ returns-in_default-clause-rest g c =
     let i = c.loop-depth.invariant in
     let skip = c.behind_left_out.ensures in
     let none = c.in_default.ensures.none skip.stopped c.loop-depth-test.true in
-    sym (ap without_space (i.behind ∙ skip.behind c.loop-depth.depth c.loop-depth-test.true ∙ ap (behind_from Outside c.loop-depth.depth) none ∙ behind_end Outside c.loop-depth.depth))
+    sym (ap without_space (i.behind ∙ skip.behind c.loop-depth.depth c.loop-depth-test.true
+    ∙ ap (behind_from Outside c.loop-depth.depth) none ∙ behind_end Outside c.loop-depth.depth))
 
 pub loop-depth-preserved : goal.loop-depth-preserved
 loop-depth-preserved g c =
@@ -46,7 +49,8 @@ loop-depth-preserved g c =
 pub returns-clause-written : goal.returns-clause-written
 returns-clause-written g c =
     let i = c.loop-depth.invariant in
-    let last = ap (λ d. tidied_from Outside d c.loop-depth.rest.now) c.loop-depth-test.false ∙ tidied_closed c.loop-depth.rest.now in
+    let last = ap (λ d. tidied_from Outside d c.loop-depth.rest.now) c.loop-depth-test.false
+    ∙ tidied_closed c.loop-depth.rest.now in
     subst (λ (xs : List ℕ). Writes g.W.Sink c.args.pen.now c.loop-depth.pen xs)
     (sym (i.written.2 ∙ ap (λ xs. i.written.0 ++ xs) last ∙ append-nil i.written.0)) i.written.1
 
@@ -54,8 +58,14 @@ pub returns-clause-rest : goal.returns-clause-rest
 returns-clause-rest g c =
     let i = c.loop-depth.invariant in
     c.after_space.ensures
-    ∙ sym (ap without_space (i.behind ∙ ap (λ d. behind_from Outside d c.loop-depth.rest.now) c.loop-depth-test.false ∙ behind_closed c.loop-depth.rest.now))
+    ∙ sym (ap without_space (i.behind ∙ ap (λ d. behind_from Outside d c.loop-depth.rest.now) c.loop-depth-test.false
+    ∙ behind_closed c.loop-depth.rest.now))
 
 pub returns-clause-shorter : goal.returns-clause-shorter
 returns-clause-shorter g c =
-    omega (arith, c.loop-depth.invariant.shorter, length-after_space c.loop-depth.rest.now, ap (λ (b : List ℕ). length b) c.after_space.ensures)
+    omega (
+      arith,
+      c.loop-depth.invariant.shorter,
+      length-after_space c.loop-depth.rest.now,
+      ap (λ (b : List ℕ). length b) c.after_space.ensures,
+    )

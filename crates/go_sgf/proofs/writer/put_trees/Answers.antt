@@ -5,7 +5,11 @@ use Rattle.go_sgf.proofs.Tidied.{all_written, none_written, one_written}
 use Rattle.go_sgf.proofs.writer.put_trees.Goals as goal
 
 pub loop-inside-init : goal.loop-inside-init
-loop-inside-init g c = ([], writes_nothing g.W.Sink c.args.pen.now, none_written c.args.source.now c.from_tree-rest.result.now c.from_tree-rest.ensures)
+loop-inside-init g c = (
+  [],
+  writes_nothing g.W.Sink c.args.pen.now,
+  none_written c.args.source.now c.from_tree-rest.result.now c.from_tree-rest.ensures,
+)
 
 pub loop-inside-preserved : goal.loop-inside-preserved
 loop-inside-preserved g c =
@@ -15,7 +19,8 @@ loop-inside-preserved g c =
       w.0 ++ ((40 ∷ text) ++ (10 ∷ [])),
       writes_writes w.1 (writes_writes (writes_writes c.put.ensures b.written) c.put-in-Some.ensures),
       λ x s.
-          one_written x w.0 c.loop-inside.rest.now c.in-Some.inside.now text c.put_tree-rest.result.now (w.2 x s) c.in-Some.ensures.begins c.in-Some.ensures.stripped refl
+          one_written x w.0 c.loop-inside.rest.now c.in-Some.inside.now text c.put_tree-rest.result.now (w.2 x s)
+          c.in-Some.ensures.begins c.in-Some.ensures.stripped refl
           b.rest,
     )
 

@@ -10,9 +10,15 @@ returns-clause-sent g c =
     let w = c.put_trees.ensures in
     let taken = g.W.Sink.taken in
     let text = w.2 s.0 (subst (λ (b : List ℕ). Spells b s.0) (sym c.source.ensures.source) s.1) in
-    let told = finished_pen (rw text at w.1) c.new-pen.ensures.fresh c.new-pen.ensures.writer refl c.finish.result c.finish.ensures.value in
-    (s.0, s.1, subst (λ (t : Option (List ℕ)). Sent c.finish.result (taken c.args.writer.now) t (canonical s.0)) (search rules) told.0)
+    let told = finished_pen (rw text at w.1) c.new-pen.ensures.fresh c.new-pen.ensures.writer refl c.finish.result
+    c.finish.ensures.value in (
+      s.0,
+      s.1,
+      subst (λ (t : Option (List ℕ)). Sent c.finish.result (taken c.args.writer.now) t (canonical s.0))
+          (search rules) told.0,
+    )
 
 pub returns-clause-failures : goal.returns-clause-failures
 returns-clause-failures g c =
-    (finished_pen c.put_trees.ensures.1 c.new-pen.ensures.fresh c.new-pen.ensures.writer (search rules) c.finish.result c.finish.ensures.value).1
+    (finished_pen c.put_trees.ensures.1 c.new-pen.ensures.fresh c.new-pen.ensures.writer (search rules) c.finish.result
+    c.finish.ensures.value).1

@@ -15,12 +15,14 @@ pub returns-clause-ok : goal.returns-clause-ok
 returns-clause-ok g c =
     let w : WalkedGame = (c.args.self.now, c.args.game.now) in
     let begun = c.in_ok-begin.ensures.ok in
-    on_ok c.play_value-2.result (λ plays events outcome h. began_setting w c.begin.new.game.standing (none_met w c.if-self.false) begun.0 begun.1
+    on_ok c.play_value-2.result (λ plays events outcome h.
+    began_setting w c.begin.new.game.standing (none_met w c.if-self.false) begun.0 begun.1
     c.args.node c.args.colour c.args.value.now events outcome (plays events outcome h)) c.play_value-2.ensures.ok
 
 pub returns-clause-err : goal.returns-clause-err
 returns-clause-err g c =
     let w : WalkedGame = (c.args.self.now, c.args.game.now) in
     let begun = c.in_ok-begin.ensures.ok in
-    if_err c.play_value-2.result (λ e plays some events. began_setting w c.begin.new.game.standing (none_met w c.if-self.false) begun.0 begun.1
+    if_err c.play_value-2.result (λ e plays some events.
+    began_setting w c.begin.new.game.standing (none_met w c.if-self.false) begun.0 begun.1
     c.args.node c.args.colour c.args.value.now events (Err e) (plays some events)) c.play_value-2.ensures.err

@@ -7,7 +7,8 @@ use Rattle.go_record.specs.inner.Progress.{IsAmongValues, Passes}
 use Rattle.go_record.proofs.state.Walk.play_moves.Given as goal
 
 abbrev pub invariant-loop-name : goal.invariant-loop-name
-invariant-loop-name g l = (properties : List Property) (nodes : List (List Property)) → IsLeft l.fn.line [] properties nodes →
+invariant-loop-name g l = (properties : List Property) (nodes : List (List Property)) →
+    IsLeft l.fn.line [] properties nodes →
     (left : List Property) × IsAmongValues l.line left nodes
     × (done : List Event) × (done ++ flat_map (move_event l.node) left ≡ flat_map (move_event l.node) properties)
     × Passes (l.fn.self, l.fn.game) done (l.self, l.game)

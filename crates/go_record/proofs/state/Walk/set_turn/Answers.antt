@@ -11,7 +11,8 @@ returns-then-is_over c = λ game.
     let w : WalkedGame = (c.args.self.now, game) in
     elim c.then-is_over.branch [
       | then-is_over-via-then-is_over v ↦ passes_over w (sym c.is_over.ensures ∙ v.if-is_over.true) _
-      | then-is_over-via-else-is_over+then-self v ↦ passes_turn_playing w game (met w v.if-self.true) c.args.node c.args.value.now
+      | then-is_over-via-else-is_over+then-self v ↦
+          passes_turn_playing w game (met w v.if-self.true) c.args.node c.args.value.now
     ]
 
 pub returns-in-Some : goal.returns-in-Some
@@ -19,8 +20,10 @@ returns-in-Some c = λ game.
     let w : WalkedGame = (c.args.self.now, game) in
     let none = none_met w c.if-self.false in
     let live : is_nothing w.0.left ≡ false = sym c.is_over.ensures ∙ c.if-is_over.false in
-    passes_event {w = w} None None (turn c.args.node c.args.value.now) none none (seen_turn w.0.left live c.args.node c.args.value.now)
-    (λ events outcome h. sets_turn w.0.grid.lines w.0.komi w.0.grid.colours w.0.turn c.args.node c.args.value.now c.in-Some.colour events outcome
+    passes_event {w = w} None None (turn c.args.node c.args.value.now) none none
+    (seen_turn w.0.left live c.args.node c.args.value.now)
+    (λ events outcome h. sets_turn w.0.grid.lines w.0.komi w.0.grid.colours w.0.turn c.args.node c.args.value.now
+    c.in-Some.colour events outcome
     (sym c.colour_of.ensures ∙ c.in-Some.is) h)
 
 pub returns-in-None : goal.returns-in-None
@@ -28,5 +31,7 @@ returns-in-None c = λ game.
     let w : WalkedGame = (c.args.self.now, game) in
     let none = none_met w c.if-self.false in
     let live : is_nothing w.0.left ≡ false = sym c.is_over.ensures ∙ c.if-is_over.false in
-    stops_event None w.0.left (turn c.args.node c.args.value.now) none (seen_turn w.0.left live c.args.node c.args.value.now)
-    (λ some events. sets_turn_bad w.0.grid.lines w.0.komi w.0.grid.colours w.0.turn c.args.node c.args.value.now events (sym c.colour_of.ensures ∙ c.in-None.is))
+    stops_event None w.0.left (turn c.args.node c.args.value.now) none
+    (seen_turn w.0.left live c.args.node c.args.value.now)
+    (λ some events. sets_turn_bad w.0.grid.lines w.0.komi w.0.grid.colours w.0.turn c.args.node c.args.value.now events
+    (sym c.colour_of.ensures ∙ c.in-None.is))

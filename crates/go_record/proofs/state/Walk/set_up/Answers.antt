@@ -12,57 +12,70 @@ use Rattle.go_record.proofs.state.Walk.set_up.Goals as goal
 pub loop-name-init : goal.loop-name-init
 loop-name-init c = record {
   onward = omega arith;
-  passed = λ properties nodes l. (properties, ([], l), [], refl, λ game. passes_nothing (c.args.self.now, game), [], refl, refl);
+  passed = λ properties nodes l. (
+    properties,
+    ([], l),
+    [],
+    refl,
+    λ game. passes_nothing (c.args.self.now, game),
+    [],
+    refl,
+    refl,
+  );
 }
 
-pub returns-in_err-pass_setup-clause-walked : goal.returns-in_err-pass_setup-clause-walked
-returns-in_err-pass_setup-clause-walked c = λ properties nodes l game.
+pub returns-in_err-visit_setup-clause-walked : goal.returns-in_err-visit_setup-clause-walked
+returns-in_err-visit_setup-clause-walked c = λ properties nodes l game.
     let p = err_from_is_err_and c.from_residual.result c.from_residual.ensures.1 in
-    let e = c.in_err-pass_setup.field-0.0 in
+    let e = c.in_err-visit_setup.field-0.0 in
     let f = setup_event c.args.node in
     let i = c.loop-name.invariant.passed properties nodes l in
     let next = c.in-Some.ensures.next i.1.0 i.0 nodes i.1.1 in
     let kind_is = c.kind_of.ensures next.0 next.3 in
-    walked_stops c.from_residual.result e (c.args.self.now, game) (c.pass_setup.new.self, game) _ (p.1 ∙ ap Err p.2)
+    walked_stops c.from_residual.result e (c.args.self.now, game) (c.visit_setup.new.self, game) _ (p.1 ∙ ap Err p.2)
     (subst (λ (es : List Event). Stops (c.args.self.now, game) es e)
     (one_on f i.2 i.0 next.0 next.1 next.2 ∙ i.3)
-    (stops_longer (passes_stops (i.4 game) (c.in_err-pass_setup.ensures.walked next.0 next.1 nodes kind_is next.4 game)) (flat_map f next.1)))
+    (stops_longer (passes_stops (i.4 game)
+    (c.in_err-visit_setup.ensures.walked next.0 next.1 nodes kind_is next.4 game))
+    (flat_map f next.1)))
 
 pub loop-name-preserved : goal.loop-name-preserved
 loop-name-preserved c = record {
-  onward = omega (arith, c.loop-name.invariant.onward, c.in-Some.ensures.shorter, c.pass_setup.ensures.onward);
+  onward = omega (arith, c.loop-name.invariant.onward, c.in-Some.ensures.shorter, c.visit_setup.ensures.onward);
   passed = λ properties nodes l.
       let f = setup_event c.args.node in
       let i = c.loop-name.invariant.passed properties nodes l in
       let next = c.in-Some.ensures.next i.1.0 i.0 nodes i.1.1 in
       let kind_is = c.kind_of.ensures next.0 next.3 in (
         next.1,
-        c.pass_setup.ensures.line next.1 nodes (next.0.values, next.4),
+        c.visit_setup.ensures.line next.1 nodes (next.0.values, next.4),
         i.2 ++ f next.0,
         one_on f i.2 i.0 next.0 next.1 next.2 ∙ i.3,
-        λ game. passes_passes (i.4 game) (c.in_ok-pass_setup.ensures.walked next.0 next.1 nodes kind_is next.4 game),
+        λ game. passes_passes (i.4 game) (c.in_ok-visit_setup.ensures.walked next.0 next.1 nodes kind_is next.4 game),
         i.5 ++ move_event c.args.node next.0,
         one_on (move_event c.args.node) i.5 i.0 next.0 next.1 next.2 ∙ i.6,
-        c.pass_setup.ensures.moves next.0 next.1 nodes kind_is next.4 i.5 i.7,
+        c.visit_setup.ensures.moves next.0 next.1 nodes kind_is next.4 i.5 i.7,
       );
 }
 
 pub loop-name-smaller : goal.loop-name-smaller
-loop-name-smaller c = omega (arith, c.in-Some.ensures.shorter, c.pass_setup.ensures.onward)
+loop-name-smaller c = omega (arith, c.in-Some.ensures.shorter, c.visit_setup.ensures.onward)
 
 pub returns-clause-walked : goal.returns-clause-walked
 returns-clause-walked c = λ properties nodes l game.
     let i = c.loop-name.invariant.passed properties nodes l in
     let end = c.in_default.ensures.next i.1.0 i.0 nodes i.1.1 in
     subst (λ (es : List Event). Passes (c.args.self.now, game) es (c.loop-name.self, game))
-    (sym (append-nil i.2) ∙ ap (λ (ps : List Property). i.2 ++ flat_map (setup_event c.args.node) ps) (sym end.0) ∙ i.3) (i.4 game)
+    (sym (append-nil i.2) ∙ ap (λ (ps : List Property). i.2 ++ flat_map (setup_event c.args.node) ps) (sym end.0) ∙ i.3)
+    (i.4 game)
 
 pub returns-clause-moves : goal.returns-clause-moves
 returns-clause-moves c = λ properties nodes l.
     let i = c.loop-name.invariant.passed properties nodes l in
     let end = c.in_default.ensures.next i.1.0 i.0 nodes i.1.1 in
     subst (AreMoves c.args.node c.loop-name.moves)
-    (sym (append-nil i.5) ∙ ap (λ (ps : List Property). i.5 ++ flat_map (move_event c.args.node) ps) (sym end.0) ∙ i.6) i.7
+    (sym (append-nil i.5) ∙ ap (λ (ps : List Property). i.5 ++ flat_map (move_event c.args.node) ps) (sym end.0) ∙ i.6)
+    i.7
 
 pub returns-clause-line : goal.returns-clause-line
 returns-clause-line c = λ properties nodes l.

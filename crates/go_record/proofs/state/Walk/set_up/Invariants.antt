@@ -14,7 +14,8 @@ invariant-loop-name l = record {
       (left : List Property) × IsAmongValues l.line left nodes
       × (done : List Event) × (done ++ flat_map (setup_event l.node) left ≡ flat_map (setup_event l.node) properties)
       × ((game : GameValue) → Passes (l.fn.self, game) done (l.self, game))
-      × (met : List Event) × (met ++ flat_map (move_event l.node) left ≡ flat_map (move_event l.node) properties) × AreMoves l.node l.moves met;
+      × (met : List Event) × (met ++ flat_map (move_event l.node) left ≡ flat_map (move_event l.node) properties)
+      × AreMoves l.node l.moves met;
 }
 
 abbrev pub decreases-loop-name : goal.decreases-loop-name

@@ -16,4 +16,5 @@ pub returns-in-None : goal.returns-in-None
 returns-in-None c =
     let s = c.source.ensures.spelled in
     absurd (some_first c.args.source.now s.0 s.1
-    (ap (λ b. is_first 40 (tree_in b)) (sym c.source.ensures.source) ∙ ap (is_first 40) (sym c.from_tree.ensures) ∙ c.in-None.ensures.other))
+    (ap (λ b. is_first 40 (tree_in b)) (sym c.source.ensures.source) ∙ ap (is_first 40) (sym c.from_tree.ensures)
+    ∙ c.in-None.ensures.other))

@@ -6,7 +6,8 @@ use Rattle.go_sgf.proofs.main_line.MainLine.pass_values.Given as goal
 abbrev pub invariant-loop : goal.invariant-loop
 invariant-loop l = record {
   onward : length l.self ≤ length l.fn.self;
-  line : (values : List (List ℕ)) (properties : List Property) (nodes : List (List Property)) → IsLeft l.fn.self values properties nodes →
+  line : (values : List (List ℕ)) (properties : List Property) (nodes : List (List Property)) →
+      IsLeft l.fn.self values properties nodes →
       (left : List (List ℕ)) × IsLeft l.self left properties nodes;
 }
 

@@ -2,11 +2,13 @@ use Rattle.std.proofs.Common.{◌∷◌, [], ℕ, List, ◌∙◌, sym, subst}
 use Rattle.go_record.specs.MainLine.{move_by, move_met}
 use Rattle.go_record.specs.declared.kind.Kind.{Kind}
 use Rattle.go_record.specs.inner.Progress.{Walked}
-use Rattle.go_record.proofs.state.Walk.pass_move.Goals as goal
+use Rattle.go_record.proofs.state.Walk.visit_move.Goals as goal
 
 pub returns-in-Move-clause-walked : goal.returns-in-Move-clause-walked
 returns-in-Move-clause-walked g c = λ p later nodes kind_is l.
-    subst (λ (k : Kind). Walked c.take_turn.result (c.args.self.now, c.args.game.now) (move_by c.args.node k p.values) (c.take_turn.new.self, c.take_turn.new.game))
+    subst (λ (k : Kind). Walked c.take_turn.result (c.args.self.now, c.args.game.now) (move_by c.args.node k p.values)
+    (c.take_turn.new.self, c.take_turn.new.game))
     (sym c.in-Move.is ∙ kind_is)
-    (subst (λ (v : List ℕ). Walked c.take_turn.result (c.args.self.now, c.args.game.now) (move_met c.args.node c.in-Move.colour v ∷ []) (c.take_turn.new.self, c.take_turn.new.game))
+    (subst (λ (v : List ℕ). Walked c.take_turn.result (c.args.self.now, c.args.game.now)
+    (move_met c.args.node c.in-Move.colour v ∷ []) (c.take_turn.new.self, c.take_turn.new.game))
     (c.first_value.ensures.value p.values later nodes l) c.take_turn.ensures)

@@ -8,33 +8,42 @@ use Rattle.go_record.specs.MainLine.{Event, move_event, move_met, setup_event}
 use Rattle.go_record.specs.declared.moves.MovesMet.{MovesMet}
 use Rattle.go_record.specs.inner.Progress.{AreMoves, Passes, Walked}
 use Rattle.go_record.proofs.Walking.{stops_longer, walked_after, walked_stops}
-use Rattle.go_record.proofs.state.Walk.pass_node.Goals as goal
+use Rattle.go_record.proofs.state.Walk.visit_node.Goals as goal
 
 pub returns-in_err-set_up-clause-walked : goal.returns-in_err-set_up-clause-walked
 returns-in_err-set_up-clause-walked g c = λ ps nodes l.
     let p = err_from_is_err_and c.from_residual.result c.from_residual.ensures.1 in
-    walked_stops c.from_residual.result c.in_err-set_up.field-0.0 (c.args.self.now, c.args.game.now) (c.set_up.new.self, c.args.game.now) _ (p.1 ∙ ap Err p.2)
+    walked_stops c.from_residual.result c.in_err-set_up.field-0.0 (c.args.self.now, c.args.game.now)
+    (c.set_up.new.self, c.args.game.now) _ (p.1 ∙ ap Err p.2)
     (stops_longer (c.in_err-set_up.ensures.walked ps nodes l c.args.game.now) _)
 
 pub returns-in-NoMove-clause-walked : goal.returns-in-NoMove-clause-walked
 returns-in-NoMove-clause-walked g c = λ ps nodes l.
     let setup = flat_map (setup_event c.args.number) ps in
     let none : flat_map (move_event c.args.number) ps ≡ [] =
-    subst (λ (m : MovesMet). AreMoves c.args.number m (flat_map (move_event c.args.number) ps)) c.in-NoMove.is (c.in_ok-set_up.ensures.moves ps nodes l) in
+    subst (λ (m : MovesMet). AreMoves c.args.number m (flat_map (move_event c.args.number) ps)) c.in-NoMove.is
+    (c.in_ok-set_up.ensures.moves ps nodes l) in
     subst (λ (es : List Event). Passes (c.args.self.now, c.args.game.now) es (c.set_up.new.self, c.args.game.now))
     (sym (append-nil setup) ∙ ap (λ es. setup ++ es) (sym none))
     (c.in_ok-set_up.ensures.walked ps nodes l c.args.game.now)
 
 pub returns-in-OneMove-clause-walked : goal.returns-in-OneMove-clause-walked
 returns-in-OneMove-clause-walked g c = λ ps nodes l.
-    let one : flat_map (move_event c.args.number) ps ≡ move_met c.args.number c.in-OneMove.colour c.in-OneMove.value.now ∷ [] =
-    subst (λ (m : MovesMet). AreMoves c.args.number m (flat_map (move_event c.args.number) ps)) c.in-OneMove.is (c.in_ok-set_up.ensures.moves ps nodes l) in
-    walked_after c.take_turn.result (c.args.self.now, c.args.game.now) (c.set_up.new.self, c.args.game.now) (c.take_turn.new.self, c.take_turn.new.game)
-    (flat_map (setup_event c.args.number) ps) (flat_map (move_event c.args.number) ps) (c.in_ok-set_up.ensures.walked ps nodes l c.args.game.now)
-    (subst (λ (es : List Event). Walked c.take_turn.result (c.set_up.new.self, c.args.game.now) es (c.take_turn.new.self, c.take_turn.new.game)) (sym one) c.take_turn.ensures)
+    let one : flat_map (move_event c.args.number) ps ≡ move_met c.args.number c.in-OneMove.colour c.in-OneMove.value.now
+    ∷ [] =
+    subst (λ (m : MovesMet). AreMoves c.args.number m (flat_map (move_event c.args.number) ps)) c.in-OneMove.is
+    (c.in_ok-set_up.ensures.moves ps nodes l) in
+    walked_after c.take_turn.result (c.args.self.now, c.args.game.now) (c.set_up.new.self, c.args.game.now)
+    (c.take_turn.new.self, c.take_turn.new.game)
+    (flat_map (setup_event c.args.number) ps) (flat_map (move_event c.args.number) ps)
+    (c.in_ok-set_up.ensures.walked ps nodes l c.args.game.now)
+    (subst (λ (es : List Event). Walked c.take_turn.result (c.set_up.new.self, c.args.game.now) es
+    (c.take_turn.new.self, c.take_turn.new.game)) (sym one) c.take_turn.ensures)
 
 pub returns-in-MoreMoves-clause-walked : goal.returns-in-MoreMoves-clause-walked
 returns-in-MoreMoves-clause-walked g c = λ ps nodes l.
     let again : IsLeft c.fork-again.result [] ps nodes = rw c.fork-again.ensures l in
-    walked_after c.play_moves.result (c.args.self.now, c.args.game.now) (c.set_up.new.self, c.args.game.now) (c.play_moves.new.self, c.play_moves.new.game)
-    (flat_map (setup_event c.args.number) ps) (flat_map (move_event c.args.number) ps) (c.in_ok-set_up.ensures.walked ps nodes l c.args.game.now) (c.play_moves.ensures ps nodes again)
+    walked_after c.play_moves.result (c.args.self.now, c.args.game.now) (c.set_up.new.self, c.args.game.now)
+    (c.play_moves.new.self, c.play_moves.new.game)
+    (flat_map (setup_event c.args.number) ps) (flat_map (move_event c.args.number) ps)
+    (c.in_ok-set_up.ensures.walked ps nodes l c.args.game.now) (c.play_moves.ensures ps nodes again)
