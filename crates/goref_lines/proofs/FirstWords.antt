@@ -25,11 +25,13 @@ one_more n = omega arith
 words_space : (b : ℕ) (text : List ℕ) → is_plain_space b ≡ true → words (b ∷ text) ≡ words text
 words_space b text e = ap (filter has_bytes) (slice_split-cons_yes is_plain_space b text e)
 
-behind_spaces-cons : (s : Bool) (b : ℕ) (text : List ℕ) (n : ℕ) → drop (cond s (1 + n) 0) (b ∷ text) ≡ cond s (drop n text) (b ∷ text)
+behind_spaces-cons : (s : Bool) (b : ℕ) (text : List ℕ) (n : ℕ) →
+    drop (cond s (1 + n) 0) (b ∷ text) ≡ cond s (drop n text) (b ∷ text)
 behind_spaces-cons true b text n = ap (λ m. drop m (b ∷ text)) (one_more n)
 behind_spaces-cons false b text n = refl
 
-words_behind_spaces-cons : (s : Bool) (b : ℕ) (text behind : List ℕ) → is_plain_space b ≡ s → words text ≡ words behind → words (b ∷ text) ≡ words (cond s behind (b ∷ text))
+words_behind_spaces-cons : (s : Bool) (b : ℕ) (text behind : List ℕ) → is_plain_space b ≡ s →
+    words text ≡ words behind → words (b ∷ text) ≡ words (cond s behind (b ∷ text))
 words_behind_spaces-cons true b text behind e h = words_space b text e ∙ h
 words_behind_spaces-cons false b text behind e h = refl
 
@@ -41,19 +43,23 @@ words_behind_spaces (b ∷ text) =
 
 -- the parts of a text are its first word, and others that have the words behind it
 abbrev HasFirst : List ℕ → ℕ → List (List ℕ) → Type 0
-HasFirst text n parts = (rest : List (List ℕ)) × (parts ≡ take n text ∷ rest) × (filter has_bytes rest ≡ words (drop n text))
+HasFirst text n parts = (rest : List (List ℕ)) × (parts ≡ take n text ∷ rest)
+    × (filter has_bytes rest ≡ words (drop n text))
 
-has_first-cons : (s : Bool) (b : ℕ) (text : List ℕ) (n : ℕ) (parts : List (List ℕ)) → is_plain_space b ≡ s → parts ≡ slice_split is_plain_space text →
+has_first-cons : (s : Bool) (b : ℕ) (text : List ℕ) (n : ℕ) (parts : List (List ℕ)) → is_plain_space b ≡ s →
+    parts ≡ slice_split is_plain_space text →
     HasFirst text n parts → HasFirst (b ∷ text) (cond (not s) (1 + n) 0) (cond s ([] ∷ parts) (onto_first b parts))
 has_first-cons true b text n parts e are h = (parts, refl, ap (filter has_bytes) are ∙ sym (words_space b text e))
 has_first-cons false b text n parts e are h = rw (one_more n) (h.0, ap (onto_first b) h.1, h.2)
 
 has_first : (text : List ℕ) → HasFirst text (word_len text) (slice_split is_plain_space text)
 has_first [] = ([], refl, refl)
-has_first (b ∷ text) = has_first-cons (is_plain_space b) b text (word_len text) (slice_split is_plain_space text) refl refl (has_first text)
+has_first (b ∷ text) = has_first-cons (is_plain_space b) b text (word_len text) (slice_split is_plain_space text) refl
+    refl (has_first text)
 
 -- no word is left only where nothing stands behind the first spaces
-blank_is_empty-cons : (s : Bool) (b : ℕ) (text behind : List ℕ) → is_plain_space b ≡ s → (first_word behind ≡ [] → behind ≡ []) →
+blank_is_empty-cons : (s : Bool) (b : ℕ) (text behind : List ℕ) → is_plain_space b ≡ s →
+    (first_word behind ≡ [] → behind ≡ []) →
     first_word (cond s behind (b ∷ text)) ≡ [] → cond s behind (b ∷ text) ≡ []
 blank_is_empty-cons true b text behind e h none = h none
 blank_is_empty-cons false b text behind e h none = let some = rw (e, one_more (word_len text)) at none in cc
@@ -61,15 +67,19 @@ blank_is_empty-cons false b text behind e h none = let some = rw (e, one_more (w
 blank_is_empty : (text : List ℕ) → first_word (behind_spaces text) ≡ [] → behind_spaces text ≡ []
 blank_is_empty [] none = refl
 blank_is_empty (b ∷ text) none =
-    let at : behind_spaces (b ∷ text) ≡ cond (is_plain_space b) (behind_spaces text) (b ∷ text) = behind_spaces-cons (is_plain_space b) b text (prefix_len is_plain_space text) in
-    at ∙ blank_is_empty-cons (is_plain_space b) b text (behind_spaces text) refl (blank_is_empty text) (ap first_word (sym at) ∙ none)
+    let at : behind_spaces (b ∷ text) ≡ cond (is_plain_space b) (behind_spaces text) (b ∷ text) =
+    behind_spaces-cons (is_plain_space b) b text (prefix_len is_plain_space text) in
+    at ∙ blank_is_empty-cons (is_plain_space b) b text (behind_spaces text) refl (blank_is_empty text)
+    (ap first_word (sym at) ∙ none)
 
-filter_word : (word : List ℕ) (parts : List (List ℕ)) → nat_eq (length word) 0 ≡ false → filter has_bytes (word ∷ parts) ≡ word ∷ filter has_bytes parts
+filter_word : (word : List ℕ) (parts : List (List ℕ)) → nat_eq (length word) 0 ≡ false →
+    filter has_bytes (word ∷ parts) ≡ word ∷ filter has_bytes parts
 filter_word [] parts e = cc
 filter_word (b ∷ word) parts e = refl
 
 -- where the bytes before the next space are some, they are the next word
-pub word_comes : (text word rest : List ℕ) → word ≡ first_word (behind_spaces text) → rest ≡ behind_word (behind_spaces text) → nat_eq (length word) 0 ≡ false →
+pub word_comes : (text word rest : List ℕ) → word ≡ first_word (behind_spaces text) →
+    rest ≡ behind_word (behind_spaces text) → nat_eq (length word) 0 ≡ false →
     words text ≡ word ∷ words rest
 word_comes text word rest is_word is_rest some =
     let parts = has_first (behind_spaces text) in
@@ -83,7 +93,8 @@ is_empty [] e = refl
 is_empty (b ∷ word) e = grind (arith, nat_tests)
 
 -- where they are none, no word is left
-pub no_word_comes : (text word rest : List ℕ) → word ≡ first_word (behind_spaces text) → rest ≡ behind_word (behind_spaces text) → nat_eq (length word) 0 ≡ true →
+pub no_word_comes : (text word rest : List ℕ) → word ≡ first_word (behind_spaces text) →
+    rest ≡ behind_word (behind_spaces text) → nat_eq (length word) 0 ≡ true →
     (words text ≡ []) × (words rest ≡ [])
 no_word_comes text word rest is_word is_rest none =
     let behind = blank_is_empty text (sym is_word ∙ is_empty word none) in

@@ -1,5 +1,5 @@
--- What a line keeps: controls out, the comment off, tabs as spaces, cut into words at spaces,
--- joined by single spaces, and of that as many bytes as a line may have.
+-- What a line keeps: no controls, no comment, tabs as spaces, its words joined by single spaces, and of that
+-- as many bytes as a line may have.
 use Rattle.std.specs.Prelude.{ℕ, ◌==◌, ◌&&◌, ◌||◌, not, nat_lt, Bool, false, if◌then◌else◌, List, [], ◌∷◌, map, filter, take, length}
 use Rattle.std.specs.List.{list_any}
 use Rattle.goref_lines.specs.Words.{has_bytes, is_plain_space, single_spaced}
@@ -21,7 +21,7 @@ spaced b = if b == 9 then 32 else b
 abbrev pub printable : List ℕ → List ℕ
 printable line = filter (λ b. not (is_control_byte b)) line
 
--- what stands before the first `#`
+-- what comes before the first `#`
 abbrev pub before_comment : List ℕ → List ℕ
 before_comment [] = []
 before_comment (b ∷ line) = if is_hash b then [] else b ∷ before_comment line
@@ -36,8 +36,8 @@ ends_with_space [] = false
 ends_with_space (b ∷ []) = is_plain_space b
 ends_with_space (b ∷ c ∷ text) = ends_with_space (c ∷ text)
 
--- what is kept of a line: the front of its words so joined, whether they were more, and, for the
--- bytes that may follow, whether a comment has begun and whether a space stands behind a word
+-- what is kept of a line: a prefix of its words so joined, whether they were longer, and, for the bytes that
+-- may follow, whether a comment has begun and whether a space came after the last word
 pub record Kept : Type 0 where
   pub text : List ℕ
   pub is_long : Bool

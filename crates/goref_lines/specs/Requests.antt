@@ -13,11 +13,11 @@ abbrev pub asked : Option ℕ → List (List ℕ) → Asked
 asked id [] = record { id = id; name = None; arguments = [] }
 asked id (word ∷ words) = record { id = id; name = Some word; arguments = words }
 
--- what the words ask for: a number that stands first is the id
+-- what the words ask for: a number is the id if it comes first
 abbrev pub asked_by : List (List ℕ) → Asked
 asked_by [] = asked None []
 asked_by (word ∷ words) = if is_int word then asked (Some (digits_value word)) words else asked None (word ∷ words)
 
--- the id of a text that was cut: what stands before its first space, where that is a number
+-- the id of a text that was cut: what comes before its first space, where that is a number
 abbrev pub id_before_space : List ℕ → Option ℕ
 id_before_space text = option_and_then (λ end. int_of (take end text)) (position is_plain_space text)

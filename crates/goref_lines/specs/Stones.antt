@@ -29,12 +29,12 @@ abbrev pub points_on : ℕ → List Vertex → Option (List Point)
 points_on n [] = Some []
 points_on n (v ∷ vertices) = with_first (point_on n v) (points_on n vertices)
 
--- no number stands twice
+-- no number is there twice
 abbrev pub are_distinct : List ℕ → Bool
 are_distinct [] = true
 are_distinct (x ∷ xs) = not (list_any (λ y. y == x) xs) && are_distinct xs
 
--- stones of a free handicap: at least two, one point of the board is left, and each stands once
+-- stones of a free handicap: at least two, each of them once, and one point of the board is left
 abbrev pub is_free_handicap : ℕ → List Point → Bool
 is_free_handicap n points =
     (nat_le 2 (length points) && nat_lt (length points) (n * n)) && are_distinct (map (number_of n) points)

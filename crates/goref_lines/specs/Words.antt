@@ -9,7 +9,7 @@ abbrev pub has_bytes : List ℕ → Bool
 has_bytes [] = false
 has_bytes (b ∷ bs) = true
 
--- the words of a text: what stands between its spaces and is not empty
+-- the words of a text: what is between its spaces and is not empty
 abbrev pub words : List ℕ → List (List ℕ)
 words text = filter has_bytes (slice_split is_plain_space text)
 

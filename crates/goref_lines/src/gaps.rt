@@ -1,13 +1,13 @@
-//! What stands between words: white space and controls.
+//! The bytes between words: white space and controls.
 ghost use Rattle.std.specs.Prelude.{◌≡◌, ◌<◌, ◌≤◌, ◌++◌, IfSome, List, ℕ, length, take};
 ghost use Rattle.std.specs.List.{list_all, list_any, prefix_len};
 ghost use Rattle.goref_lines.specs.Kept.{is_control_byte};
-ghost use Rattle.goref_lines.specs.inner.Front.{AreBetweenWords, is_blank_byte, is_gap_byte};
+ghost use Rattle.goref_lines.specs.inner.Prefixes.{AreBetweenWords, is_blank_byte, is_gap_byte};
 
-/// How many bytes between words are taken at once.
+/// How many bytes are looked at together.
 const BLOCK: usize = 64;
 
-/// Whether a byte is a control, which a line leaves out; a tab is white space.
+/// Whether a byte is a control, which a line drops. A tab is no control but white space.
 pub(crate) fn is_control(byte: u8) -> bool
     ensures { result ≡ is_control_byte byte }
 {
@@ -21,26 +21,26 @@ pub(crate) fn is_blank(byte: u8) -> bool
     byte == b' ' || byte == b'\t'
 }
 
-/// Whether a space or a tab is among bytes. Where controls are many, whole blocks are passed.
+/// Whether there is a space or a tab. Whole blocks of controls are skipped.
 pub(crate) fn has_blank(bytes: &[u8]) -> bool
     ensures { result ≡ list_any is_blank_byte bytes.now }
 {
     let mut rest = bytes;
-    while let Some(more) = behind_controls(rest) {
+    while let Some(more) = after_controls(rest) {
         rest = more;
     }
     finds_blank(rest)
 }
 
-/// Whether a space or a tab is among bytes. It looks no further than the first.
+/// Whether there is a space or a tab. It stops at the first one.
 fn finds_blank(bytes: &[u8]) -> bool
     ensures { result ≡ list_any is_blank_byte bytes.now }
 {
     bytes.iter().any(|byte| is_blank(*byte))
 }
 
-/// What stands behind a block, where that is controls, which are neither spaces nor tabs.
-fn behind_controls(bytes: &[u8]) -> Option<&[u8]>
+/// The bytes after the first block, if that block is all controls.
+fn after_controls(bytes: &[u8]) -> Option<&[u8]>
     ensures same { IfSome result (λ more. list_any is_blank_byte more.now
         ≡ list_any is_blank_byte bytes.now) }
     ensures shorter { IfSome result (λ more. length more.now < length bytes.now) }
@@ -56,7 +56,7 @@ fn behind_controls(bytes: &[u8]) -> Option<&[u8]>
     }
 }
 
-/// Whether all bytes are controls. It looks at all, so that many are looked at at once.
+/// Whether all bytes are controls. It never stops early, so that the compiler can test many bytes at once.
 fn are_controls(bytes: &[u8]) -> bool
     ensures { result ≡ list_all is_control_byte bytes.now }
 {
@@ -67,38 +67,38 @@ fn are_controls(bytes: &[u8]) -> bool
     all
 }
 
-/// Whether a byte stands between words: white space or a control.
+/// Whether a byte is white space or a control.
 fn is_of_gap(byte: u8) -> bool
     ensures { result ≡ is_gap_byte byte }
 {
     byte <= b' ' || byte == 127
 }
 
-/// How many controls and white space stand first. Where they are many, whole blocks are told.
-pub(crate) fn gap_front(bytes: &[u8]) -> usize
+/// The length of a prefix of controls and white space. It is whole blocks if there is one.
+pub(crate) fn gap_prefix(bytes: &[u8]) -> usize
     ensures gap { AreBetweenWords (take result bytes.now) }
     ensures bound { result ≤ length bytes.now }
 {
-    let count = bytes.len() - behind_blocks(bytes).len();
+    let count = bytes.len() - after_blocks(bytes).len();
     if count > 0 {
         return count;
     }
     gap_len(bytes)
 }
 
-/// What stands behind the first blocks that are controls and white space.
-fn behind_blocks(bytes: &[u8]) -> &[u8]
+/// The bytes after the first blocks of controls and white space.
+fn after_blocks(bytes: &[u8]) -> &[u8]
     ensures { (gap : List ℕ) × (bytes.now ≡ gap ++ result.now) × AreBetweenWords gap }
 {
     let mut rest = bytes;
-    while let Some(more) = behind_block(rest) {
+    while let Some(more) = after_block(rest) {
         rest = more;
     }
     rest
 }
 
-/// What stands behind a block, where that is controls and white space.
-fn behind_block(bytes: &[u8]) -> Option<&[u8]>
+/// The bytes after the first block, if that block is all controls and white space.
+fn after_block(bytes: &[u8]) -> Option<&[u8]>
     ensures gap { IfSome result (λ more. (gap : List ℕ) × (bytes.now ≡ gap ++ more.now)
         × AreBetweenWords gap) }
     ensures shorter { IfSome result (λ more. length more.now < length bytes.now) }
@@ -110,7 +110,7 @@ fn behind_block(bytes: &[u8]) -> Option<&[u8]>
     if is_gap(block) { Some(more) } else { None }
 }
 
-/// How many controls and white space stand first.
+/// How many bytes of controls and white space come first.
 fn gap_len(bytes: &[u8]) -> usize
     ensures value { result ≡ prefix_len is_gap_byte bytes.now }
     ensures bound { result ≤ length bytes.now }
@@ -118,8 +118,8 @@ fn gap_len(bytes: &[u8]) -> usize
     bytes.iter().take_while(|byte| is_of_gap(**byte)).count()
 }
 
-/// Whether all bytes are controls and white space. It looks at all, so that many are looked at at
-/// once.
+/// Whether all bytes are controls and white space. It never stops early, so that the compiler can test many
+/// bytes at once.
 fn is_gap(bytes: &[u8]) -> bool
     ensures { result ≡ list_all is_gap_byte bytes.now }
 {

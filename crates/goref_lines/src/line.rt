@@ -1,12 +1,12 @@
 //! A line as its bytes come in: its words are kept, joined by single spaces. It drops comments, controls and
-//! what is past the limit, and notes that there was more.
+//! all that is past the limit, and notes whether anything was past it.
 ghost use Rattle.std.specs.Prelude.{◌≡◌, ◌+◌, ◌<◌, ◌≤◌, ℕ, List, [], ◌∷◌, ◌++◌, length, take, false, true};
 ghost use Rattle.std.specs.List.{list_any, prefix_len};
 ghost use Rattle.goref_lines.specs.Kept.{Kept, kept, is_hash, printable};
 ghost use Rattle.goref_lines.specs.Words.{has_bytes};
-ghost use Rattle.goref_lines.specs.inner.Front.{AreBetweenWords, AreJoined, KeepsFront, end_of_words, is_word_byte, last_of, with_space};
+ghost use Rattle.goref_lines.specs.inner.Prefixes.{AreBetweenWords, AreJoined, KeepsPrefix, end_of_words, is_word_byte, last_of, with_space};
 
-use crate::gaps::{gap_front, has_blank, is_blank, is_control};
+use crate::gaps::{gap_prefix, has_blank, is_blank, is_control};
 use arrayvec::ArrayVec;
 use memchr::memchr;
 use std::marker::Model;
@@ -19,11 +19,11 @@ pub const LINE_LIMIT: usize = 8192;
 pub struct Line {
     /// The words so far, joined by single spaces.
     text: ArrayVec<u8, LINE_LIMIT>,
-    /// Whether the words were more than there is place for.
+    /// Whether the words have more bytes than there is room for.
     is_long: bool,
     /// Whether a `#` came, after which nothing is kept.
     has_comment: bool,
-    /// Whether white space came behind the last word.
+    /// Whether white space came after the last word.
     has_space: bool,
 }
 
@@ -39,7 +39,7 @@ impl Model for Line {
 }
 
 impl Line {
-    /// What is kept of a line of which nothing has come yet.
+    /// A line of which no byte has come yet.
     #[tactic(auto, unfolding(crate::specs::Kept::kept))]
     pub fn new() -> Line
         ensures { result ≡ kept [] }
@@ -52,7 +52,7 @@ impl Line {
         }
     }
 
-    /// What is kept of the line with these bytes.
+    /// The line with these bytes.
     pub fn of(bytes: &[u8]) -> Line
         ensures { result ≡ kept bytes.now }
     {
@@ -104,7 +104,7 @@ impl Line {
         }
         let mut rest = bytes;
         while !rest.is_empty() && !self.has_comment {
-            let count = self.push_front(rest);
+            let count = self.push_prefix(rest);
             rest = rest.split_at(count).1;
         }
     }
@@ -119,42 +119,43 @@ impl Line {
         }
         match memchr(b'#', bytes) {
             Some(place) => {
-                self.skip_plain(bytes.split_at(place).0);
+                self.skip_before_comment(bytes.split_at(place).0);
                 self.has_comment = true;
             }
-            None => self.skip_plain(bytes),
+            None => self.skip_before_comment(bytes),
         }
     }
 
-    /// Takes bytes without a comment in a line that is longer than a line may be.
-    fn skip_plain(&mut self, bytes: &[u8])
+    /// Takes bytes without a `#` in a line that is longer than a line may be.
+    fn skip_before_comment(&mut self, bytes: &[u8])
         requires long { self.old.is_long ≡ true }
-        requires plain { self.old.has_comment ≡ false }
+        requires no_comment { self.old.has_comment ≡ false }
         requires bytes { list_any is_hash bytes.now ≡ false }
         ensures line { (line : List ℕ) → self.old ≡ kept line
             → self.new ≡ kept (line ++ bytes.now) }
-        ensures plain { self.new.has_comment ≡ self.old.has_comment }
+        ensures no_comment { self.new.has_comment ≡ self.old.has_comment }
     {
         if let Some(last) = last_printable(bytes) {
             self.has_space = is_blank(last);
         }
     }
 
-    /// Takes the first of bytes, those of words, those between words or a `#`, and tells how many.
-    fn push_front(&mut self, bytes: &[u8]) -> usize
-        requires plain { self.old.has_comment ≡ false }
+    /// Takes a prefix of the bytes, and returns its length. It is words, a gap between words, or a single
+    /// byte.
+    fn push_prefix(&mut self, bytes: &[u8]) -> usize
+        requires no_comment { self.old.has_comment ≡ false }
         requires bytes { 0 < length bytes.now }
         ensures some { 0 < result }
         ensures most { result ≤ length bytes.now }
-        ensures front { (line : List ℕ) → self.old ≡ kept line
+        ensures prefix { (line : List ℕ) → self.old ≡ kept line
             → self.new ≡ kept (line ++ take result bytes.now) }
     {
-        let count = words_front(bytes);
+        let count = words_prefix(bytes);
         if count > 0 {
             self.push_words(bytes.split_at(count).0);
             return count;
         }
-        let count = gap_front(bytes);
+        let count = gap_prefix(bytes);
         if count > 0 {
             self.push_gap(bytes.split_at(count).0);
             return count;
@@ -165,7 +166,7 @@ impl Line {
 
     /// Takes words that are joined by single spaces, as the line keeps them.
     fn push_words(&mut self, words: &[u8])
-        requires plain { self.old.has_comment ≡ false }
+        requires no_comment { self.old.has_comment ≡ false }
         requires words { AreJoined words.now }
         ensures { (line : List ℕ) → self.old ≡ kept line → self.new ≡ kept (line ++ words.now) }
     {
@@ -173,10 +174,10 @@ impl Line {
         self.has_space = false;
     }
 
-    /// Takes controls and white space. They say nothing where no word came yet, or white space came
-    /// behind it already.
+    /// Takes controls and white space. They change nothing where no word came yet, or where white space came
+    /// after the last word already.
     fn push_gap(&mut self, gap: &[u8])
-        requires plain { self.old.has_comment ≡ false }
+        requires no_comment { self.old.has_comment ≡ false }
         requires gap { AreBetweenWords gap.now }
         ensures { (line : List ℕ) → self.old ≡ kept line → self.new ≡ kept (line ++ gap.now) }
     {
@@ -208,15 +209,15 @@ impl Line {
     }
 }
 
-/// Whether a byte stands in words.
+/// Whether a byte is part of a word.
 fn is_of_word(byte: u8) -> bool
     ensures { result ≡ is_word_byte byte }
 {
     byte > b' ' && byte != b'#' && byte != 127
 }
 
-/// How many bytes of words stand first that are joined by single spaces, up to the end of a word.
-fn words_front(bytes: &[u8]) -> usize
+/// The length of a prefix of words that are joined by single spaces. It ends with a word.
+fn words_prefix(bytes: &[u8]) -> usize
     ensures joined { 0 < result → AreJoined (take result bytes.now) }
     ensures word { prefix_len is_word_byte bytes.now ≤ result }
     ensures bound { result ≤ length bytes.now }
@@ -233,8 +234,8 @@ fn words_front(bytes: &[u8]) -> usize
     words_end(start, bytes.len())
 }
 
-/// Where words end that stand up to a place, the last of them from `start` on. Where that has no byte
-/// yet, they end before the blank in front of it.
+/// Where the words before `place` end. The last of them begins at `start`. If it has no byte yet, they end
+/// before the space that comes before it.
 fn words_end(start: usize, place: usize) -> usize
     ensures { result ≡ end_of_words start place }
 {
@@ -245,29 +246,29 @@ fn words_end(start: usize, place: usize) -> usize
     }
 }
 
-/// The last byte that is no control.
+/// The last byte that isn't a control.
 fn last_printable(bytes: &[u8]) -> Option<u8>
     ensures { result ≡ last_of (printable bytes.now) }
 {
     let mut rest = bytes;
-    while let Some((last, front)) = rest.split_last() {
+    while let Some((last, prefix)) = rest.split_last() {
         if !is_control(*last) {
             return Some(*last);
         }
-        rest = front;
+        rest = prefix;
     }
     None
 }
 
-/// Appends bytes of words that single spaces join, behind a space where one is due.
+/// Appends words that are joined by single spaces, with a space before them if one is due.
 fn append_to_words(
     text: &mut ArrayVec<u8, LINE_LIMIT>,
     is_long: &mut bool,
     has_space: bool,
     word: &[u8],
 )
-    ensures { (whole : List ℕ) → KeepsFront text.old.items is_long.old whole
-        → KeepsFront text.new.items is_long.new (whole ++ with_space has_space word.now) }
+    ensures { (whole : List ℕ) → KeepsPrefix text.old.items is_long.old whole
+        → KeepsPrefix text.new.items is_long.new (whole ++ with_space has_space word.now) }
 {
     if has_space {
         append(text, is_long, b" ");
@@ -277,8 +278,8 @@ fn append_to_words(
 
 /// Appends what there is room for.
 fn append(text: &mut ArrayVec<u8, LINE_LIMIT>, is_long: &mut bool, bytes: &[u8])
-    ensures { (whole : List ℕ) → KeepsFront text.old.items is_long.old whole
-        → KeepsFront text.new.items is_long.new (whole ++ bytes.now) }
+    ensures { (whole : List ℕ) → KeepsPrefix text.old.items is_long.old whole
+        → KeepsPrefix text.new.items is_long.new (whole ++ bytes.now) }
 {
     let room = text.remaining_capacity();
     if bytes.len() <= room {

@@ -1,4 +1,4 @@
-//! The words of a line as an id, a command's name and its arguments. A line that was cut still gives its id.
+//! The words of a line as an id, a command's name and its arguments. A line that was cut still has its id.
 ghost use Rattle.std.specs.Prelude.{◌≡◌, ◌<◌, IfSome, length, option_copied, position, slice_get};
 ghost use Rattle.goref_lines.specs.Words.{is_plain_space, words};
 ghost use Rattle.goref_lines.specs.Requests.{Asked, asked_by, id_before_space};
@@ -47,7 +47,7 @@ impl<'a> Request<'a> {
         }
     }
 
-    /// The number that the answer repeats.
+    /// The id, a number that the response repeats.
     pub fn id(&self) -> Option<u32>
         ensures { result ≡ self.now.id }
     {
@@ -61,7 +61,7 @@ impl<'a> Request<'a> {
         self.name
     }
 
-    /// The argument at this place, the first at 0.
+    /// The argument at this place, from 0.
     pub fn argument(&self, place: u16) -> Option<&'a [u8]>
         ensures { option_copied result ≡ slice_get self.now.arguments place }
     {

@@ -1,5 +1,5 @@
 //! The points that a list for a free handicap names, checked one word after another. A word that is no vertex
-//! is told before any other fault of the list.
+//! counts before any other fault of the list.
 ghost use Rattle.std.specs.Prelude.{◌≡◌, ◌<◌, ◌*◌, ◌∷◌, ◌==◌, ℕ, [], List, Option, All, IfErr, IfOk, OnOk, length};
 ghost use Rattle.std.specs.List.{list_any};
 ghost use Rattle.go_board.specs.declared.vertex.Vertex.{Vertex};
@@ -17,8 +17,8 @@ use std::marker::Model;
 pub enum ListError {
     /// There is no word, or one that spells no vertex.
     Malformed,
-    /// There is a pass, a point off the board or one that stands twice, fewer than two points are
-    /// listed, or none is left.
+    /// The list has a pass, a point off the board, a point twice or fewer than two points, or it leaves no
+    /// point of the board.
     Bad,
 }
 
@@ -45,7 +45,7 @@ pub fn read_stones(
     stones.finish()
 }
 
-/// The points of a list as far as it is read.
+/// The points of a list so far.
 #[derive(Drop)]
 struct Stones {
     size: Size,
@@ -79,7 +79,7 @@ impl Stones {
         }
     }
 
-    /// Takes the next word. A bad list is read on: a word that spells no vertex outweighs it.
+    /// Takes the next word. A bad list is read to its end, since a malformed word in it counts first.
     fn push(&mut self, word: &[u8]) -> Result<(), ListError>
         ensures lines { self.new.lines ≡ self.old.lines }
         ensures ok { OnOk result ((rest : List (List ℕ))
@@ -110,7 +110,7 @@ impl Stones {
         }
     }
 
-    /// The stones of the list, where it ends here.
+    /// The stones of the list that ends here.
     fn finish(self) -> Result<ArrayVec<Point, MAX_POINTS>, ListError>
         ensures ok { IfOk result (λ points. gathers self (Some []) ≡ Ok points.items) }
         ensures err { IfErr result (λ error. gathers self (Some []) ≡ Err error) }
@@ -124,7 +124,7 @@ impl Stones {
     }
 }
 
-/// Whether a point is none of these points, and one more is left behind it.
+/// Whether a point is new among these points, and leaves one point of the board.
 fn can_follow(points: &[Point], point: Point, size: Size) -> bool
     requires points { All (IsOn size) points.now }
     requires point { IsOn size point }
@@ -133,7 +133,7 @@ fn can_follow(points: &[Point], point: Point, size: Size) -> bool
     points.len() + 1 < usize::from(size.points()) && !has_number(points, point.index(size), size)
 }
 
-/// Whether the point with this number is among points of the board.
+/// Whether the point with this number is among these points.
 fn has_number(points: &[Point], number: u16, size: Size) -> bool
     requires { All (IsOn size) points.now }
     ensures { result ≡ list_any (λ p. number_of size p == number) points.now }

@@ -5,7 +5,7 @@ ghost use Rattle.goref_lines.specs.Words.{is_plain_space, words};
 
 use std::marker::Model;
 
-/// The words of a text that are still to come.
+/// The words of a text that weren't taken yet.
 #[derive(Drop)]
 pub struct Words<'a> {
     /// Words that are joined by single spaces.
@@ -29,7 +29,7 @@ impl<'a> Words<'a> {
         Words { text }
     }
 
-    /// Takes the next word, or gives none where no word is left.
+    /// Takes the next word. None: no word is left.
     pub fn next_word(&mut self) -> Option<&'a [u8]>
         ensures none { IfNone result ((self.old ≡ []) × (self.new ≡ [])) }
         ensures some { IfSome result (λ w. self.old ≡ w.now ∷ self.new) }
@@ -43,7 +43,7 @@ impl<'a> Words<'a> {
         Some(word)
     }
 
-    /// The word at this place among those that are still to come, the first at 0.
+    /// The word at this place among those that weren't taken yet, from 0.
     pub(crate) fn word(&self, place: usize) -> Option<&'a [u8]>
         ensures { option_copied result ≡ slice_get self.now place }
     {
@@ -58,7 +58,7 @@ impl<'a> Words<'a> {
     }
 }
 
-/// The word of a text at this place, the first at 0.
+/// The word of a text at this place, from 0.
 pub(crate) fn word(text: &[u8], place: usize) -> Option<&[u8]>
     ensures { option_copied result ≡ slice_get (words text.now) place }
 {
@@ -75,7 +75,7 @@ fn count_spaces(text: &[u8]) -> usize
     text.iter().take_while(|byte| **byte == b' ').count()
 }
 
-/// How many bytes stand before the first space of a text.
+/// How many bytes come before the first space of a text.
 fn word_len(text: &[u8]) -> usize
     ensures value { result ≡ prefix_len (λ b. not (is_plain_space b)) text.now }
     ensures bound { result ≤ length text.now }

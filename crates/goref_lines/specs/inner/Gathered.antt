@@ -1,4 +1,4 @@
--- The words in which the private functions of a reader of stones say how far it has come.
+-- How far a list of stones is read, for the contracts of private functions.
 use Rattle.std.specs.Prelude.{◌≡◌, ℕ, ◌+◌, ◌*◌, ◌<◌, ◌==◌, ◌&&◌, nat_lt, not, true, Bool, List, ◌++◌, length, map, All, Option, Some, None, option_map, Result, Err}
 use Rattle.std.specs.List.{list_any}
 use Rattle.go_board.specs.declared.point.Point.{Point}
@@ -8,30 +8,28 @@ use Rattle.goref_lines.specs.declared.stones.ListError.{ListError}
 use Rattle.goref_lines.specs.declared.stones.ListError.TheVariants.{Malformed, Bad}
 use Rattle.goref_lines.specs.Stones.{are_distinct, points_on, stones_of}
 
--- the points of a list as far as it is read, on a board of so many lines, or none where the list is
--- bad already
+-- the points of a list so far, on a board of this many lines, or none where the list is bad already
 pub record Gathered : Type 0 where
   pub lines : ℕ
   pub points : Option (List Point)
 
--- the points are on the board, each stands once, and one is left
+-- the points are on the board, each is there once, and one point of the board is left
 pub record AreApart (n : ℕ) (points : List Point) : Type 0 where
   pub on : All (IsOn n) points
   pub few : length points < n * n
   pub distinct : are_distinct (map (number_of n) points) ≡ true
 
--- a point stands nowhere among points, and one more is left behind it
+-- a point is not among these points, and one more point of the board is left
 abbrev pub may_follow : ℕ → List Point → Point → Bool
 may_follow n points p =
     nat_lt (length points + 1) (n * n) && not (list_any (λ q. number_of n q == number_of n p) points)
 
--- what a list comes to that began with these points, or is bad already, and goes on with these
--- vertices
+-- the result of a list that began with these points, or is bad already, and goes on with these vertices
 abbrev pub comes_from : ℕ → Option (List Point) → List Vertex → Result (List Point) ListError
 comes_from n None vertices = Err Bad
 comes_from n (Some points) vertices = stones_of n (option_map (λ more. points ++ more) (points_on n vertices))
 
--- what a list comes to of which so much is gathered, and whose other words spell these vertices
+-- the result of a list with these points so far, whose other words spell these vertices
 abbrev pub gathers : Gathered → Option (List Vertex) → Result (List Point) ListError
 gathers g None = Err Malformed
 gathers g (Some vertices) = comes_from g.lines g.points vertices

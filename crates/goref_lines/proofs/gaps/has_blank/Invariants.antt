@@ -1,6 +1,6 @@
 use Rattle.std.proofs.Common.{◌≡◌, length}
 use Rattle.std.specs.List.{list_any}
-use Rattle.goref_lines.specs.inner.Front.{is_blank_byte}
+use Rattle.goref_lines.specs.inner.Prefixes.{is_blank_byte}
 use Rattle.goref_lines.proofs.gaps.has_blank.Given as goal
 
 abbrev pub invariant-loop-more : goal.invariant-loop-more

@@ -1,6 +1,6 @@
 use Rattle.std.proofs.Common.{◌≡◌, take}
 use Rattle.std.specs.List.{list_all}
-use Rattle.goref_lines.specs.inner.Front.{is_gap_byte}
+use Rattle.goref_lines.specs.inner.Prefixes.{is_gap_byte}
 use Rattle.goref_lines.proofs.gaps.is_gap.Given as goal
 
 abbrev pub invariant-loop-byte : goal.invariant-loop-byte

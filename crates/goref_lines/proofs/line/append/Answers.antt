@@ -9,8 +9,8 @@ returns-then-bytes-room c = λ whole kept.
     let text = c.args.text.now.items in
     let room : length text + length c.args.bytes.now ≤ LINE_LIMIT = grind (arith, nat_tests) in
     record {
-      front = c.extend_text.ensures ∙ front_room LINE_LIMIT text whole kept.front c.args.bytes.now room;
-      longer = longer_room LINE_LIMIT text whole kept.front c.args.bytes.now c.args.is_long.now room kept.longer;
+      prefix = c.extend_text.ensures ∙ front_room LINE_LIMIT text whole kept.prefix c.args.bytes.now room;
+      longer = longer_room LINE_LIMIT text whole kept.prefix c.args.bytes.now c.args.is_long.now room kept.longer;
     }
 
 pub returns-else-bytes-room : goal.returns-else-bytes-room
@@ -20,6 +20,7 @@ returns-else-bytes-room c = λ whole kept.
     let full : room + length text ≡ LINE_LIMIT = c.remaining_capacity-room.ensures in
     let more : room < length c.args.bytes.now = grind (arith, nat_tests) in
     record {
-      front = c.extend_text-else-bytes-room.ensures ∙ ap (λ bytes. text ++ bytes) c.split_at.ensures.front ∙ front_cut LINE_LIMIT text whole kept.front c.args.bytes.now room full more;
-      longer = longer_cut LINE_LIMIT text whole kept.front c.args.bytes.now room full more;
+      prefix = c.extend_text-else-bytes-room.ensures ∙ ap (λ bytes. text ++ bytes) c.split_at.ensures.front
+          ∙ front_cut LINE_LIMIT text whole kept.prefix c.args.bytes.now room full more;
+      longer = longer_cut LINE_LIMIT text whole kept.prefix c.args.bytes.now room full more;
     }

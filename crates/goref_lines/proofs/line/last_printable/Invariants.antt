@@ -1,6 +1,6 @@
 use Rattle.std.proofs.Common.{◌≡◌, length}
 use Rattle.goref_lines.specs.Kept.{printable}
-use Rattle.goref_lines.specs.inner.Front.{last_of}
+use Rattle.goref_lines.specs.inner.Prefixes.{last_of}
 use Rattle.goref_lines.proofs.line.last_printable.Given as goal
 
 abbrev pub invariant-loop-last : goal.invariant-loop-last

@@ -10,7 +10,8 @@ loop-word-init c =
     record {
       lines = c.push.ensures.lines ∙ c.new-stones.ensures.lines;
       goes_on = sym (c.in_ok-push-in-Some.ensures.ok rest)
-          ∙ begins n c.new-stones.result c.new-stones.ensures.lines c.new-stones.ensures.points (spelled (c.in-Some.word.now ∷ rest))
+          ∙ begins n c.new-stones.result c.new-stones.ensures.lines c.new-stones.ensures.points
+          (spelled (c.in-Some.word.now ∷ rest))
           ∙ ap (stones_listed n) (sym c.in-Some.ensures.some);
     }
 

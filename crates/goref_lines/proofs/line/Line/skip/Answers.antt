@@ -8,12 +8,13 @@ pub returns-then-self : goal.returns-then-self
 returns-then-self c = λ line is. kept_in_comment line c.args.bytes.now c.args.self.now is
     (ap (λ (k : Kept). k.has_comment) (sym c.self.view_is) ∙ c.if-self.true)
 
-pub skip_plain-requires-clause-bytes : goal.skip_plain-requires-clause-bytes
-skip_plain-requires-clause-bytes c =
-    ap (list_any is_hash) c.split_at.ensures.front ∙ (one_found c.args.bytes.now c.in-Some.place c.in-Some.ensures).before
+pub skip_before_comment-requires-clause-bytes : goal.skip_before_comment-requires-clause-bytes
+skip_before_comment-requires-clause-bytes c =
+    ap (list_any is_hash) c.split_at.ensures.front
+    ∙ (one_found c.args.bytes.now c.in-Some.place c.in-Some.ensures).before
 
-pub skip_plain-requires-in-None-clause-bytes : goal.skip_plain-requires-in-None-clause-bytes
-skip_plain-requires-in-None-clause-bytes c = none_found c.args.bytes.now c.in-None.ensures
+pub skip_before_comment-requires-in-None-clause-bytes : goal.skip_before_comment-requires-in-None-clause-bytes
+skip_before_comment-requires-in-None-clause-bytes c = none_found c.args.bytes.now c.in-None.ensures
 
 pub returns-in-Some : goal.returns-in-Some
 returns-in-Some c = λ line is.
@@ -21,11 +22,18 @@ returns-in-Some c = λ line is.
     let found = one_found bytes c.in-Some.place c.in-Some.ensures in
     let front = c.split_at.result.0.now in
     let k = c.self-in-Some.inside in
-    let plain : Kept = record { text = k.text.items; is_long = k.is_long; has_comment = k.has_comment; has_space = k.has_space } in
+    let plain : Kept = record {
+      text = k.text.items;
+      is_long = k.is_long;
+      has_comment = k.has_comment;
+      has_space =
+          k.has_space;
+    } in
     let none : plain.has_comment ≡ false =
-    ap (λ (x : Kept). x.has_comment) c.self-in-Some.view_is ∙ c.skip_plain.ensures.plain
+    ap (λ (x : Kept). x.has_comment) c.self-in-Some.view_is ∙ c.skip_before_comment.ensures.no_comment
     ∙ ap (λ (x : Kept). x.has_comment) (sym c.self.view_is) ∙ c.if-self.false in
-    kept_from_hash (line ++ front) (drop 1 (drop c.in-Some.place bytes)) plain (c.self-in-Some.view_is ∙ c.skip_plain.ensures.line line is) none
+    kept_from_hash (line ++ front) (drop 1 (drop c.in-Some.place bytes)) plain
+    (c.self-in-Some.view_is ∙ c.skip_before_comment.ensures.line line is) none
     ∙ ap kept (append_assoc line front (35 ∷ drop 1 (drop c.in-Some.place bytes)))
     ∙ ap (λ t. kept (line ++ (t ++ 35 ∷ drop 1 (drop c.in-Some.place bytes)))) c.split_at.ensures.front
     ∙ ap (λ t. kept (line ++ t)) (sym found.whole)

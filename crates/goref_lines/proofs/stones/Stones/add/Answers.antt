@@ -13,7 +13,9 @@ invariant_of-self c =
     let points = c.self.inside.points.items in
     let lines : n ≡ c.args.self.now.lines = ap (λ (g : Gathered). g.lines) c.self.view_is in
     let on : IsOn n c.args.point = (omega (arith, lines), omega (arith, lines)) in
-    let follows : may_follow n points c.args.point ≡ true = ap (λ ps. may_follow n ps c.args.point) (sym c.deref.ensures.0) ∙ sym c.can_follow.ensures ∙ c.if-can_follow.true in
+    let follows : may_follow n points c.args.point ≡ true =
+    ap (λ ps. may_follow n ps c.args.point) (sym c.deref.ensures.0) ∙ sym c.can_follow.ensures
+    ∙ c.if-can_follow.true in
     rw c.push.ensures.items (apart_more n points c.args.point c.self.invariant on follows)
 
 pub returns-then-can_follow-clause-goes_on : goal.returns-then-can_follow-clause-goes_on
@@ -23,7 +25,8 @@ returns-then-can_follow-clause-goes_on c = λ rest.
     let on : IsOn n c.args.point = (omega (arith, lines), omega (arith, lines)) in
     ap (λ (g : Gathered). gathers g (with_first (Some (At c.args.point)) rest)) (sym c.self.view_is)
     ∙ grows n c.self.inside.points.items c.args.point on c.self.inside.is_bad rest
-    ∙ ap (λ ps. gathers (record { lines = n; points = unless_bad c.self.inside.is_bad ps }) rest) (sym c.push.ensures.items)
+    ∙ ap (λ ps. gathers (record { lines = n; points = unless_bad c.self.inside.is_bad ps }) rest)
+    (sym c.push.ensures.items)
 
 pub returns-else-can_follow-clause-goes_on : goal.returns-else-can_follow-clause-goes_on
 returns-else-can_follow-clause-goes_on c = λ rest.
@@ -31,6 +34,8 @@ returns-else-can_follow-clause-goes_on c = λ rest.
     let points = c.self.inside.points.items in
     let lines : n ≡ c.args.self.now.lines = ap (λ (g : Gathered). g.lines) c.self.view_is in
     let on : IsOn n c.args.point = (omega (arith, lines), omega (arith, lines)) in
-    let stuck : may_follow n points c.args.point ≡ false = ap (λ ps. may_follow n ps c.args.point) (sym c.deref.ensures.0) ∙ sym c.can_follow.ensures ∙ c.if-can_follow.false in
+    let stuck : may_follow n points c.args.point ≡ false =
+    ap (λ ps. may_follow n ps c.args.point) (sym c.deref.ensures.0) ∙ sym c.can_follow.ensures
+    ∙ c.if-can_follow.false in
     ap (λ (g : Gathered). gathers g (with_first (Some (At c.args.point)) rest)) (sym c.self.view_is)
     ∙ spoils n points c.args.point on c.self.inside.is_bad rest stuck

@@ -1,7 +1,7 @@
 use Rattle.std.proofs.Common.{[], ◌++◌, ◌∙◌, refl, sym, ap, append_assoc}
 use Rattle.std.proofs.lemmas.List.Folds.{list_all-append}
-use Rattle.goref_lines.specs.inner.Front.{is_gap_byte}
-use Rattle.goref_lines.proofs.gaps.behind_blocks.Goals as goal
+use Rattle.goref_lines.specs.inner.Prefixes.{is_gap_byte}
+use Rattle.goref_lines.proofs.gaps.after_blocks.Goals as goal
 
 pub loop-more-init : goal.loop-more-init
 loop-more-init c = ([], refl, refl)

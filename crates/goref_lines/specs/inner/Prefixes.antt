@@ -1,13 +1,13 @@
--- The words in which the private functions of a line say how it grows.
+-- How a line grows, for the contracts of its private functions.
 use Rattle.std.specs.Prelude.{◌≡◌, ◌-◌, ℕ, nat_lt, ◌&&◌, ◌||◌, not, Bool, true, false, if◌then◌else◌, List, [], ◌∷◌, Option, Some, None, take, length}
 use Rattle.std.specs.List.{list_all}
 use Rattle.goref_lines.specs.Kept.{is_control_byte, is_hash, spaced}
 use Rattle.goref_lines.specs.Words.{is_plain_space}
 use Rattle.goref_lines.specs.declared.line.TheConstants.{LINE_LIMIT}
 
--- the front of a text that is kept, and whether the text is longer
-pub record KeepsFront (text : List ℕ) (is_long : Bool) (whole : List ℕ) : Type 0 where
-  pub front : text ≡ take LINE_LIMIT whole
+-- the prefix of a text that is kept, and whether the text is longer
+pub record KeepsPrefix (text : List ℕ) (is_long : Bool) (whole : List ℕ) : Type 0 where
+  pub prefix : text ≡ take LINE_LIMIT whole
   pub longer : is_long ≡ nat_lt LINE_LIMIT (length whole)
 
 -- bytes of a word, and a space before them where one is due
@@ -22,18 +22,19 @@ is_blank_byte b = is_plain_space (spaced b)
 abbrev pub is_word_byte : ℕ → Bool
 is_word_byte b = not (is_control_byte b) && (not (is_hash b) && not (is_blank_byte b))
 
--- the bytes go on with words that are joined by single spaces, behind a byte of a word or behind
--- none, up to the end of a word
+-- the bytes go on with words that are joined by single spaces, after a byte of a word or after none, up to
+-- the end of a word
 abbrev pub goes_on_joined : Bool → List ℕ → Bool
-goes_on_joined behind [] = behind
-goes_on_joined behind (b ∷ bytes) = if is_word_byte b then goes_on_joined true bytes else ((is_plain_space b && behind) && goes_on_joined false bytes)
+goes_on_joined after_word [] = after_word
+goes_on_joined after_word (b ∷ bytes) = if is_word_byte b then goes_on_joined true bytes else
+    ((is_plain_space b && after_word) && goes_on_joined false bytes)
 
 -- one word or more, joined by single spaces
 abbrev pub AreJoined : List ℕ → Type 0
 AreJoined bytes = goes_on_joined false bytes ≡ true
 
--- where words end that stand up to a place, the last of them from a start on: before the blank in
--- front of it, where it has no byte yet
+-- where the words before a place end, the last of which begins at a start: if it has no byte yet, they end
+-- before the space that comes before it
 abbrev pub end_of_words : ℕ → ℕ → ℕ
 end_of_words start place = if nat_lt start place then place else start - 1
 
@@ -49,7 +50,7 @@ last_of [] = None
 last_of (b ∷ []) = Some b
 last_of (b ∷ c ∷ bytes) = last_of (c ∷ bytes)
 
--- whether a space stands last behind more bytes: their last says it, where there is one
+-- whether white space came last after more bytes: their last byte decides it, where there is one
 abbrev pub space_after : Bool → Option ℕ → Bool
 space_after has_space None = has_space
 space_after has_space (Some b) = is_plain_space (spaced b)

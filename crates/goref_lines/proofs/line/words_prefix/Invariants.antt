@@ -1,8 +1,8 @@
 use Rattle.std.specs.List.{prefix_len}
 use Rattle.std.proofs.Common.{◌≡◌, ◌<◌, ◌⊎◌}
-use Rattle.goref_lines.specs.inner.Front.{is_word_byte}
+use Rattle.goref_lines.specs.inner.Prefixes.{is_word_byte}
 use Rattle.goref_lines.proofs.Pieces.{WordsUpTo}
-use Rattle.goref_lines.proofs.line.words_front.Given as goal
+use Rattle.goref_lines.proofs.line.words_prefix.Given as goal
 
 abbrev pub invariant-loop-place : goal.invariant-loop-place
 invariant-loop-place l = record {
