@@ -13,8 +13,10 @@ module _ (test : ℕ → Bool) (n p : ℕ) where
 
   pub found_earlier : (q : ℕ) → p < n * n → q < p → test q ≡ true → list_any is_earlier (points n) ≡ true
   found_earlier q on low e =
-      let is : get_or (points n) q 0 ≡ q = get_or-range_with_len 0 (n * n) q 0 (omega arith) ∙ (let z : 0 + q ≡ q = omega arith in z) in
-      list_any_at is_earlier (points n) q 0 (rw (length-range_with_len 0 (n * n)) (omega arith)) (ap is_earlier is ∙ (rw (lt-ltb q p low, e) refl))
+      let is : get_or (points n) q 0 ≡ q = get_or-range_with_len 0 (n * n) q 0 (omega arith)
+      ∙ (let z : 0 + q ≡ q = omega arith in z) in
+      list_any_at is_earlier (points n) q 0 (rw (length-range_with_len 0 (n * n)) (omega arith))
+      (ap is_earlier is ∙ (rw (lt-ltb q p low, e) refl))
 
   pub some_earlier : list_any is_earlier (points n) ≡ true → (q : ℕ) × (q < p) × (test q ≡ true)
   some_earlier some =

@@ -1,6 +1,6 @@
 pub mod Listing
 pub mod Earlier
-pub mod Telling
+pub mod SeenChains
 pub mod RowNumbers
 pub mod Marking
 pub mod Spaced

@@ -22,27 +22,35 @@ module _ (test : ℕ → Bool) where
   none_below a zero = refl
   none_below a (suc len) = cons (ap (λ b. b && test a) (le-ltb a 0 (omega arith))) (none_below (a + 1) len)
 
-  beyond : (k a len : ℕ) → k < a → map (passes_below k) (range_with_len a len) ≡ map (passes_below (k + 1)) (range_with_len a len)
+  beyond : (k a len : ℕ) → k < a →
+      map (passes_below k) (range_with_len a len) ≡ map (passes_below (k + 1)) (range_with_len a len)
   beyond k a zero h = refl
   beyond k a (suc len) h =
-      cons (ap (λ b. b && test a) (le-ltb a k (omega arith) ∙ sym (le-ltb a (k + 1) (omega arith)))) (beyond k (a + 1) len (omega arith))
+      cons (ap (λ b. b && test a) (le-ltb a k (omega arith) ∙ sym (le-ltb a (k + 1) (omega arith))))
+      (beyond k (a + 1) len (omega arith))
 
   -- one more number is marked as the test says
-  mark_from : (a len j k : ℕ) (b : Bool) → j < len → a + j ≡ k → b ≡ test k → slice_set (map (passes_below k) (range_with_len a len)) j b ≡ map (passes_below (k + 1)) (range_with_len a len)
+  mark_from : (a len j k : ℕ) (b : Bool) → j < len → a + j ≡ k → b ≡ test k →
+      slice_set (map (passes_below k) (range_with_len a len)) j b ≡ map (passes_below (k + 1)) (range_with_len a len)
   mark_from a zero j k b h e is = absurd (omega arith)
   mark_from a (suc len) zero k b h e is =
       let here : k ≡ a = omega arith in
-      cons (is ∙ ap test here ∙ ap (λ c. c && test a) (sym (lt-ltb a (k + 1) (omega arith)))) (beyond k (a + 1) len (omega arith))
+      cons (is ∙ ap test here ∙ ap (λ c. c && test a) (sym (lt-ltb a (k + 1) (omega arith))))
+      (beyond k (a + 1) len (omega arith))
   mark_from a (suc len) (suc j) k b h e is =
-      cons (ap (λ c. c && test a) (lt-ltb a k (omega arith) ∙ sym (lt-ltb a (k + 1) (omega arith)))) (mark_from (a + 1) len j k b (omega arith) (omega arith) is)
+      cons (ap (λ c. c && test a) (lt-ltb a k (omega arith) ∙ sym (lt-ltb a (k + 1) (omega arith))))
+      (mark_from (a + 1) len j k b (omega arith) (omega arith) is)
 
-  pub mark_more : (len k : ℕ) (b : Bool) → k < len → b ≡ test k → slice_set (map (passes_below k) (range_with_len 0 len)) k b ≡ map (passes_below (k + 1)) (range_with_len 0 len)
+  pub mark_more : (len k : ℕ) (b : Bool) → k < len → b ≡ test k →
+      slice_set (map (passes_below k) (range_with_len 0 len)) k b ≡ map (passes_below (k + 1)) (range_with_len 0 len)
   mark_more len k b h is = mark_from 0 len k k b h (omega arith) is
 
 -- a mark says what the test says of the number
-marked_is : (test : ℕ → Bool) (k len p : ℕ) → p < k → p < len → slice_index_or (map (passes_below test k) (range_with_len 0 len)) p false ≡ test p
+marked_is : (test : ℕ → Bool) (k len p : ℕ) → p < k → p < len →
+    slice_index_or (map (passes_below test k) (range_with_len 0 len)) p false ≡ test p
 marked_is test k len p below here =
-    get_or-map-range_with_len (passes_below test k) 0 len p p false here (omega arith) ∙ ap (λ b. b && test p) (lt-ltb p k below)
+    get_or-map-range_with_len (passes_below test k) 0 len p p false here (omega arith)
+    ∙ ap (λ b. b && test p) (lt-ltb p k below)
 
 square : (n : ℕ) → n ≤ MAX_LINES → n * n ≤ MAX_POINTS
 square n small = mul-le-mul small small

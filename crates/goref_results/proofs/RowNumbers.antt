@@ -26,21 +26,25 @@ table = refl
 
 is_spelled : (n : ℕ) → n ≤ 256 → decimal n ≡ spelled n
 unfolding holds
-is_spelled n small = (bytes_eq-Decides (decimal n) (spelled n)).0 (agree_below_at holds (λ _. true) 257 n table (omega (arith, small)))
+is_spelled n small = (bytes_eq-Decides (decimal n) (spelled n)).0
+    (agree_below_at holds (λ _. true) 257 n table (omega (arith, small)))
 
 -- the digits by how many there are
 pub has_one : (n : ℕ) → n < 10 → decimal n ≡ one_digit n
 unfolding spelled
-has_one n few = is_spelled n (omega (arith, few)) ∙ ap (λ b. cond b (one_digit n) (cond (nat_lt n 100) (two_digits n) (three_digits n))) (lt-ltb n 10 few)
+has_one n few = is_spelled n (omega (arith, few))
+    ∙ ap (λ b. cond b (one_digit n) (cond (nat_lt n 100) (two_digits n) (three_digits n))) (lt-ltb n 10 few)
 
 pub has_two : (n : ℕ) → 10 ≤ n → n < 100 → decimal n ≡ two_digits n
 unfolding spelled
 has_two n some few =
-    is_spelled n (omega (arith, few)) ∙ ap (λ b. cond b (one_digit n) (cond (nat_lt n 100) (two_digits n) (three_digits n))) (le-ltb n 10 some)
+    is_spelled n (omega (arith, few))
+    ∙ ap (λ b. cond b (one_digit n) (cond (nat_lt n 100) (two_digits n) (three_digits n))) (le-ltb n 10 some)
     ∙ ap (λ b. cond b (two_digits n) (three_digits n)) (lt-ltb n 100 few)
 
 pub has_three : (n : ℕ) → 100 ≤ n → n ≤ 256 → decimal n ≡ three_digits n
 unfolding spelled
 has_three n some few =
-    is_spelled n few ∙ ap (λ b. cond b (one_digit n) (cond (nat_lt n 100) (two_digits n) (three_digits n))) (le-ltb n 10 (omega (arith, some)))
+    is_spelled n few ∙ ap (λ b. cond b (one_digit n) (cond (nat_lt n 100) (two_digits n) (three_digits n)))
+    (le-ltb n 10 (omega (arith, some)))
     ∙ ap (λ b. cond b (two_digits n) (three_digits n)) (le-ltb n 100 some)

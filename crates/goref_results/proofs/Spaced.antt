@@ -9,4 +9,5 @@ use Rattle.goref_results.specs.Results.{result_text}
 use Rattle.goref_results.proofs.Listing.{result_spaced}
 
 pub numbers_spaced : (n : ℕ) (ps : List ℕ) → flat_map (spaced_vertex n) ps ≡ result_text (numbers_text n ps)
-numbers_spaced n ps = result_spaced (number_word n) (λ p. (letter_of_column (point_at n p).col, decimal ((point_at n p).row + 1), refl)) ps
+numbers_spaced n ps = result_spaced (number_word n)
+    (λ p. (letter_of_column (point_at n p).col, decimal ((point_at n p).row + 1), refl)) ps

@@ -8,7 +8,7 @@ use Rattle.go_board.specs.Chains.{first_stones, members, liberties}
 use Rattle.go_board.specs.Points.{point_at}
 use Rattle.go_board.specs.Vertices.{vertex_word}
 
--- the vertex of a point, behind a space
+-- the vertex of a point, after a space
 abbrev pub spaced_vertex : ℕ → ℕ → List ℕ
 spaced_vertex n p = 32 ∷ vertex_word (At (point_at n p))
 
@@ -17,7 +17,7 @@ abbrev pub stone_text : Option Colour → List ℕ
 stone_text None = []
 stone_text (Some c) = letter_of c ∷ []
 
--- the chain of a stone: its colour, its stones, and behind a colon its liberties
+-- the chain of a stone: its colour, its stones, and after a colon its liberties
 abbrev pub chain_line : ℕ → Colouring → ℕ → List ℕ
 chain_line n g p =
     stone_text (colour_at g p)

@@ -24,22 +24,22 @@ abbrev pub prisoners_text : Standing → List ℕ
 prisoners_text s =
     codes " prisoners B " ++ (decimal (prisoners_of s Black) ++ (codes " W " ++ decimal (prisoners_of s White)))
 
--- and how many moves stand, and whose turn it is
+-- and the number of moves, and whose turn it is
 abbrev pub turn_text : Standing → List ℕ
 turn_text s = codes " moves " ++ (decimal (length s.moves) ++ (codes " next " ++ letter_of (mover_of s) ∷ []))
 
--- a number, right in two places
+-- a number, right-aligned in two columns
 abbrev pub padding_of : ℕ → List ℕ
 padding_of n = if nat_lt n 10 then codes " " else []
 
 abbrev pub right_in_two : ℕ → List ℕ
 right_in_two n = padding_of n ++ decimal n
 
--- a point of a row, behind a space
+-- a point of a row, after a space
 abbrev pub spaced_mark : ℕ → Colouring → ℕ → ℕ → List ℕ
 spaced_mark n g row col = 32 ∷ mark_of (colour_at g (row * n + col)) ∷ []
 
--- so many points of a row, from the left
+-- the first `count` points of a row, from the left
 abbrev pub marks_text : ℕ → Colouring → ℕ → ℕ → List ℕ
 marks_text n g row count = flat_map (spaced_mark n g row) (range_with_len 0 count)
 
@@ -47,7 +47,7 @@ marks_text n g row count = flat_map (spaced_mark n g row) (range_with_len 0 coun
 abbrev pub row_text : ℕ → Colouring → ℕ → List ℕ
 row_text n g row = codes "\n" ++ (right_in_two (row + 1) ++ marks_text n g row n)
 
--- so many rows, from the top
+-- the first `count` rows, from the top
 abbrev pub rows_text : ℕ → Colouring → ℕ → List ℕ
 rows_text n g count = flat_map (λ k. row_text n g (n - 1 - k)) (range_with_len 0 count)
 

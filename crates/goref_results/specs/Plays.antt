@@ -10,8 +10,7 @@ use Rattle.go_board.specs.Vertices.{vertex_word}
 use Rattle.go_game.specs.Choices.{legal_plays, may_play}
 use Rattle.go_game.specs.Standings.{Standing}
 
--- of the first so many points those on which the colour may play, among the numbers of the largest
--- board's points
+-- of the first k points those on which the colour may play, among the numbers of the largest board's points
 abbrev pub marked_below : ℕ → Standing → Colour → List Bool
 marked_below k s c = map (λ p. nat_lt p k && may_play s c p) (range_with_len 0 MAX_POINTS)
 
@@ -35,7 +34,7 @@ plays_text n marks = numbers_text n (filter (λ p. slice_index_or marks p false)
 abbrev pub legal_text : Standing → Colour → List ℕ
 legal_text s c = numbers_text s.lines (legal_plays s c)
 
--- on any board, what is written of the marked plays is the list of the legal ones
+-- on any board, the text of the marked plays is the list of the legal ones
 abbrev pub MarksAreLegal : Type 0
 MarksAreLegal = (s : Standing) (c : Colour)
     → s.lines ≤ MAX_LINES → plays_text s.lines (marked_plays s c) ≡ legal_text s c

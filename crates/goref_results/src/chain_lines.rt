@@ -1,5 +1,5 @@
-//! The chains of a game, each with its stones and its liberties. A set of the stones already written tells
-//! which stone is the first of its chain.
+//! The chains of a game, each with its stones and its liberties. A set has the stones that are written
+//! already. It shows which stone is the first of its chain.
 ghost use Rattle.std.specs.Prelude.{◌≡◌, ◌+◌, ◌∷◌, [], All, IsSome, if◌then◌else◌};
 ghost use Rattle.std.specs.List.{flat_map};
 ghost use Rattle.go_board.specs.Grids.{is_first_stone, stone_at};
@@ -11,7 +11,7 @@ ghost use Rattle.goref_results.specs.Results.{result_text};
 ghost use Rattle.goref_results.specs.ChainLines.{chain_lines, stone_text};
 ghost use Rattle.goref_results.specs.inner.Texts.{line_of_chain};
 ghost use Rattle.goref_results.specs.inner.Texts.{spaced_point};
-ghost use Rattle.goref_results.specs.inner.Told.{AreTold, TellsAll, TellsChain};
+ghost use Rattle.goref_results.specs.inner.Seen.{AreSeen, GainsPoints, GainsChain};
 
 use crate::point_text::put_spaced;
 use go_board::laws::{joined_by_a_path, points_by_number};
@@ -20,81 +20,81 @@ use go_board::{Pen, Point, Sink};
 use go_game::{ChainPoints, Game};
 use std::alloc::Allocator;
 
-/// Writes the chains of a game: the first behind a space, each further one on a line of its own.
+/// Writes the chains of a game: the first after a space, each further one on a line of its own.
 pub fn put_chains<A: Allocator + Copy, W: Sink>(game: &Game<A>, pen: &mut Pen<'_, W>)
     ensures { Writes W.Sink pen.old pen.new
         (result_text (chain_lines game.now.standing.lines (board_of game.now.standing))) }
 {
     let size = game.size();
-    let mut told = [0; ROWS];
+    let mut seen = [0; ROWS];
     let mut before = b' ';
     for number in 0..size.points() {
         let at = Point::numbered(size, number);
-        before = put_if_first(game, at, before, &mut told, pen);
+        before = put_if_first(game, at, before, &mut seen, pen);
     }
 }
 
-/// Writes the chain of a stone that is its first, and gives the byte that stands before the next.
-/// All stones of the chains that were written are told, so that no chain is looked up twice.
+/// Writes the chain of a stone that is its first, and returns the byte to write before the next chain. All
+/// stones of written chains are in `seen`, so that no chain is looked up twice.
 fn put_if_first<A: Allocator + Copy, W: Sink>(
     game: &Game<A>,
     at: Point,
     before: u8,
-    told: &mut Rows,
+    seen: &mut Rows,
     pen: &mut Pen<'_, W>,
 ) -> u8
     requires on { IsOn game.now.standing.lines at }
-    requires told { AreTold game.now.standing.lines (board_of game.now.standing)
-        (number_of game.now.standing.lines at) told.old }
+    requires seen { AreSeen game.now.standing.lines (board_of game.now.standing)
+        (number_of game.now.standing.lines at) seen.old }
     ensures line { Writes W.Sink pen.old pen.new
         (if is_first_stone (present game.now.standing) at
         then before ∷ line_of_chain (present game.now.standing) at else []) }
     ensures next { result
         ≡ (if is_first_stone (present game.now.standing) at then 10 else before) }
-    ensures told { AreTold game.now.standing.lines (board_of game.now.standing)
-        (number_of game.now.standing.lines at + 1) told.new }
+    ensures seen { AreSeen game.now.standing.lines (board_of game.now.standing)
+        (number_of game.now.standing.lines at + 1) seen.new }
 {
     points_by_number();
     joined_by_a_path();
-    if is_first(game, told, at) {
+    if is_first(game, seen, at) {
         pen.put(&[before]);
-        put_chain(game, at, told, pen);
+        put_chain(game, at, seen, pen);
         return b'\n';
     }
     before
 }
 
-/// Whether a point holds a stone that is the first of its chain: one that isn't told.
-fn is_first<A: Allocator + Copy>(game: &Game<A>, told: &Rows, at: Point) -> bool
+/// Whether a point holds a stone that is the first of its chain: one that isn't in `seen`.
+fn is_first<A: Allocator + Copy>(game: &Game<A>, seen: &Rows, at: Point) -> bool
     requires on { IsOn game.now.standing.lines at }
-    requires told { AreTold game.now.standing.lines (board_of game.now.standing)
-        (number_of game.now.standing.lines at) told.now }
+    requires seen { AreSeen game.now.standing.lines (board_of game.now.standing)
+        (number_of game.now.standing.lines at) seen.now }
     ensures { result ≡ is_first_stone (present game.now.standing) at }
 {
     points_by_number();
     prove!(at.on(game.size()));
     let (row, col) = row_and_column(at);
-    game.colour_at(at).is_some() && !has_place(told, row, col)
+    game.colour_at(at).is_some() && !has_place(seen, row, col)
 }
 
-/// Writes the chain of a stone: the letter of its colour, its stones, which are told, and its
-/// liberties.
+/// Writes the chain of a stone: the letter of its colour, its stones and its liberties. Adds the stones to
+/// `seen`.
 fn put_chain<A: Allocator + Copy, W: Sink>(
     game: &Game<A>,
     at: Point,
-    told: &mut Rows,
+    seen: &mut Rows,
     pen: &mut Pen<'_, W>,
 )
     requires on { IsOn game.now.standing.lines at }
     requires stone { IsSome (stone_at (present game.now.standing) at) }
     ensures line { Writes W.Sink pen.old pen.new (line_of_chain (present game.now.standing) at) }
-    ensures told { TellsChain game.now.standing.lines (board_of game.now.standing)
-        (number_of game.now.standing.lines at) told.old told.new }
+    ensures seen { GainsChain game.now.standing.lines (board_of game.now.standing)
+        (number_of game.now.standing.lines at) seen.old seen.new }
 {
     points_by_number();
     prove!(at.on(game.size()));
     put_stone(game, at, pen);
-    put_stones(game.chain_points(at), told, pen);
+    put_stones(game.chain_points(at), seen, pen);
     pen.put(b" :");
     put_each(game.liberty_points(at), pen);
 }
@@ -110,20 +110,20 @@ fn put_stone<A: Allocator + Copy, W: Sink>(game: &Game<A>, at: Point, pen: &mut 
     }
 }
 
-/// Writes stones, each behind a space, and tells them.
-fn put_stones<W: Sink>(stones: ChainPoints<'_>, told: &mut Rows, pen: &mut Pen<'_, W>)
+/// Writes stones, each after a space, and adds them to `seen`.
+fn put_stones<W: Sink>(stones: ChainPoints<'_>, seen: &mut Rows, pen: &mut Pen<'_, W>)
     requires { All (IsOn MAX_LINES) stones }
     ensures written { Writes W.Sink pen.old pen.new (flat_map spaced_point stones.entry) }
-    ensures told { TellsAll stones.entry told.old told.new }
+    ensures seen { GainsPoints stones.entry seen.old seen.new }
 {
     for at in stones {
         put_spaced(at, pen);
         let (row, col) = row_and_column(at);
-        put_place(told, row, col);
+        put_place(seen, row, col);
     }
 }
 
-/// Writes points, each behind a space.
+/// Writes points, each after a space.
 fn put_each<W: Sink>(points: ChainPoints<'_>, pen: &mut Pen<'_, W>)
     ensures { Writes W.Sink pen.old pen.new (flat_map spaced_point points.entry) }
 {

@@ -75,7 +75,7 @@ fn put_row<A: Allocator + Copy, W: Sink>(game: &Game<A>, row: u8, pen: &mut Pen<
     put_marks(game, row, pen);
 }
 
-/// Writes a number right in two places.
+/// Writes a number right-aligned in two columns.
 fn put_right_in_two<W: Sink>(number: u64, pen: &mut Pen<'_, W>)
     ensures { Writes W.Sink pen.old pen.new (right_in_two number) }
 {
@@ -83,7 +83,7 @@ fn put_right_in_two<W: Sink>(number: u64, pen: &mut Pen<'_, W>)
     put_number(number, pen);
 }
 
-/// What stands before a number that is right in two places.
+/// What comes before a number that is right-aligned in two columns.
 fn padding(number: u64) -> &'static [u8]
     ensures { result.now ≡ padding_of number }
 {
@@ -119,7 +119,7 @@ fn put_letters<W: Sink>(size: Size, pen: &mut Pen<'_, W>)
     put_columns(COLUMN_LETTERS.split_at(usize::from(size.lines())).0, pen);
 }
 
-/// Writes letters of columns, each behind a space.
+/// Writes the letters of columns, each after a space.
 fn put_columns<W: Sink>(letters: &[u8], pen: &mut Pen<'_, W>)
     ensures { Writes W.Sink pen.old pen.new (flat_map spaced_letter letters.now) }
 {

@@ -2,7 +2,7 @@
 //! function that does nothing.
 ghost use Rattle.goref_results.specs.Plays.{MarksAreLegal};
 
-/// What is written of the marked plays of a colour is the list of its legal plays.
+/// The text of the marked plays of a colour is the list of its legal plays.
 pub fn marks_are_legal()
     ensures { MarksAreLegal }
 {}

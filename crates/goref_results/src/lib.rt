@@ -1,5 +1,5 @@
-//! What commands answer of a game: the score, the diagram, the chains, the places of handicap stones
-//! and the legal plays, each written behind a space as it stands in an answer.
+//! The results in the responses about a game: the score, the diagram, the chains, the places of handicap
+//! stones and the legal plays. Each is written after a space, as in a response.
 #![tactic(auto)]
 
 mod chain_lines;

@@ -8,8 +8,8 @@ ghost use Rattle.go_board.specs.declared.size.TheConstants.{MAX_POINTS};
 use go_board::{MAX_POINTS, PointSet, Points, Size};
 use std::marker::Model;
 
-/// For the number of each point, whether a play there is legal; not where the board has no such
-/// point. It is as small as the numbers of points allow, since a decision carries it.
+/// For the number of each point, whether a play there is legal. None is where the board has no such point. It
+/// is as small as the number of points allows, since a decision carries it.
 #[derive(Drop)]
 pub struct Plays {
     points: PointSet,

@@ -11,8 +11,8 @@ use go_board::{Colour, Move, Pen, Point, Sink, Size, Vertex};
 use go_game::Game;
 use std::alloc::{AllocError, Allocator};
 
-/// The legal plays of a colour. Where what stands around a point doesn't tell, its play is tried on
-/// the game, which holds afterwards what it held, also where there was no memory for a trial.
+/// The legal plays of a colour. Where the stones around a point don't decide, the play is tried on the game.
+/// Afterwards the game is as before, also where there was no memory for a trial.
 pub fn legal_plays<A: Allocator + Copy>(
     game: &mut Game<A>,
     colour: Colour,
@@ -31,7 +31,7 @@ pub fn legal_plays<A: Allocator + Copy>(
     Ok(plays)
 }
 
-/// Writes the vertices of plays, each behind a space.
+/// Writes the vertices of plays, each after a space.
 pub fn put_plays<W: Sink>(size: Size, plays: &Plays, pen: &mut Pen<'_, W>)
     ensures { Writes W.Sink pen.old pen.new (result_text (plays_text size plays.now)) }
 {

@@ -1,4 +1,4 @@
-//! Points behind spaces.
+//! Points after spaces.
 ghost use Rattle.std.specs.Prelude.{◌≡◌, ◌<◌, ◌≤◌, ◌+◌, ◌++◌, decimal, length};
 ghost use Rattle.go_board.specs.Pens.{Writes};
 ghost use Rattle.goref_results.specs.Places.{point_word};
@@ -10,8 +10,8 @@ use go_board::{Pen, Point, Sink, column_letter};
 /// The most bytes of a point: no row has a number of more than three digits.
 const POINT_LEN: usize = 4;
 
-/// Writes a point behind a space. The space is a piece of its own: a device that has no room for the
-/// point may take it.
+/// Writes a space and a point. The space is a piece of its own: a device that has no room for the point may
+/// take it.
 pub(crate) fn put_spaced<W: Sink>(at: Point, pen: &mut Pen<'_, W>)
     ensures { Writes W.Sink pen.old pen.new (spaced_point at) }
 {

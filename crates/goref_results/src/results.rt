@@ -13,7 +13,7 @@ use go_board::{Pen, Point, Sink};
 use go_game::{Game, fixed_points, score_text};
 use std::alloc::Allocator;
 
-/// Writes the score, behind a space.
+/// Writes the score, after a space.
 pub fn put_score<A: Allocator + Copy, W: Sink>(game: &Game<A>, pen: &mut Pen<'_, W>)
     ensures { Writes W.Sink pen.old pen.new
         (result_text (score_word (margin_of game.now.standing))) }
@@ -22,7 +22,7 @@ pub fn put_score<A: Allocator + Copy, W: Sink>(game: &Game<A>, pen: &mut Pen<'_,
     pen.put(score_text(game.margin()).as_bytes());
 }
 
-/// Writes the diagram, behind a space.
+/// Writes the diagram, after a space.
 pub fn put_board<A: Allocator + Copy, W: Sink>(game: &Game<A>, pen: &mut Pen<'_, W>)
     ensures { Writes W.Sink pen.old pen.new (result_text (diagram game.now.standing)) }
 {
@@ -30,7 +30,7 @@ pub fn put_board<A: Allocator + Copy, W: Sink>(game: &Game<A>, pen: &mut Pen<'_,
     put_diagram(game, pen);
 }
 
-/// Writes the places of so many fixed handicap stones, each behind a space.
+/// Writes the places of `number` fixed handicap stones, each after a space.
 pub fn put_places<A: Allocator + Copy, W: Sink>(game: &Game<A>, number: u32, pen: &mut Pen<'_, W>)
     ensures { Writes W.Sink pen.old pen.new
         (result_text (places_text (fixed game.now.standing.lines number))) }
@@ -41,7 +41,7 @@ pub fn put_places<A: Allocator + Copy, W: Sink>(game: &Game<A>, number: u32, pen
     }
 }
 
-/// Writes points, each behind a space.
+/// Writes points, each after a space.
 fn put_points<W: Sink>(points: &[Point], pen: &mut Pen<'_, W>)
     ensures { Writes W.Sink pen.old pen.new (flat_map spaced_point points.now) }
 {

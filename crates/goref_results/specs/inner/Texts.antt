@@ -1,4 +1,4 @@
--- Texts that private functions put.
+-- Texts that private functions write.
 use Rattle.std.specs.Prelude.{ℕ, List, ◌∷◌}
 use Rattle.go_board.specs.declared.point.Point.{Point}
 use Rattle.go_board.specs.Grids.{GridValue}
@@ -6,7 +6,7 @@ use Rattle.go_board.specs.Points.{number_of}
 use Rattle.goref_results.specs.ChainLines.{chain_line}
 use Rattle.goref_results.specs.Places.{point_word}
 
--- the word of a point, behind a space
+-- the word of a point, after a space
 abbrev pub spaced_point : Point → List ℕ
 spaced_point p = 32 ∷ point_word p
 

@@ -6,7 +6,7 @@ use Rattle.go_board.specs.Pens.{Writes}
 use Rattle.go_game.specs.Standings.{board_of}
 use Rattle.goref_results.specs.ChainLines.{chain_line}
 use Rattle.goref_results.specs.Results.{result_text}
-use Rattle.goref_results.specs.inner.Told.{AreTold}
+use Rattle.goref_results.specs.inner.Seen.{AreSeen}
 use Rattle.goref_results.proofs.Listing.{before_next, joined_lines}
 use Rattle.goref_results.proofs.chain_lines.put_chains.Given as goal
 
@@ -18,5 +18,5 @@ invariant-loop-number g l =
     record {
       lines : Writes g.W.Sink l.fn.pen l.pen (result_text (joined_lines (chain_line n board) firsts));
       before : l.before ≡ before_next firsts;
-      told : AreTold n board l.number l.told;
+      seen : AreSeen n board l.number l.seen;
     }

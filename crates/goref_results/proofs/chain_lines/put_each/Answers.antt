@@ -10,8 +10,13 @@ loop-point-preserved g c =
     let text = spaced_point c.in-Some.point in (
       i.0 ++ text,
       writes_writes i.1 c.put_spaced.ensures,
-      append_assoc i.0 text (flat_map spaced_point c.next.new.self) ∙ ap (λ ps. i.0 ++ flat_map spaced_point ps) (sym c.in-Some.ensures.steps) ∙ i.2,
+      append_assoc i.0 text (flat_map spaced_point c.next.new.self)
+          ∙ ap (λ ps. i.0 ++ flat_map spaced_point ps) (sym c.in-Some.ensures.steps) ∙ i.2,
     )
 
 pub loop-point-init : goal.loop-point-init
-loop-point-init g c = ([], writes_nothing g.W.Sink c.args.pen.now, ap (flat_map spaced_point) c.into_iter-point-iterator.ensures.into_iter_gives)
+loop-point-init g c = (
+  [],
+  writes_nothing g.W.Sink c.args.pen.now,
+  ap (flat_map spaced_point) c.into_iter-point-iterator.ensures.into_iter_gives,
+)

@@ -5,4 +5,5 @@ use Rattle.goref_results.proofs.diagram.put_columns.Goals as goal
 
 pub loop-letter-preserved : goal.loop-letter-preserved
 loop-letter-preserved g c =
-    writes_then _ c.loop-letter.invariant c.put.ensures (taken_more spaced_letter c.args.letters.now c.loop-letter.letter-index 0 c.loop-letter-test.true)
+    writes_then _ c.loop-letter.invariant c.put.ensures
+    (taken_more spaced_letter c.args.letters.now c.loop-letter.letter-index 0 c.loop-letter-test.true)

@@ -16,7 +16,8 @@ loop-point-preserved g c =
     let text = spaced_point c.in-Some.point in (
       i.0 ++ text,
       writes_writes i.1 c.put_spaced.ensures,
-      append_assoc i.0 text (flat_map spaced_point c.next.new.self) ∙ ap (λ ps. i.0 ++ flat_map spaced_point ps) (sym c.in-Some.ensures.steps) ∙ i.2,
+      append_assoc i.0 text (flat_map spaced_point c.next.new.self)
+          ∙ ap (λ ps. i.0 ++ flat_map spaced_point ps) (sym c.in-Some.ensures.steps) ∙ i.2,
     )
 
 pub loop-point-init : goal.loop-point-init
@@ -32,4 +33,5 @@ returns g c =
     let i = c.loop-point.invariant in
     let marked = filter (λ p. slice_index_or c.args.plays.now p false) (points c.args.size) in
     subst (Writes g.W.Sink c.args.pen.now c.loop-point.pen)
-    (sym (append-nil i.0) ∙ ap (λ ps. i.0 ++ flat_map spaced_point ps) (sym c.in-None.ensures.steps.0) ∙ i.2 ∙ numbers_spaced c.args.size marked) i.1
+    (sym (append-nil i.0) ∙ ap (λ ps. i.0 ++ flat_map spaced_point ps) (sym c.in-None.ensures.steps.0) ∙ i.2
+    ∙ numbers_spaced c.args.size marked) i.1

@@ -11,4 +11,5 @@ abbrev pub invariant-loop-point : goal.invariant-loop-point
 invariant-loop-point g l =
     (done : List ℕ)
     × Writes g.W.Sink l.fn.pen l.pen done
-    × (done ++ flat_map spaced_point l.point-iterator ≡ flat_map (spaced_vertex l.fn.size) (filter (λ p. slice_index_or l.plays p false) (points l.fn.size)))
+    × (done ++ flat_map spaced_point l.point-iterator ≡ flat_map (spaced_vertex l.fn.size)
+    (filter (λ p. slice_index_or l.plays p false) (points l.fn.size)))

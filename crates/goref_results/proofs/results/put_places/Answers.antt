@@ -15,5 +15,6 @@ returns-in-Some g c =
     let points = c.in-Some.points.items in
     let text : flat_map spaced_point points ≡ result_text (places_text (fixed n c.args.number)) =
     result_spaced point_word (λ p. (letter_of_column p.col, decimal (p.row + 1), refl)) points
-    ∙ ap (λ (places : Option (List Point)). result_text (places_text places)) (c.in-Some.ensures.points ∙ ap (λ (m : ℕ). fixed m c.args.number) c.size.ensures.lines) in
+    ∙ ap (λ (places : Option (List Point)). result_text (places_text places))
+    (c.in-Some.ensures.points ∙ ap (λ (m : ℕ). fixed m c.args.number) c.size.ensures.lines) in
     rw (c.as_slice.ensures.value, text) at c.put_points.ensures

@@ -10,5 +10,7 @@ pub returns : goal.returns
 returns g c =
     let margin = margin_of c.args.game.now.standing in
     let back : to_z w64 (of_z w64 c.margin.result) ≡ c.margin.result = omega (arith, ints, c.margin.type_inv) in
-    let score : c.as_bytes.result.now ≡ score_word margin = c.as_bytes.ensures.value ∙ c.deref.ensures.0 ∙ c.score_text.ensures ∙ ap score_word (back ∙ c.margin.ensures) in
-    writes_then _ c.put.ensures (rw score at c.put-2.ensures) (sym (result_text-some (score_word margin) (score_some margin)))
+    let score : c.as_bytes.result.now ≡ score_word margin = c.as_bytes.ensures.value ∙ c.deref.ensures.0
+    ∙ c.score_text.ensures ∙ ap score_word (back ∙ c.margin.ensures) in
+    writes_then _ c.put.ensures (rw score at c.put-2.ensures)
+    (sym (result_text-some (score_word margin) (score_some margin)))

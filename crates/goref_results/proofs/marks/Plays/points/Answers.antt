@@ -12,4 +12,5 @@ returns c =
     let square : n * n ≤ MAX_POINTS = square-le n (omega (arith, c.well_formed)) in
     c.points.ensures
     ∙ left-all n set (λ p. slice_index_or c.args.self.now p false)
-    (λ p on. (let below : p < MAX_POINTS = omega (arith, on, square) in sym (mark_is set p below) ∙ ap (λ (marks : List Bool). slice_index_or marks p false) c.self.view_is))
+    (λ p on. (let below : p < MAX_POINTS = omega (arith, on, square) in sym (mark_is set p below)
+    ∙ ap (λ (marks : List Bool). slice_index_or marks p false) c.self.view_is))

@@ -1,4 +1,4 @@
--- The stones of chains that were written, which are told.
+-- The stones of the chains that are written already.
 use Rattle.std.specs.Prelude.{◌<◌, ◌⊎◌, ◌↔◌, ℕ, not, None, List, Contains, IsTrue}
 use Rattle.go_board.specs.declared.point.Point.{Point}
 use Rattle.go_board.specs.Colours.{Colouring}
@@ -11,13 +11,14 @@ abbrev pub HasBefore : ℕ → Colouring → ℕ → ℕ → Type 0
 HasBefore n g k q = (p : ℕ) × (p < k) × IsTrue (joined n g q p) × IsTrue (not (has_colour g q None))
 
 -- of the points of the board, the set has the stones that have one before k in their chain
-abbrev pub AreTold : ℕ → Colouring → ℕ → List ℕ → Type 0
-AreTold n g k told = (q : Point) → IsOn n q → IsIn told q.row q.col ↔ HasBefore n g k (number_of n q)
+abbrev pub AreSeen : ℕ → Colouring → ℕ → List ℕ → Type 0
+AreSeen n g k seen = (q : Point) → IsOn n q → IsIn seen q.row q.col ↔ HasBefore n g k (number_of n q)
 
 -- the set gains these points
-abbrev pub TellsAll : List Point → List ℕ → List ℕ → Type 0
-TellsAll points told told' = (q : Point) → IsIn told' q.row q.col ↔ (Contains points q ⊎ IsIn told q.row q.col)
+abbrev pub GainsPoints : List Point → List ℕ → List ℕ → Type 0
+GainsPoints points seen seen' = (q : Point) → IsIn seen' q.row q.col ↔ (Contains points q ⊎ IsIn seen q.row q.col)
 
 -- of the points of the board, the set gains those of p's chain
-abbrev pub TellsChain : ℕ → Colouring → ℕ → List ℕ → List ℕ → Type 0
-TellsChain n g p told told' = (q : Point) → IsOn n q → IsIn told' q.row q.col ↔ (IsTrue (joined n g p (number_of n q)) ⊎ IsIn told q.row q.col)
+abbrev pub GainsChain : ℕ → Colouring → ℕ → List ℕ → List ℕ → Type 0
+GainsChain n g p seen seen' = (q : Point) → IsOn n q → IsIn seen' q.row q.col
+    ↔ (IsTrue (joined n g p (number_of n q)) ⊎ IsIn seen q.row q.col)
