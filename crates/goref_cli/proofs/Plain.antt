@@ -16,7 +16,8 @@ use Rattle.goref_cli.specs.inner.Matches.{IsPlainMatch}
 
 -- the matches name `gtp` and the size n
 abbrev states : ℕ → Option (Text × List Row) → Bool
-states n = λ o. option_map_or (λ p. bytes_eq p.0 (codes "gtp") && option_map_or (λ t. bytes_eq t (decimal n)) (one_of (codes "size") p.1) false) o false
+states n = λ o. option_map_or (λ p.
+    bytes_eq p.0 (codes "gtp") && option_map_or (λ t. bytes_eq t (decimal n)) (one_of (codes "size") p.1) false) o false
 
 -- the matches name this subcommand
 abbrev names : Text → Option (Text × List Row) → Bool
@@ -78,14 +79,21 @@ same_or_false (Some u) t e = ap (λ x. Some x) ((bytes_eq-Decides u t).0 e)
 stated : (n : ℕ) (o : Option (Text × List Row)) → states n o ≡ true
     → (p : Text × List Row) × (o ≡ Some p) × (p.0 ≡ codes "gtp") × (one_of (codes "size") p.1 ≡ Some (decimal n))
 stated n None e = absurd (true≢false (sym e))
-stated n (Some p) e = (p, refl, (bytes_eq-Decides p.0 (codes "gtp")).0 (both _ _ e).0, same_or_false (one_of (codes "size") p.1) (decimal n) (both _ _ e).1)
+stated n (Some p) e = (
+  p,
+  refl,
+  (bytes_eq-Decides p.0 (codes "gtp")).0 (both _ _ e).0,
+  same_or_false (one_of (codes "size") p.1) (decimal n) (both _ _ e).1,
+)
 
-named : (word : Text) (o : Option (Text × List Row)) → names word o ≡ true → (p : Text × List Row) × (o ≡ Some p) × (p.0 ≡ word)
+named : (word : Text) (o : Option (Text × List Row)) → names word o ≡ true → (p : Text × List Row) × (o ≡ Some p)
+    × (p.0 ≡ word)
 named word None e = absurd (true≢false (sym e))
 named word (Some p) e = (p, refl, (bytes_eq-Decides p.0 word).0 e)
 
 abbrev Plain : List Text → Type 0
-Plain words = (takes program words ≡ true) × ((p : Text × List Row) × (subcommand_of program words ≡ Some p) × IsPlainMatch p)
+Plain words = (takes program words ≡ true)
+    × ((p : Text × List Row) × (subcommand_of program words ≡ Some p) × IsPlainMatch p)
 
 held_plain : (words : List Text) (n : ℕ) → IsSize n → holds n words ≡ true → Plain words
 held_plain words n size e =
@@ -105,9 +113,13 @@ tidy_plain words e =
 pub plain : (words : List Text) → IsPlainUse words → Plain words
 plain [] h = absurd h
 plain (name ∷ rest) h = elim h [
-  | inl gtp ↦ subst (λ (r : List Text). Plain (name ∷ r)) (sym gtp) (held_plain (gtp_words name) 19 (omega arith, omega arith) (gtp_holds name))
-  | inr (inl judge) ↦ subst (λ (r : List Text). Plain (name ∷ r)) (sym judge) (judge_plain (judge_words name) (judge_holds name))
-  | inr (inr (inl tidy)) ↦ subst (λ (r : List Text). Plain (name ∷ r)) (sym tidy) (tidy_plain (tidy_words name) (tidy_holds name))
+  | inl gtp ↦ subst (λ (r : List Text). Plain (name ∷ r)) (sym gtp)
+      (held_plain (gtp_words name) 19 (omega arith, omega arith) (gtp_holds name))
+  | inr (inl judge) ↦ subst (λ (r : List Text). Plain (name ∷ r)) (sym judge)
+      (judge_plain (judge_words name) (judge_holds name))
+  | inr (inr (inl tidy)) ↦ subst (λ (r : List Text). Plain (name ∷ r)) (sym tidy)
+      (tidy_plain (tidy_words name) (tidy_holds name))
   | inr (inr (inr sized)) ↦ subst (λ (r : List Text). Plain (name ∷ r)) (sym sized.2)
-      (held_plain (sized_words name sized.0) sized.0 sized.1 (at_each (λ n. holds n (sized_words name n)) MAX_LINES sized.0 (sized_table name) sized.1.0 sized.1.1))
+      (held_plain (sized_words name sized.0) sized.0 sized.1
+      (at_each (λ n. holds n (sized_words name n)) MAX_LINES sized.0 (sized_table name) sized.1.0 sized.1.1))
 ]

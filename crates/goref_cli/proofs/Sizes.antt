@@ -20,7 +20,8 @@ decimal_read n None small h =
     cc
 
 -- a number that was read is that of a text
-pub number_read : (o : Option (List ℕ)) (r : Option ℕ) (v : ℕ) → (o ≡ None → r ≡ None) → ((t : List ℕ) → o ≡ Some t → ReadsOne ReadsByte t r) → r ≡ Some v
+pub number_read : (o : Option (List ℕ)) (r : Option ℕ) (v : ℕ) → (o ≡ None → r ≡ None) →
+    ((t : List ℕ) → o ≡ Some t → ReadsOne ReadsByte t r) → r ≡ Some v
     → (t : List ℕ) × (o ≡ Some t) × (digits_value 10 (without_leading_plus t) ≡ v)
 number_read None r v none value is =
     let bad : None ≡ Some v = sym (none refl) ∙ is in

@@ -31,7 +31,7 @@ judge_command = new_app (codes "judge")
 abbrev pub tidy_command : App
 tidy_command = new_app (codes "tidy")
 
--- the program before its subcommands are added: it has a version, and wants one of them
+-- the program before its subcommands are added: it has a version, and needs one of them
 abbrev pub bare_program : App
 bare_program = on_top (λ s. record s { has_version = true; subcommand_required = true }) (new_app (codes "goref"))
 
@@ -68,6 +68,6 @@ IsPlainUse (name ∷ rest) = (rest ≡ codes "gtp" ∷ [])
     ⊎ (rest ≡ codes "tidy" ∷ [])
     ⊎ ((n : ℕ) × IsSize n × (rest ≡ codes "gtp" ∷ codes "--size" ∷ decimal n ∷ []))
 
--- the texts behind the words
+-- the texts after the words
 abbrev pub texts_of : List (Bor Text) → List Text
 texts_of = map (λ word. word.now)

@@ -1,4 +1,4 @@
-//! The command line as clap is told of it, with its help texts, and the task that the program's words name.
+//! The command line as clap gets it, with its help texts, and the task that the program's words name.
 ghost use Rattle.std.specs.Prelude.{◌≡◌, ◌⊎◌, IfErr, IfOk, IfSome, IsErrAnd, IsSome, List, Some, codes, ℕ};
 ghost use Rattle.std.specs.Prelude.{false};
 ghost use Rattle.std.specs.Fmt.{decimal};

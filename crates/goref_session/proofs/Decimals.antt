@@ -16,7 +16,8 @@ digits_line : (k n : ℕ) (ds : List ℕ) → IsLine ds → IsLine (digits_onto 
 digits_line zero n ds h = h
 digits_line (suc k) n ds h =
     let d = digit_glyph false (n % 10) in
-    line_if (n / 10 == 0) (d ∷ ds) (digits_onto k 10 false (n / 10) (d ∷ ds)) (glyph_plain (n % 10), h) (digits_line k (n / 10) (d ∷ ds) (glyph_plain (n % 10), h))
+    line_if (n / 10 == 0) (d ∷ ds) (digits_onto k 10 false (n / 10) (d ∷ ds)) (glyph_plain (n % 10), h)
+    (digits_line k (n / 10) (d ∷ ds) (glyph_plain (n % 10), h))
 
 some_if : (b : Bool) (xs ys : List ℕ) → xs ≢ [] → ys ≢ [] → (if b then xs else ys) ≢ []
 some_if true xs ys h k = h
@@ -26,12 +27,14 @@ digits_behind : (k n d : ℕ) (ds : List ℕ) → digits_onto k 10 false n (d �
 digits_behind zero n d ds = λ e. cc e
 digits_behind (suc k) n d ds =
     let c = digit_glyph false (n % 10) in
-    some_if (n / 10 == 0) (c ∷ d ∷ ds) (digits_onto k 10 false (n / 10) (c ∷ d ∷ ds)) (λ e. cc e) (digits_behind k (n / 10) c (d ∷ ds))
+    some_if (n / 10 == 0) (c ∷ d ∷ ds) (digits_onto k 10 false (n / 10) (c ∷ d ∷ ds)) (λ e. cc e)
+    (digits_behind k (n / 10) c (d ∷ ds))
 
 digits_some : (k n : ℕ) → digits_onto (suc k) 10 false n [] ≢ []
 digits_some k n =
     let d = digit_glyph false (n % 10) in
-    some_if (n / 10 == 0) (d ∷ []) (digits_onto k 10 false (n / 10) (d ∷ [])) (λ e. cc e) (digits_behind k (n / 10) d [])
+    some_if (n / 10 == 0) (d ∷ []) (digits_onto k 10 false (n / 10) (d ∷ [])) (λ e. cc e)
+    (digits_behind k (n / 10) d [])
 
 decimal_is : (n : ℕ) → digits_onto (suc 63) 10 false n [] ≡ decimal n
 unfolding digits
@@ -51,12 +54,15 @@ decimals_line n =
 
 size_line : (n : ℕ) → IsLine (size_text n)
 unfolding size_text
-size_line n = line_append (decimal (n / 100)) (decimals_of (n % 100)) ((full_decimal (n / 100)).line) (decimals_line (n % 100))
+size_line n = line_append (decimal (n / 100)) (decimals_of (n % 100)) ((full_decimal (n / 100)).line)
+    (decimals_line (n % 100))
 
 pub hundredths_line : (z : ℤ) → IsLine (hundredths_word z)
 hundredths_line (pos n) = size_line n
 hundredths_line (negsuc n) = (omega arith, size_line (n + 1))
 
 pub score_line : (z : ℤ) → IsLine (score_word z)
-score_line (pos n) = line_if (n == 0) (codes "0") (codes "B+" ++ size_text n) (line_by_test (codes "0") refl) (line_append (codes "B+") (size_text n) (line_by_test (codes "B+") refl) (size_line n))
-score_line (negsuc n) = line_append (codes "W+") (size_text (n + 1)) (line_by_test (codes "W+") refl) (size_line (n + 1))
+score_line (pos n) = line_if (n == 0) (codes "0") (codes "B+" ++ size_text n) (line_by_test (codes "0") refl)
+    (line_append (codes "B+") (size_text n) (line_by_test (codes "B+") refl) (size_line n))
+score_line (negsuc n) = line_append (codes "W+") (size_text (n + 1)) (line_by_test (codes "W+") refl)
+    (size_line (n + 1))

@@ -47,17 +47,21 @@ none_behind : (xs : List ℕ) (x : ℕ) (ys : List ℕ) → [] ≢ xs ++ x ∷ y
 none_behind [] x ys e = cc e
 none_behind (z ∷ xs) x ys e = cc e
 
-no_gap : (s : LineState) (b : ℕ) (bs more : List ℕ) → after s (b ∷ bs) ≡ within → b ≡ 10 → slice_index (bs ++ 10 ∷ more) 0 ≡ 10 → ⊥
+no_gap : (s : LineState) (b : ℕ) (bs more : List ℕ) → after s (b ∷ bs) ≡ within → b ≡ 10 →
+    slice_index (bs ++ 10 ∷ more) 0 ≡ 10 → ⊥
 no_gap s b [] more h e f = end_leaves s (subst (λ (c : ℕ). step s c ≡ within) e h)
 no_gap s b (c ∷ bs) more h e f =
-    not_broken bs (ap (λ t. after t bs) (sym (ap (step (step s b)) f ∙ ap (λ d. step (step s d) 10) e ∙ gap_breaks s)) ∙ h)
+    not_broken bs (ap (λ t. after t bs) (sym (ap (step (step s b)) f ∙ ap (λ d. step (step s d) 10) e ∙ gap_breaks s))
+    ∙ h)
 
 -- the first line end behind a line end is the last byte
-first_gap : (s : LineState) (body front back : List ℕ) → after s body ≡ within → body ++ 10 ∷ 10 ∷ [] ≡ front ++ 10 ∷ 10 ∷ back → back ≡ []
+first_gap : (s : LineState) (body front back : List ℕ) → after s body ≡ within → body ++ 10 ∷ 10 ∷ [] ≡ front
+    ++ 10 ∷ 10 ∷ back → back ≡ []
 first_gap s [] [] back h e = sym (ap (drop 2) e)
 first_gap s [] (a ∷ []) back h e = absurd (none_behind [] 10 back (ap (drop 2) e))
 first_gap s [] (a ∷ b ∷ front) back h e = absurd (none_behind front 10 (10 ∷ back) (ap (drop 2) e))
-first_gap s (b ∷ body) [] back h e = absurd (no_gap s b body (10 ∷ []) h (ap (λ xs. slice_index xs 0) e) (ap (λ xs. slice_index xs 1) e))
+first_gap s (b ∷ body) [] back h e =
+    absurd (no_gap s b body (10 ∷ []) h (ap (λ xs. slice_index xs 0) e) (ap (λ xs. slice_index xs 1) e))
 first_gap s (b ∷ body) (a ∷ front) back h e = first_gap (step s b) body front back h (ap (drop 1) e)
 
 -- ---- plain bytes
@@ -107,7 +111,8 @@ refusal_goes_on CannotLoad = refl
 refusal_goes_on GameInProgress = refl
 refusal_goes_on OutOfMemory = refl
 
-behind_id : (mark : ℕ) → 32 ≤ mark → (id : Option ℕ) (result : List ℕ) → GoesOn result → IsAnswer (mark ∷ (id_text id ++ (result ++ codes "\n\n")))
+behind_id : (mark : ℕ) → 32 ≤ mark → (id : Option ℕ) (result : List ℕ) → GoesOn result →
+    IsAnswer (mark ∷ (id_text id ++ (result ++ codes "\n\n")))
 behind_id mark high id result h = record {
   begins = λ rest e. let is_end : mark ≡ 10 = ap (λ bytes. slice_index bytes 0) e in omega (arith, high, is_end);
   body = mark ∷ (id_text id ++ result);
@@ -118,8 +123,11 @@ behind_id mark high id result h = record {
 decision_answers : (id : Option ℕ) (d : Decision) (s : Standing) → IsAnswer (decision_text id d s)
 decision_answers id Done s = behind_id 61 (omega arith) id [] refl
 decision_answers id Ends s = behind_id 61 (omega arith) id [] refl
-decision_answers id (Tells fact) s = behind_id 61 (omega arith) id (result_text (fact_text fact s)) (result_goes_on (fact_text fact s) (fact_goes_on fact s))
-decision_answers id (Refused why) s = behind_id 63 (omega arith) id (codes " " ++ refusal_text why) (refusal_goes_on why)
+decision_answers id (Tells fact) s =
+    behind_id 61 (omega arith) id (result_text (fact_text fact s))
+    (result_goes_on (fact_text fact s) (fact_goes_on fact s))
+decision_answers id (Refused why) s =
+    behind_id 63 (omega arith) id (codes " " ++ refusal_text why) (refusal_goes_on why)
 
 ends_at_empty_line : (text : List ℕ) → IsAnswer text → EndsAtEmptyLine text
 ends_at_empty_line text answer = record {
@@ -132,17 +140,26 @@ ends_at_empty_line text answer = record {
 plain_answer : (text : List ℕ) → IsAnswer text → AllByRecursion IsPlain text
 plain_answer text answer =
     subst (AllByRecursion IsPlain) (sym answer.ends)
-    (all_append IsPlain answer.body (codes "\n\n") (plain_text within answer.body (λ e. let h = answer.goes_on in cc (e, h))) (inl refl, (inl refl, tt)))
+    (all_append IsPlain answer.body (codes "\n\n")
+    (plain_text within answer.body (λ e. let h = answer.goes_on in cc (e, h))) (inl refl, (inl refl, tt)))
 
-said : (s : Standing) (k : Kept) (content : Content) (reply : Said) → Reply s k content reply → ((has_bytes k.text ≡ false) × (reply.text ≡ [])) ⊎ ((has_bytes k.text ≡ true) × IsAnswer reply.text)
+said : (s : Standing) (k : Kept) (content : Content) (reply : Said) → Reply s k content reply →
+    ((has_bytes k.text ≡ false) × (reply.text ≡ [])) ⊎ ((has_bytes k.text ≡ true) × IsAnswer reply.text)
 said s k content reply (inl none) = inl (none.0, ap (λ r. r.text) none.1)
 said s k content reply (inr some) =
-    inr (some.0, subst IsAnswer (sym (ap (λ r. r.text) some.1.2)) (decision_answers (line_id k) some.1.0.decision some.1.0.standing))
+    inr (
+      some.0,
+      subst IsAnswer (sym (ap (λ r. r.text) some.1.2))
+          (decision_answers (line_id k) some.1.0.decision some.1.0.standing),
+    )
 
 pub answers_end : AnswersEnd
 answers_end s k content reply may = elim (said s k content reply may) [
   | inl none ↦ ((λ _. none.1), (λ some. absurd (both_ways (has_bytes k.text) none.0 some)))
-  | inr some ↦ ((λ none. absurd (both_ways (has_bytes k.text) none some.0)), (λ _. ends_at_empty_line reply.text some.1))
+  | inr some ↦ (
+    (λ none. absurd (both_ways (has_bytes k.text) none some.0)),
+    (λ _. ends_at_empty_line reply.text some.1),
+  )
 ]
 
 pub plain_answers : PlainAnswers

@@ -42,14 +42,18 @@ behind_number n more h = line_append (decimal n) more ((full_decimal n).line) h
 
 vertex_line : (v : Vertex) → IsLine (vertex_word v)
 vertex_line Pass = line_by_test (codes "pass") refl
-vertex_line (At p) = (line_at column_letters p.col 63 (line_by_test column_letters refl) (omega arith), (full_decimal (p.row + 1)).line)
+vertex_line (At p) = (
+  line_at column_letters p.col 63 (line_by_test column_letters refl) (omega arith),
+  (full_decimal (p.row + 1)).line,
+)
 
 places_line : (places : Option (List Point)) → IsLine (places_text places)
 places_line None = tt
 places_line (Some points) = line_joined point_word (λ p. vertex_line (At p)) points
 
 plays_line : (n : ℕ) (marks : List Bool) → IsLine (plays_text n marks)
-plays_line n marks = line_joined (number_word n) (λ p. vertex_line (At (point_at n p))) (filter (λ p. slice_index_or marks p false) (points n))
+plays_line n marks = line_joined (number_word n) (λ p. vertex_line (At (point_at n p)))
+    (filter (λ p. slice_index_or marks p false) (points n))
 
 -- ---- chains
 
@@ -68,23 +72,31 @@ full_chain : (n : ℕ) (g : Colouring) (p : ℕ) → IsFull (chain_line n g p)
 full_chain n g p =
     let liberties_text : List ℕ = flat_map (spaced_vertex n) (liberties n g p) in
     append_full (stone_text (colour_at g p)) _ (stone_line (colour_at g p))
-    (append_full (flat_map (spaced_vertex n) (members n g p)) (codes " :" ++ liberties_text) (vertices_line n (members n g p))
-    (record { line = behind_words (codes " :") liberties_text refl (vertices_line n (liberties n g p)); some = λ e. cc e }))
+    (append_full (flat_map (spaced_vertex n) (members n g p)) (codes " :" ++ liberties_text)
+    (vertices_line n (members n g p))
+    (record {
+      line = behind_words (codes " :") liberties_text refl (vertices_line n (liberties n g p));
+      some = λ e.
+          cc e;
+    }))
 
 -- ---- the diagram
 
 setting_line : (s : Standing) → IsLine (setting_text s)
-setting_line s = behind_words (codes "size ") _ refl (behind_number s.lines _ (behind_words (codes " komi ") _ refl (hundredths_line s.komi)))
+setting_line s = behind_words (codes "size ") _ refl
+    (behind_number s.lines _ (behind_words (codes " komi ") _ refl (hundredths_line s.komi)))
 
 prisoners_line : (s : Standing) → IsLine (prisoners_text s)
 prisoners_line s =
     behind_words (codes " prisoners B ") _ refl
-    (behind_number (prisoners_of s Black) _ (behind_words (codes " W ") _ refl ((full_decimal (prisoners_of s White)).line)))
+    (behind_number (prisoners_of s Black) _
+    (behind_words (codes " W ") _ refl ((full_decimal (prisoners_of s White)).line)))
 
 turn_line : (s : Standing) → IsLine (turn_text s)
 turn_line s =
     behind_words (codes " moves ") _ refl
-    (behind_number (length s.moves) _ (behind_words (codes " next ") (letter_of (mover_of s) ∷ []) refl (letter_plain (mover_of s), tt)))
+    (behind_number (length s.moves) _
+    (behind_words (codes " next ") (letter_of (mover_of s) ∷ []) refl (letter_plain (mover_of s), tt)))
 
 mark_plain : (o : Option Colour) → 32 ≤ mark_of o
 mark_plain None = omega arith
@@ -92,12 +104,15 @@ mark_plain (Some Black) = omega arith
 mark_plain (Some White) = omega arith
 
 full_number : (n : ℕ) → IsFull (right_in_two n)
-full_number n = append_full (padding_of n) (decimal n) (line_if (nat_lt n 10) (codes " ") [] (omega arith, tt) tt) (full_decimal n)
+full_number n = append_full (padding_of n) (decimal n) (line_if (nat_lt n 10) (codes " ") [] (omega arith, tt) tt)
+    (full_decimal n)
 
 row_goes_on : (n : ℕ) (g : Colouring) (row : ℕ) → GoesOn (row_text n g row)
 row_goes_on n g row =
-    let marks = line_flat_map (spaced_mark n g row) (λ col. (omega arith, (mark_plain (colour_at g (row * n + col)), tt))) (range_with_len 0 n) in
-    line_behind (right_in_two (row + 1) ++ marks_text n g row n) (full_append (right_in_two (row + 1)) (marks_text n g row n) (full_number (row + 1)) marks)
+    let marks = line_flat_map (spaced_mark n g row)
+    (λ col. (omega arith, (mark_plain (colour_at g (row * n + col)), tt))) (range_with_len 0 n) in
+    line_behind (right_in_two (row + 1) ++ marks_text n g row n)
+    (full_append (right_in_two (row + 1)) (marks_text n g row n) (full_number (row + 1)) marks)
 
 letters_line : (n : ℕ) (letters : List ℕ) → IsLine letters → IsLine (flat_map spaced_letter (take n letters))
 letters_line zero letters h = tt
@@ -107,13 +122,18 @@ letters_line (suc n) (letter ∷ letters) h = (omega arith, (h.0, letters_line n
 letters_go_on : (n : ℕ) → GoesOn (letters_text n)
 letters_go_on n =
     line_behind (codes "  " ++ flat_map spaced_letter (take n column_letters))
-    (record { line = behind_words (codes "  ") _ refl (letters_line n column_letters (line_by_test column_letters refl)); some = λ e. cc e })
+    (record {
+      line = behind_words (codes "  ") _ refl
+          (letters_line n column_letters (line_by_test column_letters refl));
+      some = λ e. cc e;
+    })
 
 diagram_goes_on : (s : Standing) → GoesOn (diagram s)
 diagram_goes_on s =
     let n = s.lines in
     let g = board_of s in
-    let rows = flat_map_goes_on (λ k. row_text n g (n - 1 - k)) (λ k. row_goes_on n g (n - 1 - k)) (range_with_len 0 n) in
+    let rows = flat_map_goes_on (λ k. row_text n g (n - 1 - k)) (λ k. row_goes_on n g (n - 1 - k))
+    (range_with_len 0 n) in
     append_goes_on (setting_text s) _ (line_goes_on (setting_text s) (setting_line s))
     (append_goes_on (prisoners_text s) _ (line_goes_on (prisoners_text s) (prisoners_line s))
     (append_goes_on (turn_text s) _ (line_goes_on (turn_text s) (turn_line s))
@@ -132,7 +152,8 @@ topic_goes_on Release s = refl
 topic_goes_on Commands s = refl
 topic_goes_on Score s = line_goes_on (score_word (margin_of s)) (score_line (margin_of s))
 topic_goes_on Board s = diagram_goes_on s
-topic_goes_on Chains s = lines_go_on (chain_line s.lines (board_of s)) (full_chain s.lines (board_of s)) (first_stones s.lines (board_of s))
+topic_goes_on Chains s = lines_go_on (chain_line s.lines (board_of s)) (full_chain s.lines (board_of s))
+    (first_stones s.lines (board_of s))
 topic_goes_on Record s = line_goes_on (record_body s) (record_line s)
 
 pub fact_goes_on : (fact : Fact) (s : Standing) → GoesOn (fact_text fact s)

@@ -42,7 +42,8 @@ line_by_test (x ∷ xs) e =
     let parts = and_parts (nat_le 32 x) (list_all (nat_le 32) xs) e in
     (leb-true 32 x parts.0, line_by_test xs parts.1)
 
-pub all_append : {X : Type 0} (P : X → Type 0) (xs ys : List X) → AllByRecursion P xs → AllByRecursion P ys → AllByRecursion P (xs ++ ys)
+pub all_append : {X : Type 0} (P : X → Type 0) (xs ys : List X) → AllByRecursion P xs → AllByRecursion P ys →
+    AllByRecursion P (xs ++ ys)
 all_append P [] ys h k = k
 all_append P (x ∷ xs) ys h k = (h.0, all_append P xs ys h.1 k)
 
@@ -74,7 +75,8 @@ module _ {X : Type 0} (f : X → List ℕ) (line : (x : X) → IsLine (f x)) whe
   pub line_joined : (xs : List X) → IsLine (join_with_byte 32 (map f xs))
   line_joined [] = tt
   line_joined (x ∷ []) = line x
-  line_joined (x ∷ y ∷ xs) = line_append (f x) (32 ∷ join_with_byte 32 (map f (y ∷ xs))) (line x) (omega arith, line_joined (y ∷ xs))
+  line_joined (x ∷ y ∷ xs) = line_append (f x) (32 ∷ join_with_byte 32 (map f (y ∷ xs))) (line x)
+      (omega arith, line_joined (y ∷ xs))
 
 -- ---- texts with which a line goes on, and others may follow it
 
@@ -106,7 +108,8 @@ pub line_behind : (xs : List ℕ) → IsFull xs → GoesOn (10 ∷ xs)
 line_behind xs full = line_from ended refl xs full
 
 module _ {X : Type 0} (f : X → List ℕ) (full : (x : X) → IsFull (f x)) where
-  lines_from : (s : LineState) → by_plain s ≡ within → (x : X) (xs : List X) → after s (join_with_byte 10 (map f (x ∷ xs))) ≡ within
+  lines_from : (s : LineState) → by_plain s ≡ within → (x : X) (xs : List X) →
+      after s (join_with_byte 10 (map f (x ∷ xs))) ≡ within
   lines_from s e x [] = line_from s e (f x) (full x)
   lines_from s e x (y ∷ xs) =
       let rest = 10 ∷ join_with_byte 10 (map f (y ∷ xs)) in

@@ -24,8 +24,11 @@ no_text : (c : Trees) (rest : List ℕ) → c ≢ none → SpellsParts [] (parts
 no_text none rest some spells = some refl
 no_text (tree nodes children later) rest some spells = let e = spells.1 in cc e
 
-not_refused : (bytes : List ℕ) (c : Trees) (why : SgfError) → length bytes ≤ MAX_RECORD → Spells bytes c → why ≢ sgf_error.Memory → IsRefusal bytes why → ⊥
-not_refused bytes c sgf_error.NoTree few spells memory refusal = no_text c spells.rest spells.fit.some (subst (λ (text : List ℕ). SpellsParts text (parts c) spells.rest) refusal spells.spelling)
+not_refused : (bytes : List ℕ) (c : Trees) (why : SgfError) → length bytes ≤ MAX_RECORD → Spells bytes c →
+    why ≢ sgf_error.Memory → IsRefusal bytes why → ⊥
+not_refused bytes c sgf_error.NoTree few spells memory refusal =
+    no_text c spells.rest spells.fit.some
+    (subst (λ (text : List ℕ). SpellsParts text (parts c) spells.rest) refusal spells.spelling)
 not_refused bytes c (sgf_error.EndInside place) few spells memory refusal = refusal.1.spells_none c spells
 not_refused bytes c (sgf_error.Unexpected place) few spells memory refusal = refusal.spells_none c spells
 not_refused bytes c (sgf_error.TooDeep place) few spells memory refusal = refusal.spells_none c spells
@@ -33,7 +36,8 @@ not_refused bytes c sgf_error.Memory few spells memory refusal = memory refl
 not_refused bytes c sgf_error.TooLong few spells memory refusal = omega (arith, few, refusal)
 
 -- what isn't told as want of memory is none
-pub other_refusal : {T : Type 0} (r : Result T LoadError) (x : LoadError) (why : RecordError) → r ≡ Err x → x ≡ load_error_of why →
+pub other_refusal : {T : Type 0} (r : Result T LoadError) (x : LoadError) (why : RecordError) → r ≡ Err x →
+    x ≡ load_error_of why →
     r ≡ Err load_error.Cannot → why ≢ record_error.Memory
 other_refusal r x why e f h memory = let g : load_error_of why ≡ load_error.Memory = ap load_error_of memory in cc
 
@@ -55,4 +59,5 @@ one_load spelled outcome bytes number s loads = (
     alike : (other : Outcome) (c : Trees) → Spells bytes c → IsGameOf c number other → other ≡ Ok s
     alike other c spells game =
         let one = outcome loads.1 number in
-        one.2 other (subst (λ (d : Trees). IsGameOf d number other) (spelled bytes c loads.1 spells loads.2) game) ∙ sym (one.2 (Ok s) loads.3)
+        one.2 other (subst (λ (d : Trees). IsGameOf d number other) (spelled bytes c loads.1 spells loads.2) game)
+        ∙ sym (one.2 (Ok s) loads.3)

@@ -14,17 +14,23 @@ abbrev pub named : Entry → Named
 named entry = (entry.0.now, entry.1)
 
 -- a name that is not the next one is that of a later command
-pub found_later : (entries : List Entry) (k : ℕ) (name : List ℕ) (d : Entry) → k < length entries → bytes_eq name (get_or entries k d).0.now ≡ false →
+pub found_later : (entries : List Entry) (k : ℕ) (name : List ℕ) (d : Entry) → k < length entries →
+    bytes_eq name (get_or entries k d).0.now ≡ false →
     command_among (map named (drop k entries)) name ≡ command_among (map named (drop (k + 1) entries)) name
 found_later entries k name d low other =
     at_drop_more (λ es. command_among (map named es) name) entries k d low
-    ∙ ap (λ b. option_map (λ n. n.1) (cond b (Some (named (get_or entries k d))) (find (λ n. bytes_eq name n.0) (map named (drop (k + 1) entries))))) other
+    ∙ ap (λ b. option_map (λ n. n.1)
+    (cond b (Some (named (get_or entries k d))) (find (λ n. bytes_eq name n.0) (map named (drop (k + 1) entries)))))
+    other
 
-pub found_here : (entries : List Entry) (k : ℕ) (name : List ℕ) (d : Entry) → k < length entries → bytes_eq name (get_or entries k d).0.now ≡ true →
+pub found_here : (entries : List Entry) (k : ℕ) (name : List ℕ) (d : Entry) → k < length entries →
+    bytes_eq name (get_or entries k d).0.now ≡ true →
     command_among (map named (drop k entries)) name ≡ Some (get_or entries k d).1
 found_here entries k name d low same =
     at_drop_more (λ es. command_among (map named es) name) entries k d low
-    ∙ ap (λ b. option_map (λ n. n.1) (cond b (Some (named (get_or entries k d))) (find (λ n. bytes_eq name n.0) (map named (drop (k + 1) entries))))) same
+    ∙ ap (λ b. option_map (λ n. n.1)
+    (cond b (Some (named (get_or entries k d))) (find (λ n. bytes_eq name n.0) (map named (drop (k + 1) entries)))))
+    same
 
 -- the names, the first behind this byte and the others behind line ends
 abbrev pub listed : ℕ → List Named → List ℕ
@@ -32,5 +38,6 @@ listed before [] = []
 listed before (n ∷ ns) = before ∷ (n.0 ++ listed 10 ns)
 
 pub listed_more : (before : ℕ) (entries : List Entry) (k : ℕ) (d : Entry) → k < length entries →
-    listed before (map named (drop k entries)) ≡ before ∷ ((get_or entries k d).0.now ++ listed 10 (map named (drop (k + 1) entries)))
+    listed before (map named (drop k entries)) ≡ before ∷
+    ((get_or entries k d).0.now ++ listed 10 (map named (drop (k + 1) entries)))
 listed_more before entries k d low = at_drop_more (λ es. listed before (map named es)) entries k d low

@@ -28,7 +28,8 @@ on_load : (s : Standing) (load : Option Load) (content : Content) → (d : Decid
 on_load s None content = (_, refl)
 on_load s (Some load) content = on_content s content load.number
 
-on_command : (s : Standing) (c : Command) (arguments : List (List ℕ)) (content : Content) → (d : Decided) × DecidesOn s c arguments content d
+on_command : (s : Standing) (c : Command) (arguments : List (List ℕ)) (content : Content) → (d : Decided)
+    × DecidesOn s c arguments content d
 on_command s (Tells topic) arguments content = (_, refl)
 on_command s KnownCommand arguments content = (_, refl)
 on_command s Quit arguments content = (_, refl)
@@ -48,18 +49,21 @@ on_command s TimeLeft arguments content = (_, refl)
 on_command s Legal arguments content = (_, inl refl)
 on_command s Superko arguments content = (_, refl)
 
-on_name : (s : Standing) (c : Option Command) (arguments : List (List ℕ)) (content : Content) → (d : Decided) × DecidesIf s c arguments content d
+on_name : (s : Standing) (c : Option Command) (arguments : List (List ℕ)) (content : Content) → (d : Decided)
+    × DecidesIf s c arguments content d
 on_name s None arguments content = (_, refl)
 on_name s (Some c) arguments content = on_command s c arguments content
 
-on_line : (s : Standing) (k : Kept) (content : Content) (long : Bool) → k.is_long ≡ long → (d : Decided) × DecidesLine s k content d
+on_line : (s : Standing) (k : Kept) (content : Content) (long : Bool) → k.is_long ≡ long → (d : Decided)
+    × DecidesLine s k content d
 on_line s k content true e = (keeps s (Refused LineTooLong), inl (e, refl))
 on_line s k content false e =
     let asked = asked_by (words k.text) in
     let d = on_name s (option_and_then command_of asked.name) asked.arguments content in
     (d.0, inr (e, d.1))
 
-reply_by : (s : Standing) (k : Kept) (content : Content) (words : Bool) → has_bytes k.text ≡ words → (reply : Said) × Reply s k content reply
+reply_by : (s : Standing) (k : Kept) (content : Content) (words : Bool) → has_bytes k.text ≡ words → (reply : Said)
+    × Reply s k content reply
 reply_by s k content false e = (silent s, inl (e, refl))
 reply_by s k content true e =
     let d = on_line s k content k.is_long refl in

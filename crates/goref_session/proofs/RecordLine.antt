@@ -33,13 +33,15 @@ value_parts : (vs : List (List ℕ)) → AllByRecursion IsLine vs → AllByRecur
 value_parts [] h = tt
 value_parts (v ∷ vs) h = (line_append (91 ∷ v) (93 ∷ []) (omega arith, h.0) (omega arith, tt), value_parts vs h.1)
 
-node_line : (ps : List Property) → AllByRecursion IsLineProperty ps → AllByRecursion IsLinePart (flat_map property_parts (map plain_property ps))
+node_line : (ps : List Property) → AllByRecursion IsLineProperty ps →
+    AllByRecursion IsLinePart (flat_map property_parts (map plain_property ps))
 node_line [] h = tt
 node_line (p ∷ ps) h =
     all_append IsLinePart (property_parts (plain_property p)) (flat_map property_parts (map plain_property ps))
     (line_filter is_upper_byte p.name h.0.name, value_parts p.values h.0.values) (node_line ps h.1)
 
-nodes_line : (nodes : List (List Property)) → AllByRecursion (AllByRecursion IsLineProperty) nodes → AllByRecursion IsLinePart (flat_map node_parts (map (map plain_property) nodes))
+nodes_line : (nodes : List (List Property)) → AllByRecursion (AllByRecursion IsLineProperty) nodes →
+    AllByRecursion IsLinePart (flat_map node_parts (map (map plain_property) nodes))
 nodes_line [] h = tt
 nodes_line (ps ∷ nodes) h =
     all_append IsLinePart (node_parts (map plain_property ps)) (flat_map node_parts (map (map plain_property) nodes))
@@ -65,7 +67,8 @@ points_lines : (n : ℕ) (ks : List ℕ) → AllByRecursion IsLine (map (λ j. p
 points_lines n [] = tt
 points_lines n (k ∷ ks) = (point_line n (point_at n k), points_lines n ks)
 
-stones_lines : (name : List ℕ) (n : ℕ) (ks : List ℕ) → list_all (nat_le 32) name ≡ true → AllByRecursion IsLineProperty (stones_property name n ks)
+stones_lines : (name : List ℕ) (n : ℕ) (ks : List ℕ) → list_all (nat_le 32) name ≡ true →
+    AllByRecursion IsLineProperty (stones_property name n ks)
 stones_lines name n [] h = tt
 stones_lines name n (k ∷ ks) h = (record { name = line_by_test name h; values = points_lines n (k ∷ ks) }, tt)
 
@@ -80,9 +83,12 @@ start_lines s =
           (
             alone_line (codes "KM") _ refl (hundredths_line s.komi),
             (
-              alone_line (codes "PL") (colour_letter s.first) refl (line_by_test (colour_letter s.first) (colour_test s.first)),
-              all_append IsLineProperty (stones_property (codes "AB") s.lines (stones Black)) (stones_property (codes "AW") s.lines (stones White))
-                  (stones_lines (codes "AB") s.lines (stones Black) refl) (stones_lines (codes "AW") s.lines (stones White) refl),
+              alone_line (codes "PL") (colour_letter s.first) refl
+                  (line_by_test (colour_letter s.first) (colour_test s.first)),
+              all_append IsLineProperty (stones_property (codes "AB") s.lines (stones Black))
+                  (stones_property (codes "AW") s.lines (stones White))
+                  (stones_lines (codes "AB") s.lines (stones Black) refl)
+                  (stones_lines (codes "AW") s.lines (stones White) refl),
             ),
           ),
         ),
@@ -91,10 +97,20 @@ start_lines s =
 
 moves_lines : (n : ℕ) (ms : List Move) → AllByRecursion (AllByRecursion IsLineProperty) (map (move_node n) ms)
 moves_lines n [] = tt
-moves_lines n (m ∷ ms) = ((alone_line (colour_letter m.colour) (vertex_value n m.vertex) (colour_test m.colour) (vertex_line n m.vertex), tt), moves_lines n ms)
+moves_lines n (m ∷ ms) = (
+  (
+    alone_line (colour_letter m.colour) (vertex_value n m.vertex) (colour_test m.colour)
+        (vertex_line n m.vertex),
+    tt,
+  ),
+  moves_lines n ms,
+)
 
 pub record_line : (s : Standing) → IsLine (record_body s)
 record_line s =
     let nodes : List Part = flat_map node_parts (map (map plain_property) (nodes_of s)) in
-    joined_line (opening ∷ (nodes ++ (closing ∷ [])))
-    ((omega arith, tt), all_append IsLinePart nodes (closing ∷ []) (nodes_line (nodes_of s) (start_lines s, moves_lines s.lines s.moves)) ((omega arith, tt), tt))
+    joined_line (opening ∷ (nodes ++ (closing ∷ []))) (
+      (omega arith, tt),
+      all_append IsLinePart nodes (closing ∷ [])
+          (nodes_line (nodes_of s) (start_lines s, moves_lines s.lines s.moves)) ((omega arith, tt), tt),
+    )

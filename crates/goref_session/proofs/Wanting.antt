@@ -25,11 +25,13 @@ abbrev all_bytes : List (List ℕ) → List ℕ
 all_bytes [] = []
 all_bytes (word ∷ words) = word ++ all_bytes words
 
-filtered : (word : List ℕ) (parts : List (List ℕ)) → all_bytes (filter has_bytes (word ∷ parts)) ≡ word ++ all_bytes (filter has_bytes parts)
+filtered : (word : List ℕ) (parts : List (List ℕ)) → all_bytes (filter has_bytes (word ∷ parts)) ≡ word
+    ++ all_bytes (filter has_bytes parts)
 filtered [] parts = refl
 filtered (b ∷ word) parts = refl
 
-onto_first_bytes : (b : ℕ) (parts : List (List ℕ)) → all_bytes (filter has_bytes (onto_first b parts)) ≡ b ∷ all_bytes (filter has_bytes parts)
+onto_first_bytes : (b : ℕ) (parts : List (List ℕ)) →
+    all_bytes (filter has_bytes (onto_first b parts)) ≡ b ∷ all_bytes (filter has_bytes parts)
 onto_first_bytes b [] = refl
 onto_first_bytes b (part ∷ parts) = ap (λ t. b ∷ t) (sym (filtered part parts))
 
@@ -55,32 +57,43 @@ by_words (b ∷ text) = at (is_plain_space b) refl (by_words text)
 digit_is_low : (b : ℕ) → is_ascii_digit b ≡ true → nat_lt 57 b ≡ false
 digit_is_low b e = grind (arith, nat_tests)
 
-behind_digits : (digits text : List ℕ) → list_all is_ascii_digit digits ≡ true → may_load (digits ++ text) ≡ may_load text
+behind_digits : (digits text : List ℕ) → list_all is_ascii_digit digits ≡ true →
+    may_load (digits ++ text) ≡ may_load text
 behind_digits [] text h = refl
 behind_digits (b ∷ digits) text h =
     let parts = and_parts (is_ascii_digit b) (list_all is_ascii_digit digits) h in
-    ap (λ t. if t then nat_eq b 108 else may_load (digits ++ text)) (digit_is_low b parts.0) ∙ behind_digits digits text parts.1
+    ap (λ t. if t then nat_eq b 108 else may_load (digits ++ text)) (digit_is_low b parts.0)
+    ∙ behind_digits digits text parts.1
 
 digits_of_int : (word : List ℕ) → is_int word ≡ true → list_all is_ascii_digit word ≡ true
 digits_of_int word h =
-    (and_parts (not (is_empty word)) (list_all is_ascii_digit word) (and_parts (not (is_empty word) && list_all is_ascii_digit word) (nat_le (digits_value word) MAX_INT) h).0).1
+    (and_parts (not (is_empty word)) (list_all is_ascii_digit word)
+    (and_parts (not (is_empty word) && list_all is_ascii_digit word) (nat_le (digits_value word) MAX_INT) h).0).1
 
 -- where a name is asked for, only an id stands before it
-named_behind : (asks : List (List ℕ)) (name : List ℕ) → (asked_by asks).name ≡ Some name → (rest : List ℕ) × (may_load (all_bytes asks) ≡ may_load (name ++ rest))
+named_behind : (asks : List (List ℕ)) (name : List ℕ) → (asked_by asks).name ≡ Some name → (rest : List ℕ)
+    × (may_load (all_bytes asks) ≡ may_load (name ++ rest))
 named_behind [] name e = absurd (cc)
 named_behind (word ∷ []) name e = at (is_int word) e
   where
-    at : (i : Bool) → (if i then asked (Some (digits_value word)) [] else asked None (word ∷ [])).name ≡ Some name → (rest : List ℕ) × (may_load (all_bytes (word ∷ [])) ≡ may_load (name ++ rest))
+    at : (i : Bool) → (if i then asked (Some (digits_value word)) [] else asked None (word ∷ [])).name ≡ Some name →
+        (rest : List ℕ) × (may_load (all_bytes (word ∷ [])) ≡ may_load (name ++ rest))
     at true e = absurd (cc)
     at false e = let same : word ≡ name = cc in ([], ap (λ w. may_load (w ++ [])) same)
 named_behind (word ∷ next ∷ others) name e = at (is_int word) refl e
   where
-    at : (i : Bool) → is_int word ≡ i → (if i then asked (Some (digits_value word)) (next ∷ others) else asked None (word ∷ next ∷ others)).name ≡ Some name →
+    at : (i : Bool) → is_int word ≡ i →
+        (if i then asked (Some (digits_value word)) (next ∷ others) else asked None (word ∷ next ∷ others)).name ≡ Some
+        name →
         (rest : List ℕ) × (may_load (all_bytes (word ∷ next ∷ others)) ≡ may_load (name ++ rest))
     at true h e =
-        let same : next ≡ name = cc in
-        (all_bytes others, behind_digits word (next ++ all_bytes others) (digits_of_int word h) ∙ ap (λ w. may_load (w ++ all_bytes others)) same)
-    at false h e = let same : word ≡ name = cc in (all_bytes (next ∷ others), ap (λ w. may_load (w ++ all_bytes (next ∷ others))) same)
+        let same : next ≡ name = cc in (
+          all_bytes others,
+          behind_digits word (next ++ all_bytes others) (digits_of_int word h)
+              ∙ ap (λ w. may_load (w ++ all_bytes others)) same,
+        )
+    at false h e = let same : word ≡ name = cc in
+        (all_bytes (next ∷ others), ap (λ w. may_load (w ++ all_bytes (next ∷ others))) same)
 
 other_name : (name : List ℕ) → bytes_eq name (codes "loadsgf") ≡ false → command_of name ≡ Some Loadsgf → ⊥
 other_name name other e = grind (arith, common_steps)
@@ -92,23 +105,28 @@ name_of_load name e = at (bytes_eq name (codes "loadsgf")) refl
     at true same = (bytes_eq-Decides name (codes "loadsgf")).0 same
     at false other = absurd (other_name name other e)
 
-pub asks_for_another : (text : List ℕ) → may_load text ≡ false → option_and_then command_of (asked_by (words text)).name ≡ Some Loadsgf → ⊥
+pub asks_for_another : (text : List ℕ) → may_load text ≡ false →
+    option_and_then command_of (asked_by (words text)).name ≡ Some Loadsgf → ⊥
 asks_for_another text none asks = at (asked_by (words text)).name refl asks
   where
-    at : (name : Option (List ℕ)) → (asked_by (words text)).name ≡ name → option_and_then command_of name ≡ Some Loadsgf → ⊥
+    at : (name : Option (List ℕ)) → (asked_by (words text)).name ≡ name →
+        option_and_then command_of name ≡ Some Loadsgf → ⊥
     at None e h = cc
     at (Some name) e h =
         let found = named_behind (words text) name e in
-        let same : may_load (name ++ found.0) ≡ may_load (codes "loadsgf" ++ found.0) = ap (λ n. may_load (n ++ found.0)) (name_of_load name h) in
+        let same : may_load (name ++ found.0) ≡ may_load (codes "loadsgf" ++ found.0) =
+        ap (λ n. may_load (n ++ found.0)) (name_of_load name h) in
         let bad = sym none ∙ by_words text ∙ found.1 ∙ same in cc
 
-no_load : (command : Option Command) (arguments : List (List ℕ)) → (command ≡ Some Loadsgf → ⊥) → load_on command arguments ≡ None
+no_load : (command : Option Command) (arguments : List (List ℕ)) → (command ≡ Some Loadsgf → ⊥) →
+    load_on command arguments ≡ None
 no_load None arguments other = refl
 no_load (Some Loadsgf) arguments other = absurd (other refl)
 no_load (Some command) arguments other = refl
 
 -- a line that asks for no `loadsgf` wants no file
-pub none_wanted : (k : Kept) → (option_and_then command_of (asked_by (words k.text)).name ≡ Some Loadsgf → ⊥) → None ≡ wanted k
+pub none_wanted : (k : Kept) → (option_and_then command_of (asked_by (words k.text)).name ≡ Some Loadsgf → ⊥) →
+    None ≡ wanted k
 none_wanted k other = at k.is_long
   where
     asks : Asked
@@ -116,4 +134,5 @@ none_wanted k other = at k.is_long
 
     at : (long : Bool) → None ≡ (if long then None else option_map (λ (load : Load). load.name) (load_asked asks))
     at true = refl
-    at false = ap (option_map (λ (load : Load). load.name)) (sym (no_load (option_and_then command_of asks.name) asks.arguments other))
+    at false = ap (option_map (λ (load : Load). load.name))
+        (sym (no_load (option_and_then command_of asks.name) asks.arguments other))

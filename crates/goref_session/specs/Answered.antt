@@ -14,8 +14,8 @@ abbrev pub flow_of : Bool → Flow
 flow_of true = Quit
 flow_of false = More
 
--- a line was answered over the old standing, and the new one is that after the answer; the answer
--- was written whole, or a front of it where that failed
+-- a line was answered over the old standing, and the new standing is that after the answer; the answer was
+-- written whole, or a prefix of it where a write failed
 pub record Answered (old new : Standing) (line : Kept) (content : Content) (result : Result Flow WriteFault)
     (taken taken' : Option (List ℕ)) : Type 0 where
   pub reply : Said

@@ -1,4 +1,4 @@
--- What a decision is: what the answer tells, and what stands then.
+-- A decision: what the answer says, and the standing after it.
 use Rattle.std.specs.Prelude.{◌≡◌, ◌⊎◌, Bool, true, false}
 use Rattle.go_game.specs.Standings.{Standing}
 use Rattle.goref_session.specs.declared.decision.Decision.{Decision}
@@ -14,7 +14,7 @@ pub record Decided : Type 0 where
 abbrev pub keeps : Standing → Decision → Decided
 keeps s decision = record { decision = decision; standing = s }
 
--- a command that was done, with nothing to tell
+-- a command that was done, with an empty answer
 abbrev pub comes_to : Standing → Decided
 comes_to s = record { decision = Done; standing = s }
 

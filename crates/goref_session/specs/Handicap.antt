@@ -23,22 +23,22 @@ with_stones s points =
       moves = [];
     }
 
--- a new start with so many handicap stones on these places, where there are such
+-- a new start with this number of handicap stones on these places, where there are such
 abbrev pub decided_places : Standing → ℕ → Option (List Point) → Decided
 decided_places s number None = keeps s (Refused InvalidNumber)
 decided_places s number (Some points) = record { decision = Tells (Places number); standing = with_stones s points }
 
--- so many handicap stones on their places, on a board where nothing stands
+-- this number of handicap stones on their places, in a vacant game
 abbrev pub decided_handicap : Standing → ℕ → Decided
 decided_handicap s number =
     if is_vacant_standing s then decided_places s number (fixed s.lines number) else keeps s (Refused BoardNotEmpty)
 
--- `fixed_handicap`: so many stones
+-- `fixed_handicap`: exactly this number of stones
 abbrev pub decided_fixed : Standing → Option ℕ → Decided
 decided_fixed s None = keeps s (Refused SyntaxError)
 decided_fixed s (Some number) = decided_handicap s number
 
--- `place_free_handicap`: so many stones, or as many as there are places for
+-- `place_free_handicap`: this number of stones, or as many as there are places for
 abbrev pub decided_free : Standing → Option ℕ → Decided
 decided_free s None = keeps s (Refused SyntaxError)
 decided_free s (Some number) = decided_handicap s (min number (greatest s.lines))

@@ -24,13 +24,13 @@ decided_play s None vertex = keeps s (Refused SyntaxError)
 decided_play s (Some c) None = keeps s (Refused SyntaxError)
 decided_play s (Some c) (Some v) = decided_move s c v
 
--- a move for which memory may be wanting: one that is neither off the board nor on a stone
+-- a move that may run out of memory: one that is neither off the board nor on a stone
 abbrev pub LacksMemoryAt : Standing → Option Colour → Option Vertex → Type 0
 LacksMemoryAt s None vertex = ⊥
 LacksMemoryAt s (Some c) None = ⊥
 LacksMemoryAt s (Some c) (Some v) = (IsOffBoard s v → ⊥) × (IsOccupied s v → ⊥)
 
--- what may be decided on a move: what the rules say, or a refusal for want of memory where that is allowed
+-- what may be decided on a move: what the rules say, or a refusal by lack of memory where that is allowed
 abbrev pub DecidesPlay : Standing → Option Colour → Option Vertex → Decided → Type 0
 DecidesPlay s c v d = (d ≡ decided_play s c v) ⊎ (LacksMemoryAt s c v × (d ≡ keeps s (Refused OutOfMemory)))
 

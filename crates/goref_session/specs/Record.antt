@@ -1,5 +1,5 @@
--- loadsgf: what a line asks to be loaded, what comes of a record's bytes, and what is decided on that. What goref-
--- printsgf tells is the record of a game, which the crate of such records defines.
+-- loadsgf: what a line asks to load, the game of a record's bytes, and what is decided on that.
+-- goref-printsgf answers the record of a game, which the crate of records defines.
 use Rattle.std.specs.Prelude.{◌≡◌, ◌≢◌, ◌≤◌, ◌⊎◌, ℕ, List, Option, Some, None, Ok, Err, length, option_map, slice_get}
 use Rattle.std.specs.Option.{option_and_then}
 use Rattle.go_game.specs.Standings.{Standing}
@@ -59,7 +59,7 @@ abbrev pub LoadsNone : List ℕ → Option ℕ → Type 0
 LoadsNone source number = ((why : SgfError) × (why ≢ sgf_error.Memory) × IsRefusal source why)
     ⊎ ((c : Trees) × (why : RecordError) × (why ≢ record_error.Memory) × Spells source c × IsGameOf c number (Err why))
 
--- why no game is loaded: want of memory is told apart
+-- why no game is loaded: lack of memory has a refusal of its own
 abbrev pub of_sgf : SgfError → LoadError
 of_sgf sgf_error.Memory = load_error.Memory
 of_sgf why = load_error.Cannot
@@ -68,8 +68,8 @@ abbrev pub load_error_of : RecordError → LoadError
 load_error_of record_error.Memory = load_error.Memory
 load_error_of why = load_error.Cannot
 
--- what may be decided on the bytes of a file: its record's game is gone on with, or there is none,
--- or memory is wanting
+-- what may be decided on the bytes of a file: play goes on with the game of its record, or there is none, or
+-- there is no memory
 abbrev pub DecidesBytes : Standing → List ℕ → Option ℕ → Decided → Type 0
 DecidesBytes s b number d = ((game : Standing) × Loads b number game × (d ≡ comes_to game))
     ⊎ (LoadsNone b number × (d ≡ keeps s (Refused CannotLoad)))

@@ -43,7 +43,7 @@ fact_text (Places number) s = places_text (fixed s.lines number)
 fact_text (Choice v) s = vertex_word v
 fact_text (Plays marks) s = plays_text s.lines marks
 
--- the id in front of an answer, without leading zeros
+-- the id before an answer, without leading zeros
 abbrev pub id_text : Option ℕ → List ℕ
 id_text None = []
 id_text (Some id) = decimal id
@@ -91,6 +91,6 @@ abbrev pub Reply : Standing → Kept → Content → Said → Type 0
 Reply s k content reply = ((has_bytes k.text ≡ false) × (reply ≡ silent s))
     ⊎ ((has_bytes k.text ≡ true) × Answers s k content reply)
 
--- the name of the file that a line wants fetched
+-- the name of the file that a line asks for
 abbrev pub wanted : Kept → Option (List ℕ)
 wanted k = if k.is_long then None else option_map (λ load. load.name) (load_asked (asked_by (words k.text)))

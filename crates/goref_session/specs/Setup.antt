@@ -1,4 +1,4 @@
--- boardsize, komi and goref-superko: what is set before a game. What clear_board comes to is in Starts.
+-- boardsize, komi and goref-superko: what is set before a game. clear_board is in Starts.
 use Rattle.std.specs.Prelude.{ℕ, ℤ, ◌&&◌, List, [], ◌∷◌, Option, Some, None, codes, if◌then◌else◌, nat_le}
 use Rattle.std.specs.Str.{bytes_eq}
 use Rattle.go_board.specs.declared.size.TheConstants.{MAX_LINES}
@@ -17,7 +17,7 @@ decided_size s None = keeps s (Refused SyntaxError)
 decided_size s (Some n) =
     if nat_le 1 n && nat_le n MAX_LINES then comes_to (emptied s n) else keeps s (Refused UnacceptableSize)
 
--- `komi`: the komi alone is set, which is no move
+-- `komi`: only the komi changes, which is no move
 abbrev pub decided_komi : Standing → Option ℤ → Decided
 decided_komi s None = keeps s (Refused SyntaxError)
 decided_komi s (Some komi) = comes_to (record s { komi = komi })
@@ -28,7 +28,7 @@ rule_of word =
     if bytes_eq word (codes "positional") then Some Positional
     else (if bytes_eq word (codes "situational") then Some Situational else None)
 
--- `goref-superko`: the rule is set where none of these moves stands
+-- `goref-superko`: the rule is set where there is no move
 abbrev pub decided_superko : Standing → List Move → Option Superko → Decided
 decided_superko s moves None = keeps s (Refused SyntaxError)
 decided_superko s [] (Some rule) = comes_to (record s { rule = rule })

@@ -1,4 +1,4 @@
--- The commands that tell and change nothing.
+-- The commands that answer a question and change nothing.
 use Rattle.std.specs.Prelude.{ℕ, Bool, true, false, is_some, List, Option, Some, None, codes}
 use Rattle.std.specs.List.{join_with_byte}
 use Rattle.go_game.specs.Scores.{margin_of, score_word}
@@ -14,7 +14,7 @@ use Rattle.goref_session.specs.declared.decision.Refusal.TheVariants.{SyntaxErro
 use Rattle.goref_results.specs.ChainLines.{chain_lines}
 use Rattle.goref_results.specs.Diagrams.{diagram}
 
--- what is told of a topic over a standing
+-- the answer to a topic over a standing
 abbrev pub topic_text : Topic → Standing → List ℕ
 topic_text Protocol s = codes "2"
 topic_text Program s = codes "goref"
@@ -25,7 +25,7 @@ topic_text Board s = diagram s
 topic_text Chains s = chain_lines s.lines (board_of s)
 topic_text Record s = record_body s
 
--- a topic is told
+-- a topic is answered
 abbrev pub decided_topic : Standing → Topic → Decided
 decided_topic s topic = keeps s (Tells (About topic))
 

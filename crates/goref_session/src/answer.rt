@@ -1,4 +1,5 @@
-//! Answers as they are framed: the sign, the id, what is told or refused, and the two line ends.
+//! The frame of an answer, which the protocol calls a response: the sign, the id, the text or the refusal,
+//! and the two line ends.
 ghost use Rattle.std.specs.Prelude.{◌≡◌, ◌++◌, codes};
 ghost use Rattle.go_board.specs.Device.{Sent, failures_after};
 ghost use Rattle.go_board.specs.Pens.{Writes};
@@ -12,8 +13,8 @@ use go_game::Game;
 use itoa::Buffer;
 use std::alloc::Allocator;
 
-/// Writes the answer with this id by a decision over the game. On a fault what was written is a
-/// front of the answer.
+/// Writes the answer with this id by a decision over the game. On a fault what was written is a prefix of the
+/// answer.
 pub fn write_answer<A: Allocator + Copy, W: Sink>(
     game: &Game<A>,
     id: Option<u32>,
@@ -46,7 +47,7 @@ fn put_answer<A: Allocator + Copy, W: Sink>(
     }
 }
 
-/// Writes an answer that tells nothing.
+/// Writes an answer without a text.
 fn put_empty<W: Sink>(id: Option<u32>, pen: &mut Pen<'_, W>)
     ensures { Writes W.Sink pen.old pen.new (codes "=" ++ (id_text id ++ codes "\n\n")) }
 {
@@ -58,7 +59,7 @@ fn put_empty<W: Sink>(id: Option<u32>, pen: &mut Pen<'_, W>)
     put_end(pen);
 }
 
-/// Writes an answer that tells something.
+/// Writes an answer with a text.
 fn put_told<A: Allocator + Copy, W: Sink>(
     game: &Game<A>,
     id: Option<u32>,
@@ -87,7 +88,7 @@ fn put_refused<W: Sink>(id: Option<u32>, why: Refusal, pen: &mut Pen<'_, W>)
     put_end(pen);
 }
 
-/// The two line ends behind each answer.
+/// The two line ends after each answer.
 fn put_end<W: Sink>(pen: &mut Pen<'_, W>)
     ensures { Writes W.Sink pen.old pen.new (codes "\n\n") }
 {

@@ -8,7 +8,7 @@ use goref_lines::Request;
 /// What a line can ask for.
 #[derive(Clone, Copy, Debug, PartialEq, Eq)]
 pub enum Command {
-    /// To be told of a topic. There are no arguments.
+    /// A question about a topic. There are no arguments.
     Tells(Topic),
     KnownCommand,
     Quit,
@@ -29,7 +29,7 @@ pub enum Command {
     Superko,
 }
 
-/// What can be told without arguments.
+/// The topics of questions without arguments.
 #[derive(Clone, Copy, Debug, PartialEq, Eq)]
 pub enum Topic {
     /// The version of the protocol.

@@ -5,24 +5,24 @@ use goref_results::Plays;
 /// What is decided on a command. Its text is written afterwards.
 #[derive(Drop)]
 pub enum Decision {
-    /// Done, with nothing to tell.
+    /// Done, with an empty answer.
     Done,
     /// Done, and the session ends.
     Ends,
-    /// Done, with something to tell.
+    /// Done, with a text to answer.
     Tells(Fact),
     /// Refused: nothing changes.
     Refused(Refusal),
 }
 
-/// What an answer tells.
+/// The text of an answer.
 #[derive(Drop)]
 pub enum Fact {
-    /// What is told without arguments.
+    /// The answer to a topic.
     About(Topic),
     /// Whether a name is that of a command.
     Known(bool),
-    /// The places of so many handicap stones.
+    /// The places of this number of handicap stones.
     Places(u32),
     /// The vertex that is chosen.
     Choice(Vertex),

@@ -1,4 +1,4 @@
-//! What answers tell, as texts behind a space.
+//! The texts of answers, each after a space.
 ghost use Rattle.std.specs.List.{join_with_byte};
 ghost use Rattle.go_board.specs.Pens.{Writes};
 ghost use Rattle.go_board.specs.Vertices.{vertex_word};
@@ -16,7 +16,7 @@ use go_record::put_record;
 use goref_results::{put_board, put_chains, put_places, put_plays, put_score};
 use std::alloc::Allocator;
 
-/// Writes what a fact says, behind a space.
+/// Writes the text of a fact, after a space.
 pub fn put_fact<A: Allocator + Copy, W: Sink>(game: &Game<A>, fact: &Fact, pen: &mut Pen<'_, W>)
     ensures { Writes W.Sink pen.old pen.new (result_text (fact_text fact.now game.now.standing)) }
 {
@@ -29,7 +29,7 @@ pub fn put_fact<A: Allocator + Copy, W: Sink>(game: &Game<A>, fact: &Fact, pen: 
     }
 }
 
-/// Writes what is told of a topic, behind a space.
+/// Writes the answer to a topic, after a space.
 fn put_topic<A: Allocator + Copy, W: Sink>(game: &Game<A>, topic: Topic, pen: &mut Pen<'_, W>)
     ensures { Writes W.Sink pen.old pen.new (result_text (topic_text topic game.now.standing)) }
 {
@@ -45,7 +45,7 @@ fn put_topic<A: Allocator + Copy, W: Sink>(game: &Game<A>, topic: Topic, pen: &m
     }
 }
 
-/// Writes the names of all commands: the first behind a space, each other on a line of its own.
+/// Writes the names of all commands: the first after a space, each other on a line of its own.
 fn put_commands<W: Sink>(pen: &mut Pen<'_, W>)
     ensures { Writes W.Sink pen.old pen.new (result_text (join_with_byte 10 command_names)) }
 {
@@ -57,7 +57,7 @@ fn put_commands<W: Sink>(pen: &mut Pen<'_, W>)
     }
 }
 
-/// Writes whether a name is that of a command, behind a space.
+/// Writes whether a name is that of a command, after a space.
 fn put_truth<W: Sink>(truth: bool, pen: &mut Pen<'_, W>)
     ensures { Writes W.Sink pen.old pen.new (result_text (truth_text truth)) }
 {
@@ -68,7 +68,7 @@ fn put_truth<W: Sink>(truth: bool, pen: &mut Pen<'_, W>)
     }
 }
 
-/// Writes the choice, behind a space.
+/// Writes the choice, after a space.
 fn put_choice<W: Sink>(vertex: Vertex, pen: &mut Pen<'_, W>)
     ensures { Writes W.Sink pen.old pen.new (result_text (vertex_word vertex)) }
 {
@@ -76,7 +76,7 @@ fn put_choice<W: Sink>(vertex: Vertex, pen: &mut Pen<'_, W>)
     pen.put(vertex_text(vertex).as_bytes());
 }
 
-/// Writes the record of a game on one line, behind a space.
+/// Writes the record of a game on one line, after a space.
 fn put_game<A: Allocator + Copy, W: Sink>(game: &Game<A>, pen: &mut Pen<'_, W>)
     ensures { Writes W.Sink pen.old pen.new (result_text (record_body game.now.standing)) }
 {

@@ -21,8 +21,7 @@ pub enum Fetched<A: Allocator> {
     Memory,
 }
 
-/// The name of the file that a line wants fetched: that of a `loadsgf` whose arguments are as they
-/// are to be.
+/// The name of the file that a line asks for: that of a `loadsgf` with well-formed arguments.
 pub fn wants(line: &Line) -> Option<&[u8]>
     ensures { option_copied result ≡ wanted line.now }
 {
@@ -43,8 +42,8 @@ pub fn wants(line: &Line) -> Option<&[u8]>
     }
 }
 
-/// Whether a text may ask for `loadsgf`: the first byte above the digits is the `l` of its name. An id
-/// and spaces have none, so most lines are told apart before they are cut into words.
+/// Whether a text may ask for `loadsgf`: the first byte above the digits is the `l` of its name. An id and
+/// spaces have no such byte, so this test settles most lines before they are cut into words.
 fn may_ask_to_load(text: &[u8]) -> bool
     ensures { result ≡ may_load text.now }
 {

@@ -5,8 +5,7 @@ ghost use Rattle.goref_session.specs.Laws.{AnswersEnd, OneLoad, PlainAnswers, So
 use go_record::laws::one_outcome;
 use go_sgf::laws::one_record;
 
-/// Whatever stands, whatever a line keeps and whatever was fetched for it, something may be said to
-/// it.
+/// For each standing, each line and each fetched file there is an answer.
 pub fn some_reply()
     ensures { SomeReply }
 {}

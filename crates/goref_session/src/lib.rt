@@ -1,4 +1,5 @@
-//! The engine's side of the Go Text Protocol: what is decided on a line, and what is answered.
+//! The engine's side of the Go Text Protocol: it decides on a line, and writes the answer, which the protocol
+//! calls a response.
 #![tactic(auto)]
 
 mod answer;

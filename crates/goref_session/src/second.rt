@@ -1,5 +1,4 @@
-//! The second game of a session. It stands apart, so that it takes memory only where a record is
-//! loaded.
+//! The second game of a session. It is a type of its own, and takes memory only where a record is loaded.
 ghost use Rattle.std.specs.Prelude.{◌≡◌, IfOk, OnErr, Some, false};
 ghost use Rattle.go_game.specs.Standings.{Standing};
 ghost use Rattle.goref_session.specs.Record.{DecidesBytes};

@@ -61,7 +61,7 @@ impl<A: Allocator + Copy> Session<A> {
         }
     }
 
-    /// The game that is played: all that it tells is a function of the session's standing.
+    /// The game that is played: all its answers are functions of the session's standing.
     pub fn game(&self) -> &Game<A>
         ensures { result.now.standing ≡ self.now }
     {
@@ -71,8 +71,8 @@ impl<A: Allocator + Copy> Session<A> {
         }
     }
 
-    /// Answers a line. On a fault what was written is a front of the answer, and the session stands
-    /// as after the command.
+    /// Answers a line. On a fault what was written is a prefix of the answer, and the session is as after the
+    /// command.
     pub fn answer<W: Sink>(
         &mut self,
         line: &Line,
@@ -104,7 +104,7 @@ impl<A: Allocator + Copy> Session<A> {
         }
     }
 
-    /// Answers the command that is asked for; none where that is `loadsgf`.
+    /// Answers the command that is asked for. None: that is `loadsgf`.
     fn answer_command<W: Sink>(
         &mut self,
         request: &Request,
@@ -162,8 +162,8 @@ impl<A: Allocator + Copy> Session<A> {
     }
 }
 
-/// Answers the command that is asked for over the game that is played; none where that is `loadsgf`.
-/// A decision has room for all points, so none leaves this function.
+/// Answers the command that is asked for over the game that is played. None: that is `loadsgf`. A decision
+/// has room for all points, so this function returns none.
 fn answer_on<A: Allocator + Copy, W: Sink>(
     game: &mut Game<A>,
     alloc: A,
@@ -185,7 +185,7 @@ fn answer_on<A: Allocator + Copy, W: Sink>(
     }
 }
 
-/// Tells what was decided on a line with this id, and whether the session goes on.
+/// Writes the answer to a line with this id, and returns whether the session goes on.
 fn tell<A: Allocator + Copy, W: Sink>(
     game: &Game<A>,
     id: Option<u32>,
@@ -203,8 +203,8 @@ fn tell<A: Allocator + Copy, W: Sink>(
     }
 }
 
-/// Decides on the command that is asked for; none where that is `loadsgf`, which has a function of
-/// its own since it needs both games.
+/// Decides on the command that is asked for. None: that is `loadsgf`, which has a function of its own since
+/// it needs both games.
 fn decide_on<A: Allocator + Copy>(
     game: &mut Game<A>,
     alloc: A,
@@ -241,7 +241,7 @@ fn decide_on<A: Allocator + Copy>(
     Some(decision)
 }
 
-/// Whether the session goes on after what was decided.
+/// Whether the session goes on after a decision.
 fn flow_after(decision: &Decision) -> Flow
     ensures { result ≡ flow_of (is_end decision.now) }
 {

@@ -1,16 +1,16 @@
--- What the program's streams come to: the bytes that are left of an input, and those given to an output.
+-- The states of the program's streams: the bytes that are left of an input, and those given to an output.
 use Rattle.std.specs.Prelude.{ℕ, ◌-◌, ◌==◌, if◌then◌else◌, List, Option}
 use Rattle.std.specs.Io.KnownBytes.{append_known}
 
--- an input: the bytes that its stream has left, where it tells them, and the counts of reads, of failures and of
--- ends found
+-- an input: the bytes that its stream has left, where it shows them, and the counts of reads, of failures and
+-- of ends found
 pub record Reading : Type 0 where
   pub left : Option (List ℕ)
   pub pulls : ℕ
   pub failures : ℕ
   pub ends : ℕ
 
--- an output: the bytes that its stream holds, where it tells them, those kept back, and the count of failures
+-- an output: the bytes that its stream holds, where it shows them, those kept back, and the count of failures
 pub record Writing : Type 0 where
   pub held : Option (List ℕ)
   pub kept : List ℕ
@@ -20,6 +20,7 @@ pub record Writing : Type 0 where
 abbrev pub given_to : Writing → Option (List ℕ)
 given_to writing = append_known writing.held writing.kept
 
--- the most bytes that a put takes, of an output that keeps so many and at most the limit: a full one is emptied first
+-- the most bytes that a put takes, of an output that keeps this many bytes and at most the limit: a full one
+-- is emptied first
 abbrev pub room : ℕ → ℕ → ℕ
 room limit kept = if kept == limit then limit else limit - kept

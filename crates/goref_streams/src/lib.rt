@@ -18,7 +18,7 @@ pub mod laws;
 /// more.
 pub const KEPT: usize = 16_384;
 
-/// A stream that is read, as a device that doesn't tell its bytes.
+/// A stream that is read, as a device that doesn't show its bytes.
 #[derive(Drop)]
 pub struct Input<R: Read> {
     stream: R,
@@ -110,8 +110,8 @@ fn read_again<R: Read>(stream: &mut R, buffer: &mut [u8]) -> io::Result<usize>
     Err(io::Error::from(ErrorKind::Interrupted))
 }
 
-/// A stream that is written, as a device that doesn't tell its bytes. It keeps them back until it
-/// is full or flushed, and a fault of the stream loses those.
+/// A stream that is written, as a device that doesn't show its bytes. It keeps them back until it is full or
+/// flushed, and a fault of the stream loses those.
 #[derive(Drop)]
 pub struct Output<W: Write> {
     stream: W,
@@ -175,7 +175,7 @@ impl<W: Write> Sink for Output<W> {
         ensures passed { OnOk result (Appends self.old.held self.new.held self.old.kept) }
         ensures failures { self.new.failures ≡ failures_after result self.old.failures }
     {
-        let outcome = passed_on(&mut self.stream, self.kept.as_slice());
+        let outcome = flush_bytes(&mut self.stream, self.kept.as_slice());
         self.kept.clear();
         match outcome {
             Ok(()) => Ok(()),
@@ -189,7 +189,7 @@ impl<W: Write> Sink for Output<W> {
 
 /// Writes the bytes to a stream, and flushes it.
 #[tactic(auto, using(crate::proofs::Given::appends_keeps))]
-fn passed_on<W: Write>(stream: &mut W, bytes: &[u8]) -> io::Result<()>
+fn flush_bytes<W: Write>(stream: &mut W, bytes: &[u8]) -> io::Result<()>
     ensures { OnOk result (Appends (W.contents stream.old) (W.contents stream.new) bytes.now) }
 {
     stream.write_all(bytes)?;

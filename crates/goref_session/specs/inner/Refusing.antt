@@ -8,7 +8,7 @@ use Rattle.goref_session.specs.declared.decision.Decision.TheVariants.{Refused}
 use Rattle.goref_session.specs.declared.decision.Refusal.{Refusal}
 use Rattle.goref_session.specs.declared.decision.Refusal.TheVariants.{IllegalMove, OutOfMemory}
 
--- what the answer tells of a refused move
+-- what the answer says of a refused move
 abbrev pub move_refusal : PlayError → Refusal
 move_refusal OffBoard = IllegalMove
 move_refusal Occupied = IllegalMove

@@ -1,4 +1,4 @@
--- What a decision leaves on a device. It serves the contracts of private functions alone.
+-- What a decision writes on a device, for the contracts of private functions.
 use Rattle.std.specs.Prelude.{◌≡◌, ℕ, List, Option, Result, MatchResult}
 use Rattle.go_board.specs.Device.{then_bytes, TakesFront}
 use Rattle.go_board.specs.declared.device.WriteFault.{WriteFault}
@@ -12,13 +12,14 @@ use Rattle.goref_session.specs.Replies.{decision_text, is_end}
 use Rattle.goref_session.specs.Table.{Decides}
 use Rattle.goref_session.specs.declared.decision.Decision.{Decision}
 
--- the answer with this id by a decision was written whole, or a front of it where that failed
+-- the answer with this id by a decision was written whole, or a prefix of it where a write failed
 abbrev pub IsTold : Result Flow WriteFault → Option ℕ → Decided → Option (List ℕ) → Option (List ℕ) → Type 0
 IsTold result id d taken taken' =
-    MatchResult result (λ flow. (flow ≡ flow_of (is_end d.decision)) × (taken' ≡ then_bytes taken (decision_text id d.decision d.standing)))
+    MatchResult result (λ flow. (flow ≡ flow_of (is_end d.decision))
+    × (taken' ≡ then_bytes taken (decision_text id d.decision d.standing)))
     (λ _. TakesFront taken taken' (decision_text id d.decision d.standing))
 
--- a decision on what is asked, whatever was fetched, came to this standing and was told
+-- a decision on what is asked, whatever was fetched, gave this standing, and was written
 abbrev pub TellsOf : Standing → Standing → Asked → Result Flow WriteFault → Option (List ℕ) → Option (List ℕ) → Type 0
 TellsOf s t asked result taken taken' = (decision : Decision)
     × ((content : Content) → Decides s asked content (record { decision = decision; standing = t }))

@@ -1,4 +1,4 @@
--- The word in which it is said that a line isn't cut into words before it may want a file.
+-- A test of a line that may ask for a file, before the line is cut into words.
 use Rattle.std.specs.Prelude.{ℕ, ◌==◌, nat_lt, Bool, false, if◌then◌else◌, List, [], ◌∷◌}
 
 -- the first byte above the digits is an `l`

@@ -14,7 +14,7 @@ use go_game::{Game, SetupError, fixed_points, greatest_handicap, stones_on};
 use goref_lines::{ListError, Request, read_stones};
 use std::alloc::Allocator;
 
-/// `fixed_handicap`: begins anew with so many stones on their places, which are told.
+/// `fixed_handicap`: begins anew with this number of stones on their places, and answers the places.
 pub fn decide_fixed<A: Allocator + Copy>(
     game: &mut Game<A>,
     alloc: A,
@@ -47,7 +47,7 @@ pub fn decide_place_free<A: Allocator + Copy>(
     }
 }
 
-/// Begins anew with so many handicap stones on their places. These are told.
+/// Begins anew with this number of handicap stones on their places, and answers the places.
 fn decide_handicap<A: Allocator + Copy>(game: &mut Game<A>, alloc: A, number: u32) -> Decision
     ensures { MayDecide game.old.standing (decided_handicap game.old.standing number)
         (record { decision = result; standing = game.new.standing }) }
@@ -81,7 +81,7 @@ pub fn decide_set_free<A: Allocator + Copy>(
     }
 }
 
-/// A list that no handicap can have is refused for that where nothing stands.
+/// A list that no handicap can have is refused for that only in a vacant game.
 fn decide_bad_list<A: Allocator + Copy>(game: &Game<A>) -> Decision
     ensures { result ≡ Decision.Refused (if is_vacant_standing game.now.standing then Refusal.BadVertexList
         else Refusal.BoardNotEmpty) }
@@ -93,7 +93,7 @@ fn decide_bad_list<A: Allocator + Copy>(game: &Game<A>) -> Decision
     }
 }
 
-/// Begins anew with stones on these points, if nothing stands.
+/// Begins anew with stones on these points, if the game is vacant.
 fn decide_points<A: Allocator + Copy>(game: &mut Game<A>, alloc: A, points: &[Point]) -> Decision
     requires on { All (IsOn game.old.standing.lines) points.now }
     requires few { length points.now < game.old.standing.lines * game.old.standing.lines }
@@ -110,8 +110,8 @@ fn decide_points<A: Allocator + Copy>(game: &mut Game<A>, alloc: A, points: &[Po
     }
 }
 
-/// Begins anew with these black stones: White is to move, and the komi and the superko rule stay.
-/// It is refused for want of memory alone, since each of the stones reaches the point that is left.
+/// Begins anew with these black stones: White is to move, and the komi and the superko rule stay. Only lack
+/// of memory can refuse it, since each of the stones reaches the point that is left.
 fn begin_with<A: Allocator + Copy>(
     game: &mut Game<A>,
     alloc: A,

@@ -43,7 +43,7 @@ fn decide_move<A: Allocator + Copy>(game: &mut Game<A>, made: Move) -> Decision
     }
 }
 
-/// Why a move is refused, as the answer tells it.
+/// Why a move is refused, as the answer says it.
 fn refusal_of(error: PlayError) -> Refusal
     ensures { result ≡ move_refusal error }
 {
@@ -55,7 +55,7 @@ fn refusal_of(error: PlayError) -> Refusal
     }
 }
 
-/// `genmove`: the choice for a colour is played and told.
+/// `genmove`: plays the choice for a colour, and answers it.
 pub fn decide_genmove<A: Allocator + Copy>(game: &mut Game<A>, request: &Request) -> Decision
     ensures { MayDecide game.old.standing (decided_genmove game.old.standing
         (colour_given request.now.arguments 0))
@@ -67,7 +67,7 @@ pub fn decide_genmove<A: Allocator + Copy>(game: &mut Game<A>, request: &Request
     }
 }
 
-/// Plays the choice for a colour. It is legal, so want of memory alone can refuse it.
+/// Plays the choice for a colour. It is legal, so only lack of memory can refuse it.
 fn play_choice<A: Allocator + Copy>(game: &mut Game<A>, colour: Colour) -> Decision
     ensures { MayDecide game.old.standing (decided_genmove game.old.standing (Some colour))
         (record { decision = result; standing = game.new.standing }) }
@@ -81,7 +81,7 @@ fn play_choice<A: Allocator + Copy>(game: &mut Game<A>, colour: Colour) -> Decis
     }
 }
 
-/// `reg_genmove`: the choice is told, and isn't played.
+/// `reg_genmove`: answers the choice, and doesn't play it.
 pub fn decide_reg_genmove<A: Allocator + Copy>(game: &mut Game<A>, request: &Request) -> Decision
     ensures { MayDecide game.old.standing (decided_choice game.old.standing
         (colour_given request.now.arguments 0))
@@ -107,7 +107,7 @@ pub fn decide_undo<A: Allocator + Copy>(game: &mut Game<A>) -> Decision
     }
 }
 
-/// `goref-legal`: the legal plays of a colour are told.
+/// `goref-legal`: answers the legal plays of a colour.
 pub fn decide_legal<A: Allocator + Copy>(game: &mut Game<A>, request: &Request) -> Decision
     ensures { MayDecide game.old.standing (decided_legal game.old.standing
         (colour_given request.now.arguments 0))

@@ -50,8 +50,8 @@ pub fn record_asked<'a, A: Allocator + Copy>(
     }
 }
 
-/// Brings a game to where a record's stands, or tells why not. A refusal leaves it at no standing
-/// that was asked for.
+/// Replays a record into a game, or returns why not. After a refusal the game isn't the one that was asked
+/// for.
 pub fn load_on<A: Allocator + Copy>(game: &mut Game<A>, source: &Record) -> Result<(), Refusal>
     ensures { (s : Standing) → DecidesBytes s source.now.bytes.now source.now.number
         (after_load s game.new.standing result) }
@@ -63,7 +63,7 @@ pub fn load_on<A: Allocator + Copy>(game: &mut Game<A>, source: &Record) -> Resu
     }
 }
 
-/// The same, with want of memory told apart from all other refusals.
+/// The same, with lack of memory apart from all other refusals.
 fn replay_on<A: Allocator + Copy>(game: &mut Game<A>, source: &Record) -> Result<(), LoadError>
     ensures ok { OnOk result (Loads source.now.bytes.now source.now.number game.new.standing) }
     ensures cannot { IsErrOf result LoadError.Cannot

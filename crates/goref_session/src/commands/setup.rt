@@ -54,7 +54,7 @@ pub fn decide_komi<A: Allocator + Copy>(game: &mut Game<A>, request: &Request) -
     }
 }
 
-/// `goref-superko`: sets the superko rule, where no move stands.
+/// `goref-superko`: sets the superko rule, if there is no move.
 pub fn decide_superko<A: Allocator + Copy>(game: &mut Game<A>, request: &Request) -> Decision
     ensures { record { decision = result; standing = game.new.standing }
         ≡ decided_superko game.old.standing game.old.standing.moves

@@ -1,4 +1,4 @@
-//! known_command. What else tells and changes nothing has nothing to decide.
+//! known_command. The other questions have nothing to decide.
 ghost use Rattle.std.specs.Prelude.{◌≡◌, slice_get};
 ghost use Rattle.go_game.specs.Standings.{Standing};
 ghost use Rattle.goref_session.specs.Telling.{decided_known};
@@ -7,7 +7,7 @@ use crate::command::command_named;
 use crate::decision::{Decision, Fact, Refusal};
 use goref_lines::Request;
 
-/// `known_command`: whether a name is that of a command is told.
+/// `known_command`: answers whether a name is that of a command.
 pub fn decide_known(request: &Request) -> Decision
     ensures { (s : Standing) → record { decision = result; standing = s }
         ≡ decided_known s (slice_get request.now.arguments 0) }

@@ -16,7 +16,8 @@ returns-in_err-get_one-clause-some c n size is =
 
 pub returns-clause-is : goal.returns-clause-is
 returns-clause-is c =
-    let got = number_read _ c.get_one.result c.in_ok-get_one.field-0 c.get_one.ensures.none c.get_one.ensures.value c.in_ok-get_one.was in
+    let got = number_read _ c.get_one.result c.in_ok-get_one.field-0 c.get_one.ensures.none c.get_one.ensures.value
+    c.in_ok-get_one.was in
     let text = sym (one_text-rows (found_of c.args.matches.now) (codes "size")) ∙ got.1 in
     IfSome_then c.new.result c.new.ensures.value (λ s lines. (got.0, text, got.2 ∙ sym lines))
 

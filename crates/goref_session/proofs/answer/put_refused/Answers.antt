@@ -2,4 +2,7 @@ use Rattle.go_board.specs.lemmas.Writing.{writes_writes}
 use Rattle.goref_session.proofs.answer.put_refused.Goals as goal
 
 pub returns : goal.returns
-returns g c = writes_writes c.put.ensures (writes_writes c.put_id.ensures (writes_writes c.put-2.ensures (writes_writes (rw c.refusal_word.ensures at c.put-3.ensures) c.put_end.ensures)))
+returns g c = writes_writes c.put.ensures
+    (writes_writes c.put_id.ensures
+    (writes_writes c.put-2.ensures (writes_writes (rw c.refusal_word.ensures at c.put-3.ensures)
+    c.put_end.ensures)))

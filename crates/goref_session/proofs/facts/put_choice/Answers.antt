@@ -12,4 +12,5 @@ behind_space (At p) = refl
 
 pub returns : goal.returns
 returns g c =
-    writes_then _ c.put.ensures (rw (c.as_bytes.ensures.value, c.deref.ensures.0, c.vertex_text.ensures.text) at c.put-2.ensures) (behind_space c.args.vertex)
+    writes_then _ c.put.ensures (rw (c.as_bytes.ensures.value, c.deref.ensures.0, c.vertex_text.ensures.text) at
+    c.put-2.ensures) (behind_space c.args.vertex)

@@ -11,5 +11,6 @@ loop-name-preserved g c =
     let i = c.loop-name.invariant in (
       i.0 ++ (c.loop-name.before ∷ _),
       writes_writes i.1 (writes_writes c.put.ensures c.put-in-loop-name.ensures),
-      append_assoc i.0 _ _ ∙ ap (λ text. i.0 ++ text) (sym (listed_more c.loop-name.before _ c.loop-name.name-index _ c.loop-name-test.true)) ∙ i.2,
+      append_assoc i.0 _ _ ∙ ap (λ text. i.0 ++ text)
+          (sym (listed_more c.loop-name.before _ c.loop-name.name-index _ c.loop-name-test.true)) ∙ i.2,
     )

@@ -10,4 +10,5 @@ abbrev pub invariant-loop-name : goal.invariant-loop-name
 invariant-loop-name g l =
     (done : List ℕ)
     × Writes g.W.Sink l.fn.pen l.pen done
-    × (done ++ listed l.before (map named (drop l.name-index l.name-items)) ≡ result_text (join_with_byte 10 command_names))
+    × (done ++ listed l.before (map named (drop l.name-index l.name-items)) ≡ result_text
+    (join_with_byte 10 command_names))

@@ -15,7 +15,8 @@ returns-then-not-may_ask_to_load c =
 pub returns-then-not-asks_to_load : goal.returns-then-not-asks_to_load
 returns-then-not-asks_to_load c = none_wanted c.args.line.now (λ asks.
     let read = c.of-request.ensures ∙ ap (λ t. asked_by (words t)) c.text-text.ensures.value in
-    let bad = sym c.if-not-asks_to_load.true ∙ c.asks_to_load.ensures.1 (ap (λ (a : Asked). option_and_then command_of a.name) read ∙ asks) in
+    let bad = sym c.if-not-asks_to_load.true
+    ∙ c.asks_to_load.ensures.1 (ap (λ (a : Asked). option_and_then command_of a.name) read ∙ asks) in
     cc)
 
 pub returns-in-Some : goal.returns-in-Some

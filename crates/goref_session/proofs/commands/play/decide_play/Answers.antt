@@ -20,7 +20,8 @@ spelled n (Some (At p)) v e = ap Some (at_point (nat_lt p.col n && nat_lt p.row 
 pub returns-in-Ok : goal.returns-in-Ok
 returns-in-Ok g c =
     let colour = sym c.colour_argument.ensures ∙ c.in-Some.is in
-    let vertex : option_and_then vertex_of (slice_get c.args.request.now.arguments 1) ≡ Some c.in-Ok.vertex = spelled c.size.result _ _ (sym c.vertex_argument.ensures ∙ c.in-Ok.is) in
+    let vertex : option_and_then vertex_of (slice_get c.args.request.now.arguments 1) ≡ Some c.in-Ok.vertex =
+    spelled c.size.result _ _ (sym c.vertex_argument.ensures ∙ c.in-Ok.is) in
     rw (colour, vertex) c.decide_move.ensures
 
 pub returns-in-Err-OffBoard : goal.returns-in-Err-OffBoard

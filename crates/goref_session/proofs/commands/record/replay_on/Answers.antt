@@ -5,7 +5,8 @@ use Rattle.goref_session.proofs.commands.record.replay_on.Goals as goal
 
 pub returns-in_err-replay_source_on-clause-cannot : goal.returns-in_err-replay_source_on-clause-cannot
 returns-in_err-replay_source_on-clause-cannot g c = λ h.
-    let p = err_from_is_err_and c.from_residual-in_err-replay_source_on.result c.from_residual-in_err-replay_source_on.ensures.1 in
+    let p = err_from_is_err_and c.from_residual-in_err-replay_source_on.result
+    c.from_residual-in_err-replay_source_on.ensures.1 in
     let why = c.in_err-replay_source_on.field-0.0 in
     let other = other_refusal c.from_residual-in_err-replay_source_on.result p.0 why p.1 p.2 h in
     let told = rw c.in_ok-checked.ensures.source at c.in_err-replay_source_on.ensures.err in

@@ -11,19 +11,24 @@ use Rattle.goref_session.proofs.session.Session.answer.Goals as goal
 
 pub returns-then-not-has_words-clause-answered : goal.returns-then-not-has_words-clause-answered
 returns-then-not-has_words-clause-answered g c =
-    answered_silent c.args.self.now c.args.line.now (content_of c.args.fetched) _ (sym c.has_words.ensures ∙ c.if-not-has_words.true)
+    answered_silent c.args.self.now c.args.line.now (content_of c.args.fetched) _
+    (sym c.has_words.ensures ∙ c.if-not-has_words.true)
 
 pub returns-then-is_long-clause-answered : goal.returns-then-is_long-clause-answered
 returns-then-is_long-clause-answered g c =
     let long = sym c.is_long.ensures ∙ c.if-is_long.true in
-    answered_told c.args.self.now c.args.line.now (content_of c.args.fetched) (keeps c.args.self.now (Refused LineTooLong)) c.id_of_cut.result c.tell.result _ _
+    answered_told c.args.self.now c.args.line.now (content_of c.args.fetched)
+    (keeps c.args.self.now (Refused LineTooLong)) c.id_of_cut.result c.tell.result _ _
     (sym c.has_words.ensures ∙ c.if-not-has_words.false)
-    (inl (long, refl)) (c.id_of_cut.ensures ∙ ap id_before_space c.text-text.ensures.value ∙ long_id c.args.line.now long)
-    (told_at c.tell.result c.id_of_cut.result (Refused LineTooLong) c.game.result.now.standing c.args.self.now _ _ _ c.game.ensures refl c.tell.ensures.told)
+    (inl (long, refl)) (c.id_of_cut.ensures ∙ ap id_before_space c.text-text.ensures.value
+    ∙ long_id c.args.line.now long)
+    (told_at c.tell.result c.id_of_cut.result (Refused LineTooLong) c.game.result.now.standing c.args.self.now _ _ _
+    c.game.ensures refl c.tell.ensures.told)
 
 pub returns-in-Some-clause-answered : goal.returns-in-Some-clause-answered
 returns-in-Some-clause-answered g c =
-    answered_by c.args.self.now c.answer_command.new.self c.args.line.now (content_of c.args.fetched) c.of-request.result c.answer_command.result c.in-Some.told _ _
+    answered_by c.args.self.now c.answer_command.new.self c.args.line.now (content_of c.args.fetched)
+    c.of-request.result c.answer_command.result c.in-Some.told _ _
     (sym c.has_words.ensures ∙ c.if-not-has_words.false) (sym c.is_long.ensures ∙ c.if-is_long.false)
     (c.of-request.ensures ∙ ap (λ (text : List ℕ). asked_by (words text)) c.text-text.ensures.value)
     c.in-Some.is c.answer_command.ensures.told
@@ -44,4 +49,5 @@ returns-in-None-clause-answered g c =
           loads.0 loads.1 c.decide_load-decision.ensures),
     ))
     (c.id.ensures ∙ ap (λ (r : Asked). r.id) asked ∙ whole_id c.args.line.now whole)
-    (told_at c.tell-in-None.result c.id.result d.decision c.game-in-None.result.now.standing d.standing _ _ _ c.game-in-None.ensures (ap g.W.Sink.taken loads.2) c.tell-in-None.ensures.told)
+    (told_at c.tell-in-None.result c.id.result d.decision c.game-in-None.result.now.standing d.standing _ _ _
+    c.game-in-None.ensures (ap g.W.Sink.taken loads.2) c.tell-in-None.ensures.told)
