@@ -23,8 +23,10 @@ other_than_memory (Illegal number reason) why f = (λ e. cc, cc)
 other_than_memory Memory why f = absurd (cc)
 
 -- what the game of a record that was read is refused for, that of the whole input is
-pub refuses_game : (bytes : List ℕ) (left left' : Option (List ℕ)) → IsInput bytes left left' → (MAX_RECORD < length bytes → ⊥) →
-    (c : Trees) → Spells bytes c → (e : RecordError) → (e ≢ Memory → IsGameOf c None (Err e)) → (why : RecordError) → of_game e ≡ Record why → RefusesGame left why
+pub refuses_game : (bytes : List ℕ) (left left' : Option (List ℕ)) → IsInput bytes left left' →
+    (MAX_RECORD < length bytes → ⊥) →
+    (c : Trees) → Spells bytes c → (e : RecordError) → (e ≢ Memory → IsGameOf c None (Err e)) → (why : RecordError) →
+    of_game e ≡ Record why → RefusesGame left why
 refuses_game bytes left left' is short c spelled e refused why f =
     let other = other_than_memory e why f in
     let P : RecordError → Type 0 = λ x. RefusesGame left x in

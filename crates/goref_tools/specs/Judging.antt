@@ -30,7 +30,7 @@ abbrev pub Judges : List ℕ → Option (List ℕ) → Option (List ℕ) → Typ
 Judges input taken taken' =
     (c : Trees) × Spells input c × ((v : Verdict) × IsVerdict c v × (taken' ≡ then_bytes taken (verdict_text v)))
 
--- the writer took a front of them
+-- the writer took a prefix of them
 abbrev pub BeginsToJudge : List ℕ → Option (List ℕ) → Option (List ℕ) → Type 0
 BeginsToJudge input taken taken' =
     (c : Trees) × Spells input c × ((v : Verdict) × IsVerdict c v × TakesFront taken taken' (verdict_text v))

@@ -12,12 +12,12 @@ use Rattle.go_sgf.specs.declared.limits.TheConstants.{MAX_RECORD}
 abbrev pub Tidies : List ℕ → Option (List ℕ) → Option (List ℕ) → Type 0
 Tidies input taken taken' = (c : Trees) × Spells input c × (taken' ≡ then_bytes taken (canonical c))
 
--- the writer took a front of it
+-- the writer took a prefix of it
 abbrev pub BeginsToTidy : List ℕ → Option (List ℕ) → Option (List ℕ) → Type 0
 BeginsToTidy input taken taken' = (c : Trees) × Spells input c × TakesFront taken taken' (canonical c)
 
--- The canonical text of a record spells no record but one whose canonical text it is, and is
--- refused, if it isn't too long, for want of memory alone.
+-- The canonical text of a record spells only records that have this canonical text. If it isn't too long,
+-- only lack of memory can refuse it.
 abbrev pub TidyIsTidy : Type 0
 TidyIsTidy = (input : List ℕ) (c : Trees) → Spells input c →
     ((d : Trees) → Spells (canonical c) d → canonical d ≡ canonical c)

@@ -29,7 +29,7 @@ pub record IsInput (bytes : List ℕ) (left left' : Option (List ℕ)) : Type 0 
   pub given : left ≡ after_bytes bytes left'
   pub ended : length bytes ≤ MAX_RECORD → IfSome left' (λ xs. xs ≡ [])
 
--- the whole input is refused for this, which isn't want of memory
+-- the whole input is refused for this, which isn't lack of memory
 abbrev pub Refuses : Option (List ℕ) → SgfError → Type 0
 Refuses left why = (why ≢ Memory) × IfSome left (λ input. IsRefusal input why)
 
@@ -37,21 +37,21 @@ Refuses left why = (why ≢ Memory) × IfSome left (λ input. IsRefusal input wh
 abbrev pub HasNoGame : List ℕ → RecordError → Type 0
 HasNoGame input why = (c : Trees) × Spells input c × IsGameOf c None (Err why)
 
--- so for the whole input, and it isn't want of memory
+-- so for the whole input, and it isn't lack of memory
 abbrev pub RefusesGame : Option (List ℕ) → RecordError → Type 0
 RefusesGame left why = (why ≢ record_error.Memory) × IfSome left (λ input. HasNoGame input why)
 
--- a refusal of the record; want of memory is one of the tool itself
+-- a refusal of the record; lack of memory is one of the tool itself
 abbrev pub tool_error_of : SgfError → ToolError
 tool_error_of Memory = tool_error.Memory
 tool_error_of why = Sgf why
 
--- a refusal of its game; want of memory is one of the tool itself
+-- a refusal of its game; lack of memory is one of the tool itself
 abbrev pub of_game : RecordError → ToolError
 of_game record_error.Memory = tool_error.Memory
 of_game why = Record why
 
--- the exit status: 1 for a refused record or game, 3 for a fault, want of memory among them
+-- the exit status: 1 for a refused record or game, 3 for a fault, lack of memory among them
 abbrev pub status_of : ToolError → ℕ
 status_of (Sgf Memory) = 3
 status_of (Record record_error.Memory) = 3
@@ -69,9 +69,9 @@ abbrev pub write_failures_after : {T : Type 0} → Result T ToolError → ℕ �
 write_failures_after (Err Write) old = old + 1
 write_failures_after _ old = old
 
--- What a tool does to its devices. It reads no more than the largest record wants, and finds one end at most; a fault
--- of a device is counted once, where it ended the tool. Nothing is written but where a fault of the writer ended it, or
--- none did, and then nothing is held back.
+-- What a tool does to its devices. It reads no more than the largest record needs, and finds one end at most.
+-- A fault of a device is counted once, if it ended the tool. Something is written only if a fault of the
+-- writer ended the tool, or none did, and then nothing is held back.
 pub record UsesDevices {T R W : Type 0} (input : source.Ghosts R) (output : sink.Ghosts W) (result : Result T ToolError)
     (reader reader' : R) (writer writer' : W) : Type 0 where
   pub reads : Reads (input.left reader) (input.left reader')

@@ -12,9 +12,9 @@ use std::fmt;
 /// Why a tool didn't do its task.
 #[derive(Clone, Copy, Debug, PartialEq, Eq)]
 pub enum ToolError {
-    /// The input is no record. Want of memory in reading it is [`ToolError::Memory`].
+    /// The input is no record. Lack of memory in reading it is [`ToolError::Memory`].
     Sgf(SgfError),
-    /// The record has no game. Want of memory in replaying it is [`ToolError::Memory`].
+    /// The record has no game. Lack of memory in replaying it is [`ToolError::Memory`].
     Record(RecordError),
     /// A read failed.
     Read,
@@ -25,8 +25,8 @@ pub enum ToolError {
 }
 
 impl ToolError {
-    /// The exit status that tells of it: 1 where the record is refused, 3 for any other fault, want
-    /// of memory among them.
+    /// The exit status for it: 1 where the record is refused, 3 for any other fault, lack of memory among
+    /// them.
     pub fn status(&self) -> u8
         ensures { result ≡ status_of self.now }
     {

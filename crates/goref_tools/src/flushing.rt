@@ -6,7 +6,7 @@ use crate::error::ToolError;
 use go_board::{Failed, Sink};
 
 /// Flushes the writer.
-pub fn passed_on<W: Sink>(writer: &mut W) -> Result<(), ToolError>
+pub fn flush<W: Sink>(writer: &mut W) -> Result<(), ToolError>
     ensures bytes { W.taken writer.new ≡ W.taken writer.old }
     ensures passed { OnOk result (W.held writer.new ≡ 0) }
     ensures error { IfErr result (λ error. error ≡ Write) }

@@ -10,8 +10,8 @@ use std::alloc::Allocator;
 /// The most bytes of one read of an input.
 pub const CHUNK: usize = 4_096;
 
-/// All bytes that a device gives up to its end; of more than a record may have, the first ones,
-/// one more than that.
+/// All bytes of a device up to its end. If they are more than a record may have, the first `MAX_RECORD + 1`
+/// bytes.
 ///
 /// # Errors
 ///

@@ -6,7 +6,7 @@ ghost use Rattle.goref_tools.specs.Tools.{Refuses, RefusesGame, UsesDevices};
 ghost use Rattle.goref_tools.specs.declared.error.ToolError.TheVariants.{Record, Sgf, Write};
 
 use crate::error::ToolError;
-use crate::flushing::passed_on;
+use crate::flushing::flush;
 use crate::input::read_input;
 use crate::verdict_lines::write_verdict;
 use go_board::{Sink, Source, WriteFault};
@@ -14,10 +14,10 @@ use go_record::judge_source;
 use go_sgf::check;
 use std::alloc::Allocator;
 
-/// Reads a record up to the end of the input, and writes the verdict on it in three lines: how many
-/// moves its main line has, the score after them, and whether the record states that score. Of an
-/// input that is too long for a record it reads one byte more than a record may have. Nothing is
-/// written before the whole verdict is there, and the writer is flushed once, behind the last byte.
+/// Reads a record up to the end of the input, and writes the verdict on it in three lines: how many moves its
+/// main line has, the score after them, and whether the record states that score. Of an input that is too
+/// long for a record it reads one byte more than a record may have. Nothing is written before the whole
+/// verdict is there, and the writer is flushed once, after the last byte.
 ///
 /// # Errors
 ///
@@ -43,7 +43,7 @@ pub fn judge_run<A: Allocator + Copy, R: Source, W: Sink>(
     let source = check(text.as_slice())?;
     let verdict = judge_source(alloc, &source)?;
     match write_verdict(verdict, writer) {
-        Ok(()) => passed_on(writer),
+        Ok(()) => flush(writer),
         Err(WriteFault) => Err(ToolError::Write),
     }
 }

@@ -6,21 +6,20 @@ ghost use Rattle.goref_tools.specs.Tools.{Refuses, UsesDevices};
 ghost use Rattle.goref_tools.specs.declared.error.ToolError.TheVariants.{Record, Sgf, Write};
 
 use crate::error::ToolError;
-use crate::flushing::passed_on;
+use crate::flushing::flush;
 use crate::input::read_input;
 use go_board::{Sink, Source, WriteFault};
 use go_sgf::{check, tidy};
 use std::alloc::Allocator;
 
-/// Reads a record up to the end of the input, and writes its canonical spelling. Of an input that
-/// is too long for a record it reads one byte more than a record may have. Nothing is written
-/// before the whole record was read, and the writer is flushed once, behind the last byte.
+/// Reads a record up to the end of the input, and writes its canonical spelling. Of an input that is too long
+/// for a record it reads one byte more than a record may have. Nothing is written before the whole record was
+/// read, and the writer is flushed once, after the last byte.
 ///
 /// # Errors
 ///
-/// `Read` and `Write` where a device failed; `Sgf` where the input is no record; `Memory` where
-/// there was none for the input. Never `Record`: the game isn't looked at. Only with `Write` was
-/// anything written.
+/// `Read` and `Write` where a device failed; `Sgf` where the input is no record; `Memory` where there was
+/// none for the input. Never `Record`: the game isn't replayed. Only with `Write` was anything written.
 pub fn tidy_run<A: Allocator + Copy, R: Source, W: Sink>(
     alloc: A,
     reader: &mut R,
@@ -38,7 +37,7 @@ pub fn tidy_run<A: Allocator + Copy, R: Source, W: Sink>(
     let text = read_input(alloc, reader)?;
     let source = check(text.as_slice())?;
     match tidy(&source, writer) {
-        Ok(()) => passed_on(writer),
+        Ok(()) => flush(writer),
         Err(WriteFault) => Err(ToolError::Write),
     }
 }

@@ -8,7 +8,7 @@ use go_game::score_text;
 use go_record::{Stated, Verdict};
 use itoa::Buffer;
 
-/// Writes the three lines of a verdict. On a fault the device took a front of them.
+/// Writes the three lines of a verdict. On a fault the device took a prefix of them.
 pub fn write_verdict<W: Sink>(verdict: Verdict, writer: &mut W) -> Result<(), WriteFault>
     ensures sent { Sent result (W.taken writer.old) (W.taken writer.new) (verdict_text verdict) }
     ensures failures { W.failures writer.new ≡ failures_after result (W.failures writer.old) }

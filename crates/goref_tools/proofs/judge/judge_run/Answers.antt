@@ -8,7 +8,8 @@ use Rattle.goref_tools.proofs.judge.judge_run.Goals as goal
 pub returns-in_err-source-clause-refused : goal.returns-in_err-source-clause-refused
 returns-in_err-source-clause-refused g c = λ why h.
     let p = err_from_is_err_and c.from_residual-in_err-source.result c.from_residual-in_err-source.ensures.1 in
-    refuses c.in_ok-text.text.items (g.R.Source.left c.args.reader.now) (g.R.Source.left c.read_input.new.reader) c.in_ok-text.ensures.input c.in_err-source.field-0.0
+    refuses c.in_ok-text.text.items (g.R.Source.left c.args.reader.now) (g.R.Source.left c.read_input.new.reader)
+    c.in_ok-text.ensures.input c.in_err-source.field-0.0
     (rw c.as_slice.ensures.value at c.in_err-source.ensures.refused)
     (λ long. let e = c.in_err-source.ensures.too_long.1 (rw c.as_slice.ensures.value long) in cc)
     why (same_error p.1 p.2 h)
@@ -17,7 +18,8 @@ pub returns-in_err-verdict-clause-game_refused : goal.returns-in_err-verdict-cla
 returns-in_err-verdict-clause-game_refused g c = λ why h.
     let told = rw (c.in_ok-source.ensures.source, c.as_slice.ensures.value) at c.in_err-verdict.ensures.err in
     let p = err_from_is_err_and c.from_residual-in_err-verdict.result c.from_residual-in_err-verdict.ensures.1 in
-    refuses_game c.in_ok-text.text.items (g.R.Source.left c.args.reader.now) (g.R.Source.left c.read_input.new.reader) c.in_ok-text.ensures.input
+    refuses_game c.in_ok-text.text.items (g.R.Source.left c.args.reader.now) (g.R.Source.left c.read_input.new.reader)
+    c.in_ok-text.ensures.input
     (λ long. let e = c.in_ok-source.ensures.too_long.1 (rw c.as_slice.ensures.value long) in cc)
     told.0 told.1 c.in_err-verdict.field-0.0 told.2
     why (same_error p.1 p.2 h)
@@ -25,29 +27,35 @@ returns-in_err-verdict-clause-game_refused g c = λ why h.
 pub returns-in-Ok-clause-ok : goal.returns-in-Ok-clause-ok
 returns-in-Ok-clause-ok g c =
     let told = rw (c.in_ok-source.ensures.source, c.as_slice.ensures.value) at c.in_ok-verdict.ensures.ok in
-    on_ok c.passed_on.result (of_whole (λ input. Judges input (g.W.Sink.taken c.args.writer.now) (g.W.Sink.taken c.passed_on.new.writer))
+    on_ok c.flush.result (of_whole
+    (λ input. Judges input (g.W.Sink.taken c.args.writer.now) (g.W.Sink.taken c.flush.new.writer))
     c.in_ok-text.text.items (g.R.Source.left c.read_input.new.reader) c.in_ok-text.ensures.input
     (λ long. let e = c.in_ok-source.ensures.too_long.1 (rw c.as_slice.ensures.value long) in cc) (
       told.0,
       told.1,
-      (c.in_ok-verdict.verdict, told.2, c.passed_on.ensures.bytes ∙ c.in-Ok.ensures.sent),
+      (c.in_ok-verdict.verdict, told.2, c.flush.ensures.bytes ∙ c.in-Ok.ensures.sent),
     ))
 
 pub returns-in-Ok-clause-write : goal.returns-in-Ok-clause-write
 returns-in-Ok-clause-write g c = λ h.
     let told = rw (c.in_ok-source.ensures.source, c.as_slice.ensures.value) at c.in_ok-verdict.ensures.ok in
-    of_whole (λ input. BeginsToJudge input (g.W.Sink.taken c.args.writer.now) (g.W.Sink.taken c.passed_on.new.writer))
+    of_whole (λ input. BeginsToJudge input (g.W.Sink.taken c.args.writer.now) (g.W.Sink.taken c.flush.new.writer))
     c.in_ok-text.text.items (g.R.Source.left c.read_input.new.reader) c.in_ok-text.ensures.input
     (λ long. let e = c.in_ok-source.ensures.too_long.1 (rw c.as_slice.ensures.value long) in cc) (
       told.0,
       told.1,
-      (c.in_ok-verdict.verdict, told.2, all_front (verdict_text c.in_ok-verdict.verdict) (c.passed_on.ensures.bytes ∙ c.in-Ok.ensures.sent)),
+      (
+        c.in_ok-verdict.verdict,
+        told.2,
+        all_front (verdict_text c.in_ok-verdict.verdict) (c.flush.ensures.bytes ∙ c.in-Ok.ensures.sent),
+      ),
     )
 
 pub returns-clause-write : goal.returns-clause-write
 returns-clause-write g c = λ h.
     let told = rw (c.in_ok-source.ensures.source, c.as_slice.ensures.value) at c.in_ok-verdict.ensures.ok in
-    of_whole (λ input. BeginsToJudge input (g.W.Sink.taken c.args.writer.now) (g.W.Sink.taken c.write_verdict.new.writer))
+    of_whole (λ input. BeginsToJudge input (g.W.Sink.taken c.args.writer.now)
+    (g.W.Sink.taken c.write_verdict.new.writer))
     c.in_ok-text.text.items (g.R.Source.left c.read_input.new.reader) c.in_ok-text.ensures.input
     (λ long. let e = c.in_ok-source.ensures.too_long.1 (rw c.as_slice.ensures.value long) in cc) (
       told.0,
@@ -60,7 +68,7 @@ returns-in-Ok-clause-devices g c = record {
   reads = search rules;
   pulls = search rules;
   one_end = search rules;
-  read_failures = c.in_ok-text.ensures.failures ∙ not_read c.passed_on.result _ c.passed_on.ensures.error;
+  read_failures = c.in_ok-text.ensures.failures ∙ not_read c.flush.result _ c.flush.ensures.error;
   write_failures = search rules;
   nothing_written = search rules;
   passed = search rules;
