@@ -24,11 +24,17 @@ abbrev pub SomeConversation : Standing → List (List ℕ) → Type 0
 SomeConversation s lines = (asked : List Pair) × (text : List ℕ) × Conversation s lines asked text
 
 -- a reply that ends the session, or one behind which it goes on
-pub some_more : (s : Standing) (line : List ℕ) (lines : List (List ℕ)) (content : Content) (asked : List Pair) (reply : Said) (stop : Bool) →
-    AsksShelf (wanted (kept line)) content asked → Reply s (kept line) content reply → reply.ends ≡ stop → SomeConversation reply.standing lines →
+pub some_more : (s : Standing) (line : List ℕ) (lines : List (List ℕ)) (content : Content) (asked : List Pair)
+    (reply : Said) (stop : Bool) →
+    AsksShelf (wanted (kept line)) content asked → Reply s (kept line) content reply → reply.ends ≡ stop →
+    SomeConversation reply.standing lines →
     (later : List Pair) × (rest : List ℕ) × Conversation s (line ∷ lines) (asked ++ later) (reply.text ++ rest)
-some_more s line lines content asked reply true asks is e c =
-    ([], [], retold refl (sym (append-nil asked)) (sym (append-nil reply.text)) (quits s line lines content asked reply asks is e))
+some_more s line lines content asked reply true asks is e c = (
+  [],
+  [],
+  retold refl (sym (append-nil asked)) (sym (append-nil reply.text))
+      (quits s line lines content asked reply asks is e),
+)
 some_more s line lines content asked reply false asks is e c =
     (c.0, c.1, goes_on s line lines content asked reply c.0 c.1 asks is e c.2)
 
@@ -44,7 +50,8 @@ some_conversation law (line ∷ lines) s =
 
 -- ---- what a shelf was asked, and what a writer took, piece by piece
 
-then_pairs-then_pairs : (o : Option (List Pair)) (a b : List Pair) → then_pairs (then_pairs o a) b ≡ then_pairs o (a ++ b)
+then_pairs-then_pairs : (o : Option (List Pair)) (a b : List Pair) →
+    then_pairs (then_pairs o a) b ≡ then_pairs o (a ++ b)
 then_pairs-then_pairs None a b = refl
 then_pairs-then_pairs (Some xs) a b = ap Some (append_assoc xs a b)
 
@@ -63,7 +70,8 @@ bytes_on o a b e f = f ∙ ap (λ p. then_bytes p b) e ∙ then_bytes-then_bytes
 -- ---- lines that are answered one after another
 
 -- before the first line
-pub goes_first : (s : Standing) (given : Option (List Pair)) (taken : Option (List ℕ)) → GoesOn s [] s given given taken taken
+pub goes_first : (s : Standing) (given : Option (List Pair)) (taken : Option (List ℕ)) →
+    GoesOn s [] s given given taken taken
 goes_first s given taken = record {
   asked = [];
   text = [];
@@ -81,14 +89,17 @@ stops true e = refl
 stops false e = cc
 
 -- one more line was answered, and the session goes on
-reaches_next : {s now : Standing} {lines : List (List ℕ)} {asked : List Pair} {text : List ℕ} → GetsTo s lines asked text now →
+reaches_next : {s now : Standing} {lines : List (List ℕ)} {asked : List Pair} {text : List ℕ} →
+    GetsTo s lines asked text now →
     (line : List ℕ) (content : Content) (asked' : List Pair) (reply : Said) →
     AsksShelf (wanted (kept line)) content asked' → Reply now (kept line) content reply → reply.ends ≡ false →
     GetsTo s (lines ++ line ∷ []) (asked ++ asked') (text ++ reply.text) reply.standing
 reaches_next {s} {now} {lines} {asked} {text} r line content asked' reply asks is e = record {
   on = λ more later rest c.
-      retold (sym (append_assoc lines (line ∷ []) more)) (sym (append_assoc asked asked' later)) (sym (append_assoc text reply.text rest))
-      (r.on (line ∷ more) (asked' ++ later) (reply.text ++ rest) (goes_on now line more content asked' reply later rest asks is e c));
+      retold (sym (append_assoc lines (line ∷ []) more)) (sym (append_assoc asked asked' later))
+      (sym (append_assoc text reply.text rest))
+      (r.on (line ∷ more) (asked' ++ later) (reply.text ++ rest)
+      (goes_on now line more content asked' reply later rest asks is e c));
 }
 
 module _ {s now : Standing} {lines : List (List ℕ)} {given given' : Option (List Pair)} {taken taken' : Option (List ℕ)}
@@ -100,9 +111,11 @@ module _ {s now : Standing} {lines : List (List ℕ)} {given given' : Option (Li
       asked = p.asked ++ r.asked;
       text = p.text ++ r.answered.reply.text;
       reaches =
-          let P : Standing → Type 0 = λ x. GetsTo s (lines ++ line ∷ []) (p.asked ++ r.asked) (p.text ++ r.answered.reply.text) x in
+          let P : Standing → Type 0 = λ x.
+          GetsTo s (lines ++ line ∷ []) (p.asked ++ r.asked) (p.text ++ r.answered.reply.text) x in
           subst P (sym r.answered.stands)
-          (reaches_next p.reaches line r.content r.asked r.answered.reply r.asks r.answered.is_reply (goes r.answered.reply.ends r.answered.sent.0));
+          (reaches_next p.reaches line r.content r.asked r.answered.reply r.asks r.answered.is_reply
+          (goes r.answered.reply.ends r.answered.sent.0));
       tells = pairs_on given p.asked r.asked p.tells r.tells;
       took = bytes_on taken p.text r.answered.reply.text p.took r.answered.sent.1;
     }
@@ -114,14 +127,16 @@ module _ {s now : Standing} {lines : List (List ℕ)} {given given' : Option (Li
       asked = p.asked ++ r.asked;
       text = p.text ++ r.answered.reply.text;
       is = p.reaches.on (line ∷ later) r.asked r.answered.reply.text
-          (quits now line later r.content r.asked r.answered.reply r.asks r.answered.is_reply (stops r.answered.reply.ends r.answered.sent.0));
+          (quits now line later r.content r.asked r.answered.reply r.asks r.answered.is_reply
+          (stops r.answered.reply.ends r.answered.sent.0));
       tells = pairs_on given p.asked r.asked p.tells r.tells;
       took = bytes_on taken p.text r.answered.reply.text p.took r.answered.sent.1;
     }
 
     -- the answer to one more line wasn't written whole
     pub goes_to_cut : (later all : List (List ℕ)) → lines ++ line ∷ later ≡ all → {fault : WriteFault} →
-        Responds now new (kept line) (Err fault) given' given'' taken' taken'' → WasCut s all new given given'' taken taken''
+        Responds now new (kept line) (Err fault) given' given'' taken' taken'' →
+        WasCut s all new given given'' taken taken''
     goes_to_cut later all e {fault} r = record {
       before = lines;
       line = line;
@@ -136,13 +151,15 @@ module _ {s now : Standing} {lines : List (List ℕ)} {given given' : Option (Li
     }
 
 -- what was written of lines up to one that was cut is a prefix of a conversation
-pub cut_breaks_off : {s now : Standing} {lines : List (List ℕ)} {given given' : Option (List Pair)} {taken taken' : Option (List ℕ)} →
+pub cut_breaks_off : {s now : Standing} {lines : List (List ℕ)} {given given' : Option (List Pair)}
+    {taken taken' : Option (List ℕ)} →
     SomeReply → WasCut s lines now given given' taken taken' → BreaksOff s lines given given' taken taken'
 cut_breaks_off {s} {now} {lines} {given} {given'} {taken} {taken'} law w =
     let p = w.goes_on in
     let r = w.is_cut in
     let t = r.answered.sent in
-    let c = some_more w.between w.line w.after r.content r.asked r.answered.reply r.answered.reply.ends r.asks r.answered.is_reply refl
+    let c = some_more w.between w.line w.after r.content r.asked r.answered.reply r.answered.reply.ends r.asks
+    r.answered.is_reply refl
     (some_conversation law w.after r.answered.reply.standing) in
     record {
       asked = p.asked ++ r.asked;
@@ -150,7 +167,8 @@ cut_breaks_off {s} {now} {lines} {given} {given'} {taken} {taken'} law w =
       text = p.text ++ t.front;
       rest = t.rest ++ c.1;
       is = retold (sym w.whole) (sym (append_assoc p.asked r.asked c.0))
-          (ap (λ x. p.text ++ (x ++ c.1)) t.whole ∙ ap (λ x. p.text ++ x) (append_assoc t.front t.rest c.1) ∙ sym (append_assoc p.text t.front (t.rest ++ c.1)))
+          (ap (λ x. p.text ++ (x ++ c.1)) t.whole ∙ ap (λ x. p.text ++ x) (append_assoc t.front t.rest c.1)
+          ∙ sym (append_assoc p.text t.front (t.rest ++ c.1)))
           (p.reaches.on (w.line ∷ w.after) (r.asked ++ c.0) (r.answered.reply.text ++ c.1) c.2);
       tells = pairs_on given p.asked r.asked p.tells r.tells;
       took = bytes_on taken p.text t.front p.took t.taken;

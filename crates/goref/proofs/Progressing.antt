@@ -20,22 +20,27 @@ use Rattle.goref.proofs.Lines.{complete_lines-nil, unfinished_line-nil, complete
 use Rattle.goref.proofs.Conversations.{goes_first, goes_next, goes_to_cut, goes_to_end, then_pairs-nil}
 
 -- a run before its first byte
-pub begins : (s : Standing) (given : Option (List Pair)) (taken : Option (List ℕ)) → Progress s [] (kept []) s given given taken taken
+pub begins : (s : Standing) (given : Option (List Pair)) (taken : Option (List ℕ)) →
+    Progress s [] (kept []) s given given taken taken
 begins s given taken = record {
-  goes_on = subst (λ (ls : List (List ℕ)). GoesOn s ls s given given taken taken) (sym complete_lines-nil) (goes_first s given taken);
+  goes_on = subst (λ (ls : List (List ℕ)). GoesOn s ls s given given taken taken) (sym complete_lines-nil)
+      (goes_first s given taken);
   keeps = ap kept (sym unfinished_line-nil);
 }
 
 line_and_later : (read part more : List ℕ) → HasNoEnd part → (h : Later (read ++ (part ++ 10 ∷ [])) more) →
     complete_lines read ++ (unfinished_line read ++ part) ∷ h.0 ≡ lines ((read ++ (part ++ 10 ∷ [])) ++ more)
 line_and_later read part more n h =
-    sym (h.1 ∙ ap (λ ls. ls ++ h.0) (complete_lines_end read part n) ∙ append_assoc (complete_lines read) ((unfinished_line read ++ part) ∷ []) h.0)
+    sym (h.1 ∙ ap (λ ls. ls ++ h.0) (complete_lines_end read part n)
+    ∙ append_assoc (complete_lines read) ((unfinished_line read ++ part) ∷ []) h.0)
 
 -- what was settled in the midst of a chunk stays so whatever is read
-cut_again : (read front line rest chunk more : List ℕ) → chunk ≡ front ++ (line ++ rest) → ((read ++ front) ++ line) ++ (rest ++ more) ≡ (read ++ chunk) ++ more
+cut_again : (read front line rest chunk more : List ℕ) → chunk ≡ front ++ (line ++ rest) → ((read ++ front) ++ line)
+    ++ (rest ++ more) ≡ (read ++ chunk) ++ more
 cut_again read front line rest chunk more e =
     sym (append_assoc ((read ++ front) ++ line) rest more)
-    ∙ ap (λ xs. xs ++ more) (append_assoc (read ++ front) line rest ∙ append_assoc read front (line ++ rest) ∙ ap (λ xs. read ++ xs) (sym e))
+    ∙ ap (λ xs. xs ++ more) (append_assoc (read ++ front) line rest ∙ append_assoc read front (line ++ rest)
+    ∙ ap (λ xs. read ++ xs) (sym e))
 
 pub settled : (P : List ℕ → Type 0) (read front line rest chunk : List ℕ) → chunk ≡ front ++ (line ++ rest) →
     ((more : List ℕ) → P (((read ++ front) ++ line) ++ more)) → (more : List ℕ) → P ((read ++ chunk) ++ more)
@@ -59,12 +64,15 @@ lines_at_end : (read u : List ℕ) → unfinished_line read ≡ u → complete_l
 lines_at_end read u e = ap (λ x. complete_lines read ++ if_any x) (sym e)
 
 -- a run in the middle of a line
-module _ {s now : Standing} {read : List ℕ} {line : Kept} {given given' : Option (List Pair)} {taken taken' : Option (List ℕ)}
+module _ {s now : Standing} {read : List ℕ} {line : Kept} {given given' : Option (List Pair)}
+    {taken taken' : Option (List ℕ)}
     (p : Progress s read line now given given' taken taken') where
   -- more bytes of the line
-  pub reads_on : (part : List ℕ) → HasNoEnd part → Progress s (read ++ part) (kept (unfinished_line read ++ part)) now given given' taken taken'
+  pub reads_on : (part : List ℕ) → HasNoEnd part →
+      Progress s (read ++ part) (kept (unfinished_line read ++ part)) now given given' taken taken'
   reads_on part h = record {
-    goes_on = subst (λ (ls : List (List ℕ)). GoesOn s ls now given given' taken taken') (sym (complete_lines_more read part h)) p.goes_on;
+    goes_on = subst (λ (ls : List (List ℕ)). GoesOn s ls now given given' taken taken')
+        (sym (complete_lines_more read part h)) p.goes_on;
     keeps = ap kept (sym (unfinished_line_more read part h));
   }
 
@@ -74,7 +82,8 @@ module _ {s now : Standing} {read : List ℕ} {line : Kept} {given given' : Opti
         Responds now new (kept (unfinished_line read ++ part)) result given' given'' taken' taken'' →
         Proceeds result s (read ++ (part ++ 10 ∷ [])) (kept []) new given given'' taken taken''
     proceeds part n (Ok More) r = record {
-      goes_on = subst (λ (ls : List (List ℕ)). GoesOn s ls new given given'' taken taken'') (sym (complete_lines_end read part n))
+      goes_on = subst (λ (ls : List (List ℕ)). GoesOn s ls new given given'' taken taken'')
+          (sym (complete_lines_end read part n))
           (goes_next p.goes_on (unfinished_line read ++ part) r);
       keeps = ap kept (sym (unfinished_line_end read part));
     }
@@ -87,12 +96,15 @@ module _ {s now : Standing} {read : List ℕ} {line : Kept} {given given' : Opti
         goes_to_cut p.goes_on (unfinished_line read ++ part) h.0 _ (line_and_later read part more n h) r
 
     -- the line that the run has come to, by its bytes
-    its_line : {result : Result Flow WriteFault} (u : List ℕ) → unfinished_line read ≡ u → Responds now new line result given' given'' taken' taken'' →
+    its_line : {result : Result Flow WriteFault} (u : List ℕ) → unfinished_line read ≡ u →
+        Responds now new line result given' given'' taken' taken'' →
         Responds now new (kept u) result given' given'' taken' taken''
-    its_line {result} u e r = subst (λ (k : Kept). Responds now new k result given' given'' taken' taken'') (p.keeps ∙ ap kept e) r
+    its_line {result} u e r = subst (λ (k : Kept). Responds now new k result given' given'' taken' taken'')
+        (p.keeps ∙ ap kept e) r
 
     -- where there is no last line, nothing is said to it
-    goes_on_silent : (flow : Flow) → unfinished_line read ≡ [] → Responds now new (kept []) (Ok flow) given' given'' taken' taken'' →
+    goes_on_silent : (flow : Flow) → unfinished_line read ≡ [] →
+        Responds now new (kept []) (Ok flow) given' given'' taken' taken'' →
         GoesOn s (lines read) new given given'' taken taken''
     goes_on_silent flow e r =
         let reply = silent_reply now r.content r.answered.reply r.answered.is_reply in
@@ -100,26 +112,35 @@ module _ {s now : Standing} {read : List ℕ} {line : Kept} {given given' : Opti
         record {
           asked = g.asked;
           text = g.text;
-          reaches = subst (λ (x : Standing). GetsTo s (lines read) g.asked g.text x) (sym (r.answered.stands ∙ ap (λ (x : Said). x.standing) reply))
-              (subst (λ (ls : List (List ℕ)). GetsTo s ls g.asked g.text now) (sym (append-nil (complete_lines read)) ∙ lines_at_end read [] e) g.reaches);
-          tells = r.tells ∙ ap (then_pairs given') (silent_asks r.content r.asked r.asks) ∙ then_pairs-nil given' ∙ g.tells;
+          reaches = subst (λ (x : Standing). GetsTo s (lines read) g.asked g.text x)
+              (sym (r.answered.stands ∙ ap (λ (x : Said). x.standing) reply))
+              (subst (λ (ls : List (List ℕ)). GetsTo s ls g.asked g.text now)
+              (sym (append-nil (complete_lines read)) ∙ lines_at_end read [] e) g.reaches);
+          tells = r.tells ∙ ap (then_pairs given') (silent_asks r.content r.asked r.asks) ∙ then_pairs-nil given'
+              ∙ g.tells;
           took = r.answered.sent.1 ∙ ap (λ (x : Said). then_bytes taken' x.text) reply ∙ then_bytes-nil taken' ∙ g.took;
         }
 
     ends_at : (u : List ℕ) → unfinished_line read ≡ u → (result : Result Flow WriteFault) →
-        (has_bytes (kept u).text ≡ false → result ≡ Ok More) → Responds now new (kept u) result given' given'' taken' taken'' →
+        (has_bytes (kept u).text ≡ false → result ≡ Ok More) →
+        Responds now new (kept u) result given' given'' taken' taken'' →
         AnswersLines result s (lines read) new given given'' taken taken''
     ends_at [] e (Ok More) said r = goes_on_silent More e r
     ends_at [] e (Ok Quit) said r = let h = said no_words in cc
     ends_at [] e (Err fault) said r = let h = said no_words in cc
     ends_at (b ∷ u) e (Ok More) said r =
-        subst (λ (ls : List (List ℕ)). GoesOn s ls new given given'' taken taken'') (lines_at_end read (b ∷ u) e) (goes_next p.goes_on (b ∷ u) r)
+        subst (λ (ls : List (List ℕ)). GoesOn s ls new given given'' taken taken'') (lines_at_end read (b ∷ u) e)
+        (goes_next p.goes_on (b ∷ u) r)
     ends_at (b ∷ u) e (Ok Quit) said r =
-        subst (λ (ls : List (List ℕ)). Converses s ls given given'' taken taken'') (lines_at_end read (b ∷ u) e) (goes_to_end p.goes_on (b ∷ u) [] r)
+        subst (λ (ls : List (List ℕ)). Converses s ls given given'' taken taken'') (lines_at_end read (b ∷ u) e)
+        (goes_to_end p.goes_on (b ∷ u) [] r)
     ends_at (b ∷ u) e (Err fault) said r = goes_to_cut p.goes_on (b ∷ u) [] (lines read) (lines_at_end read (b ∷ u) e) r
 
     -- the end of the input, with the last line answered
     pub finishes : (result : Result Flow WriteFault) → (has_bytes line.text ≡ false → result ≡ Ok More) →
-        Responds now new line result given' given'' taken' taken'' → AnswersLines result s (lines read) new given given'' taken taken''
+        Responds now new line result given' given'' taken' taken'' →
+        AnswersLines result s (lines read) new given given'' taken taken''
     finishes result said r =
-        ends_at (unfinished_line read) refl result (subst (λ (k : Kept). has_bytes k.text ≡ false → result ≡ Ok More) p.keeps said) (its_line (unfinished_line read) refl r)
+        ends_at (unfinished_line read) refl result
+        (subst (λ (k : Kept). has_bytes k.text ≡ false → result ≡ Ok More) p.keeps said)
+        (its_line (unfinished_line read) refl r)

@@ -13,20 +13,25 @@ use Rattle.goref.specs.Runs.{AnswersComplete, AnswersFront}
 use Rattle.goref.specs.lemmas.Conversations.{so_far}
 
 -- the complete lines of what was read are answered
-pub answers_complete : {s now : Standing} {read : List ℕ} {line : Kept} {left left' : Option (List ℕ)} {given given' : Option (List Pair)} {taken taken' : Option (List ℕ)} →
-    left ≡ after_bytes read left' → Progress s read line now given given' taken taken' → AnswersComplete s left left' given given' taken taken'
+pub answers_complete : {s now : Standing} {read : List ℕ} {line : Kept} {left left' : Option (List ℕ)}
+    {given given' : Option (List Pair)} {taken taken' : Option (List ℕ)} →
+    left ≡ after_bytes read left' → Progress s read line now given given' taken taken' →
+    AnswersComplete s left left' given given' taken taken'
 answers_complete {s} {now} {read} e p = record {
   read = read;
   has_read = e;
   converses = so_far p.goes_on;
 }
 
-pub answers_front : {s : Standing} {left left' : Option (List ℕ)} {given given' : Option (List Pair)} {taken taken' : Option (List ℕ)} (read : List ℕ) →
-    left ≡ after_bytes read left' → BreaksOff s (lines read) given given' taken taken' → AnswersFront s left left' given given' taken taken'
+pub answers_front : {s : Standing} {left left' : Option (List ℕ)} {given given' : Option (List Pair)}
+    {taken taken' : Option (List ℕ)} (read : List ℕ) →
+    left ≡ after_bytes read left' → BreaksOff s (lines read) given given' taken taken' →
+    AnswersFront s left left' given given' taken taken'
 answers_front read e b = record { read = read; has_read = e; breaks_off = b }
 
 -- what holds of what was read holds of the input, where that has ended
-pub of_ended : (P : List ℕ → Type 0) (read : List ℕ) {left : Option (List ℕ)} (left' : Option (List ℕ)) → left ≡ after_bytes read left' →
+pub of_ended : (P : List ℕ → Type 0) (read : List ℕ) {left : Option (List ℕ)} (left' : Option (List ℕ)) →
+    left ≡ after_bytes read left' →
     IfSome left' (λ xs. xs ≡ []) → P read → IfSome left P
 of_ended P read {left} None e f h = let Q : Option (List ℕ) → Type 0 = λ o. IfSome o P in subst Q (sym e) tt
 of_ended P read {left} (Some more) e f h =
@@ -34,11 +39,13 @@ of_ended P read {left} (Some more) e f h =
     subst Q (sym e) (subst P (sym (append-nil read) ∙ ap (λ xs. read ++ xs) (sym f)) h)
 
 -- a read that gave some bytes found no end
-pub no_end_found : (E : Type 0) (n len old : ℕ) → (n ≡ 0 → ⊥) → (let given : Result ℕ E = Ok n in ends_after given len old ≡ old)
+pub no_end_found : (E : Type 0) (n len old : ℕ) → (n ≡ 0 → ⊥) →
+    (let given : Result ℕ E = Ok n in ends_after given len old ≡ old)
 no_end_found E n len old some = rw (ne_eqb n 0 some) refl
 
 -- a line was answered and flushed, or has no words: where nothing was held back before, nothing is then
-pub none_held : {T E : Type 0} (words : Bool) (r : Result T E) (before between after : ℕ) → (words ≡ false → between ≡ before) →
+pub none_held : {T E : Type 0} (words : Bool) (r : Result T E) (before between after : ℕ) →
+    (words ≡ false → between ≡ before) →
     OnOk r (words ≡ true → after ≡ 0) → (words ≡ false → after ≡ between) → OnOk r (before ≡ 0 → after ≡ 0)
 none_held true (Ok x) before between after silent passed same = λ none. passed refl
 none_held false (Ok x) before between after silent passed same = λ none. same refl ∙ silent refl ∙ none

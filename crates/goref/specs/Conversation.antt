@@ -11,7 +11,7 @@ use Rattle.goref_session.specs.Contents.{Content, nothing}
 use Rattle.goref.specs.Shelves.{Pair, then_pairs}
 use Rattle.goref_session.specs.Replies.{Said, Reply, wanted}
 
--- what is asked of the shelf for a line: its file, where it wants one
+-- what is asked of the shelf for a line: its file, where it asks for one
 abbrev pub AsksShelf : Option (List ℕ) → Content → List Pair → Type 0
 AsksShelf None content asked = (content ≡ nothing) × (asked ≡ [])
 AsksShelf (Some name) content asked = asked ≡ (name, content) ∷ []
@@ -39,7 +39,7 @@ pub record Converses (s : Standing) (lines : List (List ℕ)) (given given' : Op
   pub tells : given' ≡ then_pairs given asked
   pub took : taken' ≡ then_bytes taken text
 
--- a run that broke off: what was asked and what was taken are fronts of a session over these lines
+-- a run that broke off: what was asked and what was taken are prefixes of a session over these lines
 pub record BreaksOff (s : Standing) (lines : List (List ℕ)) (given given' : Option (List Pair))
     (taken taken' : Option (List ℕ)) : Type 0 where
   pub asked : List Pair
@@ -74,8 +74,8 @@ pub record Responds (old new : Standing) (line : Kept) (result : Result Flow Wri
   pub tells : given' ≡ then_pairs given asked
   pub answered : Answered old new line content result taken taken'
 
--- One of the lines has an answer that wasn't written whole. Those before it were answered, the session stands as after
--- its command, and those after it weren't begun.
+-- One of the lines has an answer that wasn't written whole. Those before it were answered, the session is as
+-- after its command, and those after it weren't begun.
 pub record WasCut (s : Standing) (lines : List (List ℕ)) (now : Standing) (given given' : Option (List Pair))
     (taken taken' : Option (List ℕ)) : Type 0 where
   pub before : List (List ℕ)

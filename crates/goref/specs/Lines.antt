@@ -1,4 +1,4 @@
--- The lines of a text: what stands between its line ends, and behind the last where that is not empty.
+-- The lines of a text: what is between its line ends, and what follows the last one if that is not empty.
 use Rattle.std.specs.Prelude.{ℕ, ◌==◌, Bool, List, [], ◌∷◌, ◌++◌}
 use Rattle.std.specs.List.{slice_split}
 
@@ -22,7 +22,7 @@ last_part (part ∷ next ∷ parts) = last_part (next ∷ parts)
 unfoldable pub complete_lines : List ℕ → List (List ℕ)
 complete_lines text = all_but_last (slice_split is_line_end text)
 
--- what stands behind the last LF
+-- what follows the last LF
 unfoldable pub unfinished_line : List ℕ → List ℕ
 unfinished_line text = last_part (slice_split is_line_end text)
 

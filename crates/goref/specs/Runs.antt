@@ -1,5 +1,5 @@
--- What a run did when it came to its end.
-use Rattle.std.specs.Prelude.{◌≡◌, ◌≢◌, ◌≤◌, ℕ, ◌+◌, List, Option, Result, Err, IsErrOf, codes, length}
+-- What a run did when it ended.
+use Rattle.std.specs.Prelude.{◌≡◌, ◌≢◌, ◌≤◌, ◌⊎◌, ℕ, ◌+◌, List, Option, Result, Err, IfSome, IsErrOf, OnOk, codes, length}
 use Rattle.go_board.specs.declared.device.Sink as sink
 use Rattle.go_board.specs.declared.device.Source as source
 use Rattle.go_board.specs.Device.{after_bytes}
@@ -17,14 +17,14 @@ pub record AnswersComplete (s : Standing) (left left' : Option (List ℕ)) (give
   pub has_read : left ≡ after_bytes read left'
   pub converses : Converses s (complete_lines read) given given' taken taken'
 
--- what was read, and a front of the answers to the lines in it was written
+-- what was read, and a prefix of the answers to the lines in it was written
 pub record AnswersFront (s : Standing) (left left' : Option (List ℕ)) (given given' : Option (List Pair))
     (taken taken' : Option (List ℕ)) : Type 0 where
   pub read : List ℕ
   pub has_read : left ≡ after_bytes read left'
   pub breaks_off : BreaksOff s (lines read) given given' taken taken'
 
--- at least so many bytes were read, as they are where each of so many reads gave one
+-- at least this many bytes were read, as when each of this many reads gave one
 pub record ReadsAtLeast (count : ℕ) (left left' : Option (List ℕ)) : Type 0 where
   pub read : List ℕ
   pub has_read : left ≡ after_bytes read left'
@@ -40,15 +40,15 @@ abbrev pub write_failures_after : {T : Type 0} → Result T RunError → ℕ →
 write_failures_after (Err Write) old = old + 1
 write_failures_after _ old = old
 
--- So many reads were made, and gave as many bytes, but no end.
+-- This many reads were made, and gave at least as many bytes, but no end.
 pub record FoundNoEnd {R : Type 0} (limit : ℕ) (input : source.Ghosts R) (reader reader' : R) : Type 0 where
   pub all_pulls : input.pulls reader' ≡ input.pulls reader + limit
   pub many_bytes : ReadsAtLeast limit (input.left reader) (input.left reader')
   pub no_end : input.ends reader' ≡ input.ends reader
 
--- What a run of so many reads at most does to its devices: it finds one end at most, and an input endless only where it
--- found none; a fault of a device is counted once, where it ended the run; where the writer doesn't fail it holds
--- nothing back.
+-- What a run of at most this many reads does to its devices: it finds one end at most, and an input endless
+-- only where it found none. A fault of a device is counted once, if it ended the run. If the writer doesn't
+-- fail, it holds nothing back.
 pub record RunsOn {T R W : Type 0} (limit : ℕ) (input : source.Ghosts R) (output : sink.Ghosts W)
     (result : Result T RunError) (reader reader' : R) (writer writer' : W) : Type 0 where
   pub pulls : input.pulls reader' ≤ input.pulls reader + limit
@@ -57,6 +57,20 @@ pub record RunsOn {T R W : Type 0} (limit : ℕ) (input : source.Ghosts R) (outp
   pub read_failures : input.failures reader' ≡ read_failures_after result (input.failures reader)
   pub write_failures : output.failures writer' ≡ write_failures_after result (output.failures writer)
   pub held : result ≢ Err Write → output.held writer ≡ 0 → output.held writer' ≡ 0
+
+-- What a run of at most this number of reads comes to, from a standing on. Where it ends well, it answered all lines of
+-- the input. A failed read, or an input without end, leaves the complete lines answered; a failed write, a prefix of
+-- their answers written.
+pub record Runs {T R W : Type 0} (limit : ℕ) (start : Standing) (input : source.Ghosts R) (output : sink.Ghosts W)
+    (result : Result T RunError) (reader reader' : R) (writer writer' : W) (given given' : Option (List Pair)) : Type 0
+  where
+    pub ok : OnOk result (IfSome (input.left reader)
+        (λ bytes. Converses start (lines bytes) given given' (output.taken writer) (output.taken writer')))
+    pub ended : IsErrOf result Read ⊎ IsErrOf result Endless → AnswersComplete start (input.left reader)
+        (input.left reader') given given' (output.taken writer) (output.taken writer')
+    pub write : IsErrOf result Write → AnswersFront start (input.left reader) (input.left reader') given given'
+        (output.taken writer) (output.taken writer')
+    pub devices : RunsOn limit input output result reader reader' writer writer'
 
 abbrev pub run_error_text : RunError → List ℕ
 run_error_text Read = codes "read fault"

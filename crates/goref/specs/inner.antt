@@ -1,3 +1,3 @@
--- Words of private functions' contracts. No public contract cites them: a reader who wants to know what is promised can
--- leave them out.
+-- Definitions for the contracts of private functions. No public contract cites them, so a reader who wants to
+-- know what is promised can leave them out.
 pub mod Progress

@@ -1,7 +1,7 @@
 use std::error::Error;
 use std::fmt;
 
-/// Why a run did not come to the end of its session.
+/// Why a run did not reach the end of its session.
 #[derive(Clone, Copy, Debug, PartialEq, Eq)]
 pub enum RunError {
     /// A read failed.

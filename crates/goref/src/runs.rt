@@ -1,6 +1,6 @@
-//! Runs over the lines of a device or of a text. For each line, a run fetches the file that the line wants,
-//! writes the answer and flushes it.
-ghost use Rattle.std.specs.Prelude.{◌≡◌, ◌+◌, ◌⊎◌, ℕ, List, [], ◌∷◌, ◌++◌, Ok, Option, IfOk, IfSome, OnOk, IsErrOf, false, true};
+//! Runs over the lines of a device or of a text. For each line, a run fetches the file that the line asks
+//! for, writes the answer and flushes it.
+ghost use Rattle.std.specs.Prelude.{◌≡◌, ℕ, List, [], ◌∷◌, ◌++◌, Ok, Option, OnOk, false};
 ghost use Rattle.go_board.specs.Device.{failures_after};
 ghost use Rattle.go_game.specs.Standings.{Standing};
 ghost use Rattle.goref_lines.specs.Words.{has_bytes};
@@ -10,9 +10,9 @@ ghost use Rattle.goref.specs.inner.Progress.{HasNoEnd};
 ghost use Rattle.goref_session.specs.Contents.{content_of};
 ghost use Rattle.goref.specs.Shelves.{Pair};
 ghost use Rattle.goref_session.specs.declared.flow.Flow.{Flow};
-ghost use Rattle.goref.specs.Conversation.{AnswersLines, Converses, Responds};
-ghost use Rattle.goref.specs.inner.Progress.{Fetches, Progress, Proceeds};
-ghost use Rattle.goref.specs.Runs.{AnswersComplete, AnswersFront, RunsOn};
+ghost use Rattle.goref.specs.Conversation.{AnswersLines, Responds};
+ghost use Rattle.goref.specs.inner.Progress.{Fetches, Flushes, Progress, Proceeds};
+ghost use Rattle.goref.specs.Runs.{Runs};
 
 use crate::error::RunError;
 use crate::shelf::Shelf;
@@ -38,17 +38,8 @@ pub fn run<A: Allocator + Copy, R: Source, W: Sink, S: Shelf<A>>(
     writer: &mut W,
     shelf: &mut S,
 ) -> Result<(), RunError>
-    ensures ok { OnOk result (IfSome (R.left reader.old) (λ input.
-        Converses (begun size) (lines input)
-        (S.given shelf.old) (S.given shelf.new) (W.taken writer.old) (W.taken writer.new))) }
-    ensures ended { IsErrOf result RunError.Read ⊎ IsErrOf result RunError.Endless →
-        AnswersComplete (begun size) (R.left reader.old) (R.left reader.new)
-        (S.given shelf.old) (S.given shelf.new) (W.taken writer.old) (W.taken writer.new) }
-    ensures write { IsErrOf result RunError.Write →
-        AnswersFront (begun size) (R.left reader.old) (R.left reader.new)
-        (S.given shelf.old) (S.given shelf.new) (W.taken writer.old) (W.taken writer.new) }
-    ensures devices { RunsOn READS R.Source W.Sink result reader.old reader.new
-        writer.old writer.new }
+    ensures { Runs READS (begun size) R.Source W.Sink result reader.old reader.new
+        writer.old writer.new (S.given shelf.old) (S.given shelf.new) }
 {
     run_within(alloc, READS, size, reader, writer, shelf)
 }
@@ -62,25 +53,16 @@ pub fn run_within<A: Allocator + Copy, R: Source, W: Sink, S: Shelf<A>>(
     writer: &mut W,
     shelf: &mut S,
 ) -> Result<(), RunError>
-    ensures ok { OnOk result (IfSome (R.left reader.old) (λ input.
-        Converses (begun size) (lines input)
-        (S.given shelf.old) (S.given shelf.new) (W.taken writer.old) (W.taken writer.new))) }
-    ensures ended { IsErrOf result RunError.Read ⊎ IsErrOf result RunError.Endless →
-        AnswersComplete (begun size) (R.left reader.old) (R.left reader.new)
-        (S.given shelf.old) (S.given shelf.new) (W.taken writer.old) (W.taken writer.new) }
-    ensures write { IsErrOf result RunError.Write →
-        AnswersFront (begun size) (R.left reader.old) (R.left reader.new)
-        (S.given shelf.old) (S.given shelf.new) (W.taken writer.old) (W.taken writer.new) }
-    ensures devices { RunsOn limit R.Source W.Sink result reader.old reader.new
-        writer.old writer.new }
+    ensures { Runs limit (begun size) R.Source W.Sink result reader.old reader.new
+        writer.old writer.new (S.given shelf.old) (S.given shelf.new) }
 {
     let mut session = Session::new(alloc, size);
     run_from(limit, &mut session, reader, writer, shelf)
 }
 
-/// Answers the lines of a text over a session, up to `quit`. A last line without a line end is
-/// answered too, so a text that is sent in pieces is cut at line ends. On a fault the session stands
-/// as after the command whose answer isn't whole, and goes on with the next text.
+/// Answers the lines of a text over a session, up to `quit`. A last line without a line end is answered too,
+/// so a text that is sent in pieces is cut at line ends. On a fault the session is as after the command whose
+/// answer isn't whole, and goes on with the next text.
 pub fn answer_lines<A: Allocator + Copy, W: Sink, S: Shelf<A>>(
     session: &mut Session<A>,
     text: &[u8],
@@ -100,7 +82,7 @@ pub fn answer_lines<A: Allocator + Copy, W: Sink, S: Shelf<A>>(
     }
 }
 
-/// As [`run_within`], from where a session stands.
+/// As [`run_within`], with a session that is begun already.
 fn run_from<A: Allocator + Copy, R: Source, W: Sink, S: Shelf<A>>(
     limit: u64,
     session: &mut Session<A>,
@@ -108,17 +90,8 @@ fn run_from<A: Allocator + Copy, R: Source, W: Sink, S: Shelf<A>>(
     writer: &mut W,
     shelf: &mut S,
 ) -> Result<(), RunError>
-    ensures ok { OnOk result (IfSome (R.left reader.old) (λ input.
-        Converses session.old (lines input)
-        (S.given shelf.old) (S.given shelf.new) (W.taken writer.old) (W.taken writer.new))) }
-    ensures ended { IsErrOf result RunError.Read ⊎ IsErrOf result RunError.Endless →
-        AnswersComplete session.old (R.left reader.old) (R.left reader.new)
-        (S.given shelf.old) (S.given shelf.new) (W.taken writer.old) (W.taken writer.new) }
-    ensures write { IsErrOf result RunError.Write →
-        AnswersFront session.old (R.left reader.old) (R.left reader.new)
-        (S.given shelf.old) (S.given shelf.new) (W.taken writer.old) (W.taken writer.new) }
-    ensures devices { RunsOn limit R.Source W.Sink result reader.old reader.new
-        writer.old writer.new }
+    ensures { Runs limit session.old R.Source W.Sink result reader.old reader.new
+        writer.old writer.new (S.given shelf.old) (S.given shelf.new) }
 {
     some_reply();
     let mut line = Line::new();
@@ -218,7 +191,7 @@ fn end_input<A: Allocator + Copy, W: Sink, S: Shelf<A>>(
     respond(session, line, writer, shelf)
 }
 
-/// Fetches what a line wants, answers the line, and passes the answer on.
+/// Fetches the file that a line asks for, answers the line, and flushes the response.
 fn respond<A: Allocator + Copy, W: Sink, S: Shelf<A>>(
     session: &mut Session<A>,
     line: &Line,
@@ -233,7 +206,7 @@ fn respond<A: Allocator + Copy, W: Sink, S: Shelf<A>>(
 {
     let fetched = fetch_for(line, shelf);
     match session.answer(line, fetched, writer) {
-        Ok(flow) => pass_on(line, flow, writer),
+        Ok(flow) => flush_response(line, flow, writer),
         Err(WriteFault) => Err(WriteFault),
     }
 }
@@ -247,14 +220,9 @@ fn fetch_for<A: Allocator + Copy, S: Shelf<A>>(line: &Line, shelf: &mut S) -> Fe
     }
 }
 
-/// Flushes the answer of a line, where it has one.
-fn pass_on<W: Sink>(line: &Line, flow: Flow, writer: &mut W) -> Result<Flow, WriteFault>
-    ensures same { IfOk result (λ passed. passed ≡ flow) }
-    ensures discarded { has_bytes line.now.text ≡ false → result ≡ Ok flow }
-    ensures bytes { W.taken writer.new ≡ W.taken writer.old }
-    ensures passed { OnOk result (has_bytes line.now.text ≡ true → W.held writer.new ≡ 0) }
-    ensures silent { has_bytes line.now.text ≡ false → W.held writer.new ≡ W.held writer.old }
-    ensures failures { W.failures writer.new ≡ failures_after result (W.failures writer.old) }
+/// Flushes the response to a line, where it has one.
+fn flush_response<W: Sink>(line: &Line, flow: Flow, writer: &mut W) -> Result<Flow, WriteFault>
+    ensures { Flushes W.Sink line.now.text flow result writer.old writer.new }
 {
     if !line.has_words() {
         return Ok(flow);

@@ -7,7 +7,7 @@ use std::alloc::Allocator;
 
 /// Where files are fetched from.
 pub trait Shelf<A: Allocator> {
-    /// The names asked for so far with what was given for each, where the shelf tells them.
+    /// The names asked for so far with what was given for each, where the shelf shows them.
     ghost given: { Self → Option (List Pair) };
 
     /// Fetches the file of this name.

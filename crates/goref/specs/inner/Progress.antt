@@ -1,5 +1,8 @@
 -- The words in which the private functions below a run say how far it has come.
-use Rattle.std.specs.Prelude.{◌≡◌, ℕ, false, List, [], ◌∷◌, ◌++◌, Option, Result, Ok, Err}
+use Rattle.std.specs.Prelude.{◌≡◌, ℕ, false, true, List, [], ◌∷◌, ◌++◌, Option, Result, Ok, Err, IfOk, OnOk}
+use Rattle.go_board.specs.Device.{failures_after}
+use Rattle.go_board.specs.declared.device.Sink as sink
+use Rattle.goref_lines.specs.Words.{has_bytes}
 use Rattle.go_board.specs.declared.device.WriteFault.{WriteFault}
 use Rattle.goref_session.specs.declared.flow.Flow.{Flow}
 use Rattle.goref_session.specs.declared.flow.Flow.TheVariants.{More, Quit}
@@ -31,6 +34,16 @@ pub record Fetches (line : Kept) (content : Content) (given given' : Option (Lis
   pub asked : List Pair
   pub asks : AsksShelf (wanted line) content asked
   pub tells : given' ≡ then_pairs given asked
+
+-- The response to a line of this text was flushed, where it has one: nothing is written then, and nothing held back.
+pub record Flushes {W : Type 0} (output : sink.Ghosts W) (text : List ℕ) (flow : Flow) (result : Result Flow WriteFault)
+    (writer writer' : W) : Type 0 where
+  pub same : IfOk result (λ passed. passed ≡ flow)
+  pub discarded : has_bytes text ≡ false → result ≡ Ok flow
+  pub bytes : output.taken writer' ≡ output.taken writer
+  pub passed : OnOk result (has_bytes text ≡ true → output.held writer' ≡ 0)
+  pub silent : has_bytes text ≡ false → output.held writer' ≡ output.held writer
+  pub failures : output.failures writer' ≡ failures_after result (output.failures writer)
 
 -- no byte of it ends a line
 abbrev pub HasNoEnd : List ℕ → Type 0

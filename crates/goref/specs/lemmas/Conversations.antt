@@ -1,5 +1,5 @@
--- What follows from lines that were answered: they are one conversation, and what the shelf was asked is what it tells
--- more.
+-- What follows from lines that were answered: they are one conversation, and the shelf's list grew by what it
+-- was asked.
 use Rattle.std.specs.Prelude.{◌≡◌, ℕ, List, [], ◌++◌, Option, Some, None, Result, Ok, Err, refl}
 use Rattle.std.proofs.Common.{◌∙◌, ap, append_assoc, subst}
 use Rattle.go_board.specs.declared.device.WriteFault.{WriteFault}
@@ -10,9 +10,10 @@ use Rattle.goref.specs.Shelves.{Pair, then_pairs}
 use Rattle.goref_session.specs.declared.flow.Flow.{Flow}
 use Rattle.goref_session.specs.declared.flow.Flow.TheVariants.{More, Quit}
 
--- the same session, told in other words
+-- the same session, in other words
 pub retold : {s : Standing} {lines lines' : List (List ℕ)} {asked asked' : List Pair} {text text' : List ℕ} →
-    lines ≡ lines' → asked ≡ asked' → text ≡ text' → Conversation s lines asked text → Conversation s lines' asked' text'
+    lines ≡ lines' → asked ≡ asked' → text ≡ text' → Conversation s lines asked text →
+    Conversation s lines' asked' text'
 retold {s} {lines} {lines'} {asked} {asked'} {text} {text'} l a t c =
     let P : List (List ℕ) → Type 0 = λ x. Conversation s x asked text in
     let Q : List Pair → Type 0 = λ x. Conversation s lines' x text in
@@ -42,10 +43,11 @@ abbrev told : Option (List Pair) → List Pair
 told None = []
 told (Some pairs) = pairs
 
--- What a shelf tells before it is asked makes no difference to the answers.
+-- The shelf's list before a run makes no difference to the answers.
 pub asked_of : (result : Result Flow WriteFault) (s now : Standing) (lines : List (List ℕ)) (before after : List Pair)
     (taken taken' : Option (List ℕ)) → AnswersLines result s lines now (Some before) (Some after) taken taken' →
-    (asked : List Pair) × (after ≡ before ++ asked) × AnswersLines result s lines now (Some []) (Some asked) taken taken'
+    (asked : List Pair) × (after ≡ before ++ asked)
+    × AnswersLines result s lines now (Some []) (Some asked) taken taken'
 asked_of (Ok More) s now lines before after taken taken' p = (
   p.asked,
   ap told p.tells,

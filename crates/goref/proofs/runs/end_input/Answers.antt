@@ -2,4 +2,5 @@ use Rattle.goref.proofs.Progressing.{finishes}
 use Rattle.goref.proofs.runs.end_input.Goals as goal
 
 pub returns-clause-finishes : goal.returns-clause-finishes
-returns-clause-finishes g c = λ start read given taken p. finishes p _ c.respond.ensures.discarded c.respond.ensures.responds
+returns-clause-finishes g c = λ start read given taken p.
+    finishes p _ c.respond.ensures.discarded c.respond.ensures.responds

@@ -6,5 +6,7 @@ use Rattle.goref.proofs.runs.end_line.Goals as goal
 
 pub returns-clause-proceeds : goal.returns-clause-proceeds
 returns-clause-proceeds g c = λ start read given taken p.
-    let now : c.extend.new.self ≡ kept (unfinished_line read ++ c.args.part.now) = c.extend.ensures (unfinished_line read) p.keeps in
-    rw c.clear.ensures (proceeds p c.args.part.now c.requires c.respond-result.result (rw now at c.respond-result.ensures.responds))
+    let now : c.extend.new.self ≡ kept (unfinished_line read ++ c.args.part.now) =
+    c.extend.ensures (unfinished_line read) p.keeps in
+    rw c.clear.ensures (proceeds p c.args.part.now c.requires c.respond-result.result
+    (rw now at c.respond-result.ensures.responds))

@@ -4,7 +4,8 @@ use Rattle.goref.proofs.runs.respond.Goals as goal
 
 pub returns-in-Ok-clause-held : goal.returns-in-Ok-clause-held
 returns-in-Ok-clause-held g c =
-    none_held _ _ _ _ _ c.answer.ensures.silent c.pass_on.ensures.passed c.pass_on.ensures.silent
+    none_held _ _ _ _ _ c.answer.ensures.silent c.flush_response.ensures.passed c.flush_response.ensures.silent
 
 pub returns-in-Ok-clause-discarded : goal.returns-in-Ok-clause-discarded
-returns-in-Ok-clause-discarded g c = λ silent. c.pass_on.ensures.discarded silent ∙ c.in-Ok.ensures.discarded silent
+returns-in-Ok-clause-discarded g c = λ silent. c.flush_response.ensures.discarded silent
+    ∙ c.in-Ok.ensures.discarded silent

@@ -15,7 +15,8 @@ pub loop-init : goal.loop-init
 loop-init g c = record {
   read = [];
   left = sym (after_bytes-nil (g.R.Source.left c.args.reader.now));
-  progress = rw c.new-line.ensures (begins c.args.session.now (g.S.Shelf.given c.args.shelf.now) (g.W.Sink.taken c.args.writer.now));
+  progress = rw c.new-line.ensures
+      (begins c.args.session.now (g.S.Shelf.given c.args.shelf.now) (g.W.Sink.taken c.args.writer.now));
   many = omega arith;
   pulls = omega arith;
   ends = refl;
@@ -24,59 +25,135 @@ loop-init g c = record {
   write_failures = refl;
 }
 
-pub returns-in-Err-clause-ended : goal.returns-in-Err-clause-ended
-returns-in-Err-clause-ended g c = λ _.
-    answers_complete (c.loop.invariant.left ∙ ap (after_bytes c.loop.invariant.read) (sym c.in-Err.ensures.failed)) c.loop.invariant.progress
+pub returns-in-Err : goal.returns-in-Err
+returns-in-Err g c = record {
+  ok = search rules;
+  ended = λ _.
+      answers_complete (c.loop.invariant.left ∙ ap (after_bytes c.loop.invariant.read) (sym c.in-Err.ensures.failed))
+      c.loop.invariant.progress;
+  write = search rules;
+  devices = record {
+    pulls = search rules;
+    one_end = search rules;
+    endless = search rules;
+    read_failures = search rules;
+    write_failures = search rules;
+    held = search rules;
+  };
+}
 
-pub returns-clause-ended : goal.returns-clause-ended
-returns-clause-ended g c = λ _. answers_complete c.loop.invariant.left c.loop.invariant.progress
-
-pub returns-clause-devices : goal.returns-clause-devices
-returns-clause-devices g c =
+pub returns : goal.returns
+returns g c =
     let now = c.loop.invariant in
     record {
-      pulls = omega (arith, now.pulls);
-      one_end = omega (arith, now.ends);
-      endless = λ _. record {
-        all_pulls = omega (arith, now.pulls);
-        many_bytes = record { read = now.read; has_read = now.left; many = omega (arith, now.many) };
-        no_end = now.ends;
+      ok = search rules;
+      ended = λ _. answers_complete now.left now.progress;
+      write = search rules;
+      devices = record {
+        pulls = omega (arith, now.pulls);
+        one_end = omega (arith, now.ends);
+        endless = λ _. record {
+          all_pulls = omega (arith, now.pulls);
+          many_bytes = record { read = now.read; has_read = now.left; many = omega (arith, now.many) };
+          no_end = now.ends;
+        };
+        read_failures = now.read_failures;
+        write_failures = now.write_failures;
+        held = λ _. now.held;
       };
-      read_failures = now.read_failures;
-      write_failures = now.write_failures;
-      held = λ _. now.held;
     }
 
-pub returns-in-Err-end_input-clause-write : goal.returns-in-Err-end_input-clause-write
-returns-in-Err-end_input-clause-write g c = λ _.
+pub returns-in-Err-end_input : goal.returns-in-Err-end_input
+returns-in-Err-end_input g c =
     let now = c.loop.invariant in
     let nothing = rw c.if-count-eq0.true at c.in-Ok.ensures.bytes in
-    answers_front now.read (now.left ∙ ap (after_bytes now.read) (nothing ∙ after_bytes-nil (g.R.Source.left c.pull.new.self)))
-    (cut_breaks_off c.some_reply.ensures (rw c.in-Err-end_input.is at (c.end_input.ensures.finishes _ now.read _ _ now.progress)))
+    record {
+      ok = search rules;
+      ended = search rules;
+      write = λ _.
+          answers_front now.read (now.left
+          ∙ ap (after_bytes now.read) (nothing ∙ after_bytes-nil (g.R.Source.left c.pull.new.self)))
+          (cut_breaks_off c.some_reply.ensures
+          (rw c.in-Err-end_input.is at (c.end_input.ensures.finishes _ now.read _ _ now.progress)));
+      devices = record {
+        pulls = search rules;
+        one_end = search rules;
+        endless = search rules;
+        read_failures = search rules;
+        write_failures = search rules;
+        held = search rules;
+      };
+    }
 
-pub returns-in-Ok-end_input-clause-ok : goal.returns-in-Ok-end_input-clause-ok
-returns-in-Ok-end_input-clause-ok g c =
+pub returns-in-Ok-end_input : goal.returns-in-Ok-end_input
+returns-in-Ok-end_input g c =
     let now = c.loop.invariant in
     let nothing = rw c.if-count-eq0.true at c.in-Ok.ensures.bytes in
-    of_ended (λ input. Converses c.args.session.now (lines input) _ _ _ _) now.read (g.R.Source.left c.pull.new.self)
-    (now.left ∙ ap (after_bytes now.read) (nothing ∙ after_bytes-nil (g.R.Source.left c.pull.new.self)))
-    (c.in-Ok.ensures.end c.if-count-eq0.true (omega (arith, c.pull.auto.buffer)))
-    (answered_converses _ _ (rw c.in-Ok-end_input.is at (c.end_input.ensures.finishes _ now.read _ _ now.progress)))
+    record {
+      ok = of_ended (λ input. Converses c.args.session.now (lines input) _ _ _ _) now.read
+          (g.R.Source.left c.pull.new.self)
+          (now.left ∙ ap (after_bytes now.read) (nothing ∙ after_bytes-nil (g.R.Source.left c.pull.new.self)))
+          (c.in-Ok.ensures.end c.if-count-eq0.true (omega (arith, c.pull.auto.buffer)))
+          (answered_converses _ _
+          (rw c.in-Ok-end_input.is at (c.end_input.ensures.finishes _ now.read _ _ now.progress)));
+      ended = search rules;
+      write = search rules;
+      devices = record {
+        pulls = search rules;
+        one_end = search rules;
+        endless = search rules;
+        read_failures = search rules;
+        write_failures = search rules;
+        held = search rules;
+      };
+    }
 
-pub returns-in-Err-feed-clause-write : goal.returns-in-Err-feed-clause-write
-returns-in-Err-feed-clause-write g c = λ _.
+pub returns-in-Err-feed : goal.returns-in-Err-feed
+returns-in-Err-feed g c =
     let now = c.loop.invariant in
     let chunk = c.split_at.result.0.now in
-    answers_front (now.read ++ chunk) (has_read_more (g.R.Source.left c.pull.new.self) now.read chunk now.left (c.in-Ok.ensures.bytes ∙ ap (λ xs. after_bytes xs (g.R.Source.left c.pull.new.self)) (sym c.split_at.ensures.front)))
-    (cut_breaks_off c.some_reply.ensures (rw append-nil at (rw c.in-Err-feed.is at (c.feed.ensures.proceeds _ now.read _ _ now.progress) [])))
+    record {
+      ok = search rules;
+      ended = search rules;
+      write = λ _.
+          answers_front (now.read ++ chunk)
+          (has_read_more (g.R.Source.left c.pull.new.self) now.read chunk now.left
+          (c.in-Ok.ensures.bytes ∙ ap (λ xs. after_bytes xs (g.R.Source.left c.pull.new.self))
+          (sym c.split_at.ensures.front)))
+          (cut_breaks_off c.some_reply.ensures
+          (rw append-nil at (rw c.in-Err-feed.is at (c.feed.ensures.proceeds _ now.read _ _ now.progress) [])));
+      devices = record {
+        pulls = search rules;
+        one_end = search rules;
+        endless = search rules;
+        read_failures = search rules;
+        write_failures = search rules;
+        held = search rules;
+      };
+    }
 
-pub returns-in-Ok-Quit-clause-ok : goal.returns-in-Ok-Quit-clause-ok
-returns-in-Ok-Quit-clause-ok g c =
+pub returns-in-Ok-Quit : goal.returns-in-Ok-Quit
+returns-in-Ok-Quit g c =
     let now = c.loop.invariant in
     let chunk = c.split_at.result.0.now in
-    of_input (λ input. Converses c.args.session.now (lines input) _ _ _ _) (now.read ++ chunk) (g.R.Source.left c.pull.new.self)
-    (has_read_more (g.R.Source.left c.pull.new.self) now.read chunk now.left (c.in-Ok.ensures.bytes ∙ ap (λ xs. after_bytes xs (g.R.Source.left c.pull.new.self)) (sym c.split_at.ensures.front)))
-    (rw (c.in-Ok-Quit.is, c.in-Ok-Quit.field-0-is) at (c.feed.ensures.proceeds _ now.read _ _ now.progress))
+    record {
+      ok = of_input (λ input. Converses c.args.session.now (lines input) _ _ _ _) (now.read ++ chunk)
+          (g.R.Source.left c.pull.new.self)
+          (has_read_more (g.R.Source.left c.pull.new.self) now.read chunk now.left
+          (c.in-Ok.ensures.bytes ∙ ap (λ xs. after_bytes xs (g.R.Source.left c.pull.new.self))
+          (sym c.split_at.ensures.front)))
+          (rw (c.in-Ok-Quit.is, c.in-Ok-Quit.field-0-is) at (c.feed.ensures.proceeds _ now.read _ _ now.progress));
+      ended = search rules;
+      write = search rules;
+      devices = record {
+        pulls = search rules;
+        one_end = search rules;
+        endless = search rules;
+        read_failures = search rules;
+        write_failures = search rules;
+        held = search rules;
+      };
+    }
 
 pub loop-preserved : goal.loop-preserved
 loop-preserved g c =
@@ -84,7 +161,9 @@ loop-preserved g c =
     let chunk = c.split_at.result.0.now in
     record {
       read = now.read ++ chunk;
-      left = has_read_more (g.R.Source.left c.pull.new.self) now.read chunk now.left (c.in-Ok.ensures.bytes ∙ ap (λ xs. after_bytes xs (g.R.Source.left c.pull.new.self)) (sym c.split_at.ensures.front));
+      left = has_read_more (g.R.Source.left c.pull.new.self) now.read chunk now.left
+          (c.in-Ok.ensures.bytes ∙ ap (λ xs. after_bytes xs (g.R.Source.left c.pull.new.self))
+          (sym c.split_at.ensures.front));
       progress = rw (c.in-Ok-More.is, c.in-Ok-More.field-0-is) at (c.feed.ensures.proceeds _ now.read _ _ now.progress);
       many = omega (arith, length-append now.read chunk, c.split_at.ensures.front_len, now.many);
       pulls = omega (arith, c.pull.ensures.pulls);
@@ -93,56 +172,3 @@ loop-preserved g c =
       held = λ none. c.in-Ok-More.ensures.held (now.held none);
       write_failures = c.in-Ok-More.ensures.failures ∙ now.write_failures;
     }
-
-pub returns-in-Err-clause-ok : goal.returns-in-Err-clause-ok
-returns-in-Err-clause-ok g c = search rules
-
-pub returns-in-Err-clause-devices : goal.returns-in-Err-clause-devices
-returns-in-Err-clause-devices g c = record {
-  pulls = search rules;
-  one_end = search rules;
-  endless = search rules;
-  read_failures = search rules;
-  write_failures = search rules;
-  held = search rules;
-}
-
-pub returns-in-Err-end_input-clause-devices : goal.returns-in-Err-end_input-clause-devices
-returns-in-Err-end_input-clause-devices g c = record {
-  pulls = search rules;
-  one_end = search rules;
-  endless = search rules;
-  read_failures = search rules;
-  write_failures = search rules;
-  held = search rules;
-}
-
-pub returns-in-Ok-end_input-clause-devices : goal.returns-in-Ok-end_input-clause-devices
-returns-in-Ok-end_input-clause-devices g c = record {
-  pulls = search rules;
-  one_end = search rules;
-  endless = search rules;
-  read_failures = search rules;
-  write_failures = search rules;
-  held = search rules;
-}
-
-pub returns-in-Err-feed-clause-devices : goal.returns-in-Err-feed-clause-devices
-returns-in-Err-feed-clause-devices g c = record {
-  pulls = search rules;
-  one_end = search rules;
-  endless = search rules;
-  read_failures = search rules;
-  write_failures = search rules;
-  held = search rules;
-}
-
-pub returns-in-Ok-Quit-clause-devices : goal.returns-in-Ok-Quit-clause-devices
-returns-in-Ok-Quit-clause-devices g c = record {
-  pulls = search rules;
-  one_end = search rules;
-  endless = search rules;
-  read_failures = search rules;
-  write_failures = search rules;
-  held = search rules;
-}

@@ -8,7 +8,8 @@ invariant-loop g l = record {
   read : List ℕ;
   left : g.R.Source.left l.initial.reader ≡ after_bytes read (g.R.Source.left l.reader);
   progress : Progress l.initial.session read l.line l.session
-      (g.S.Shelf.given l.initial.shelf) (g.S.Shelf.given l.shelf) (g.W.Sink.taken l.initial.writer) (g.W.Sink.taken l.writer);
+      (g.S.Shelf.given l.initial.shelf) (g.S.Shelf.given l.shelf) (g.W.Sink.taken l.initial.writer)
+      (g.W.Sink.taken l.writer);
   many : l.counter ≤ length read;
   pulls : g.R.Source.pulls l.reader ≡ g.R.Source.pulls l.initial.reader + l.counter;
   ends : g.R.Source.ends l.reader ≡ g.R.Source.ends l.initial.reader;
