@@ -1,4 +1,4 @@
--- What is fetched of a file, by what reading it came to.
+-- What is fetched of a file, by the result of reading it.
 use Rattle.std.specs.Prelude.{ℕ, nat_lt, if◌then◌else◌, List, length}
 use Rattle.go_sgf.specs.declared.limits.TheConstants.{MAX_RECORD}
 use Rattle.goref.specs.Contents.{Content, bytes, missing, no_memory, too_large}

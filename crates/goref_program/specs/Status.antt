@@ -1,11 +1,11 @@
 -- The exit status of the program.
 use Rattle.std.specs.Prelude.{◌≡◌, ◌⊎◌, ℕ, List, Result, Ok, Err}
 use Rattle.clap.specs.declared.error.kind.ErrorKind.{ErrorKind}
-use Rattle.clap.specs.declared.error.kind.ErrorKind.TheVariants.{DisplayHelp, DisplayVersion}
+use Rattle.clap.specs.declared.error.kind.ErrorKind.TheVariants.{DisplayHelp, DisplayVersion, OutOfMemory}
 use Rattle.goref_program.specs.declared.ends.Fault.{Fault}
 use Rattle.goref_program.specs.declared.ends.Fault.TheVariants.{Run, Tool}
 use Rattle.clap.specs.Walk.{Text}
-use Rattle.goref.specs.CommandLine.{Means}
+use Rattle.goref.specs.CommandLine.{IsPlainUse, Means}
 use Rattle.goref.specs.Task.{Task}
 use Rattle.goref.specs.Tools.{status_of}
 use Rattle.goref_program.specs.Tasks.{IsFaultOf}
@@ -30,12 +30,14 @@ end_status (Err fault) = fault_status fault
 abbrev pub IsStatusOf : Task → ℕ → Type 0
 IsStatusOf task status = (status ≡ 0) ⊎ ((fault : Fault) × IsFaultOf task fault × (status ≡ fault_status fault))
 
--- the status after words from which no task came: that of the text that is told, or 3 where a text that they asked for
--- couldn't be shown
+-- the status after words that name no task: that of the text that is shown, or 3 where a text that they asked
+-- for couldn't be shown
 abbrev pub IsStatusOfText : ErrorKind → ℕ → Type 0
 IsStatusOfText kind status = (status ≡ words_status kind) ⊎ ((words_status kind ≡ 0) × (status ≡ 3))
 
--- the status after words: that of the task that they mean, or that of a text
+-- the status after words: that of the task that they mean, or that of a text; words as a user is told of them come to a
+-- text only where memory lacks
 abbrev pub FollowsWords : List Text → ℕ → Type 0
 FollowsWords words status =
-    ((task : Task) × Means words task × IsStatusOf task status) ⊎ ((kind : ErrorKind) × IsStatusOfText kind status)
+    ((task : Task) × Means words task × IsStatusOf task status)
+    ⊎ ((kind : ErrorKind) × (IsPlainUse words → kind ≡ OutOfMemory) × IsStatusOfText kind status)

@@ -1,5 +1,7 @@
--- What a task comes to on its devices.
-use Rattle.std.specs.Prelude.{◌≡◌, ◌+◌, ℕ, IfSome, List, Option, Result, Err}
+-- What a task does on its devices.
+use Rattle.std.specs.Prelude.{◌≡◌, ◌+◌, ℕ, IfErr, IfSome, List, OnOk, Option, Result, Err}
+use Rattle.go_board.specs.declared.device.Sink as sink
+use Rattle.go_board.specs.declared.device.Source as source
 use Rattle.goref.specs.Conversation.{Converses}
 use Rattle.goref.specs.Judging.{BeginsToJudge, Judges}
 use Rattle.goref.specs.Lines.{lines}
@@ -28,8 +30,8 @@ IsFaultOf (Gtp size) (Tool why) = ⊥
 IsFaultOf _ (Run why) = ⊥
 IsFaultOf _ (Tool why) = Unit {0}
 
--- what was done then: a session answered what it read, or a front of that was written; a tool wrote nothing, or a
--- front of its text
+-- what was done then: a session answered what it read, or a prefix of that was written; a tool wrote nothing,
+-- or a prefix of its text
 abbrev pub Breaks : Task → Fault → Option (List ℕ) → Option (List ℕ) → Option (List Pair) → Option (List Pair)
     → Option (List ℕ) → Option (List ℕ) → Type 0
 Breaks (Gtp size) (Run run_error.Write) left left' given given' taken taken' =
@@ -44,7 +46,7 @@ Breaks Judge (Tool _) left left' given given' taken taken' = taken' ≡ taken
 Breaks Tidy (Tool _) left left' given given' taken taken' = taken' ≡ taken
 Breaks task fault left left' given given' taken taken' = ⊥
 
--- a fault that tells of the input is its refusal
+-- a fault of the input is its refusal
 abbrev pub IsRefused : Option (List ℕ) → Fault → Type 0
 IsRefused left (Tool (tool_error.Sgf why)) = Refuses left why
 IsRefused left (Tool (tool_error.Record why)) = RefusesGame left why
@@ -61,3 +63,18 @@ abbrev pub write_failures_after : {T : Type 0} → Result T Fault → ℕ → �
 write_failures_after (Err (Run run_error.Write)) old = old + 1
 write_failures_after (Err (Tool tool_error.Write)) old = old + 1
 write_failures_after _ old = old
+
+-- What a task comes to on its devices: it is done, or a fault of its kind ends it. A fault of a device is counted once,
+-- a refusal is the input's, and where a task is done the writer holds nothing back.
+pub record Performs {T R W : Type 0} (task : Task) (input : source.Ghosts R) (output : sink.Ghosts W)
+    (result : Result T Fault) (reader reader' : R) (writer writer' : W) (given given' : Option (List Pair)) : Type 0
+  where
+    pub ok : OnOk result (IfSome (input.left reader)
+        (λ bytes. Does task bytes given given' (output.taken writer) (output.taken writer')))
+    pub held : OnOk result (output.held writer ≡ 0 → output.held writer' ≡ 0)
+    pub fault : IfErr result (IsFaultOf task)
+    pub refused : IfErr result (IsRefused (input.left reader))
+    pub breaks : IfErr result (λ fault. Breaks task fault (input.left reader) (input.left reader') given given'
+        (output.taken writer) (output.taken writer'))
+    pub read_failures : input.failures reader' ≡ read_failures_after result (input.failures reader)
+    pub write_failures : output.failures writer' ≡ write_failures_after result (output.failures writer)

@@ -1,4 +1,4 @@
-//! What is told of the end of a task, and the exit status that follows it.
+//! The message at the end of a task, and the exit status.
 ghost use Rattle.std.specs.Prelude.{◌≡◌};
 ghost use Rattle.clap.specs.Values.{kind_of};
 ghost use Rattle.goref_program.specs.Status.{IsStatusOfText, end_status, fault_status};
@@ -14,7 +14,7 @@ pub const REFUSED: u8 = 2;
 /// The exit status where a stream fails.
 pub const FAULT: u8 = 3;
 
-/// Why a task didn't come to its end.
+/// Why a task didn't reach its end.
 #[derive(Clone, Copy, Debug, PartialEq, Eq, Error)]
 pub enum Fault {
     /// A run of lines met a fault.
@@ -26,7 +26,7 @@ pub enum Fault {
 }
 
 impl Fault {
-    /// The exit status that tells of it.
+    /// The exit status for it.
     fn status(&self) -> u8
         ensures { result ≡ fault_status self.now }
     {
@@ -67,8 +67,8 @@ pub fn tell<E: Write>(end: Result<(), Fault>, errors: &mut E) -> u8
     }
 }
 
-/// Tells why no task came of the words, or the help that they asked for, and gives the exit status.
-/// Help that can't be written is a fault, and told so in one line.
+/// Writes why the words name no task, or the help that they asked for, and returns the exit status. Help that
+/// can't be written is a fault, which has a message of one line.
 pub fn explain<O: Write, E: Write>(error: &clap::Error, output: &mut O, errors: &mut E) -> u8
     ensures status { IsStatusOfText (kind_of error.now) result }
     ensures silent { result ≡ 0 → errors.new ≡ errors.old }

@@ -51,7 +51,7 @@ fn file_at<A: Allocator + Copy, F: Files>(alloc: A, system: &F, path: &str) -> F
     }
 }
 
-/// Whether the system tells that a regular file stands at a path.
+/// Whether there is a regular file at a path, by the system's answer.
 fn is_regular<F: Files>(system: &F, path: &str) -> bool {
     match fs::metadata(system, path) {
         Ok(about) => about.is_file(),
@@ -59,7 +59,7 @@ fn is_regular<F: Files>(system: &F, path: &str) -> bool {
     }
 }
 
-/// What is fetched, by what the reading of a file came to.
+/// What is fetched, by the result of reading a file.
 fn fetched<A: Allocator>(outcome: Result<Vec<u8, A>, ToolError>) -> Fetched<A>
     ensures bytes { IfOk outcome (λ bytes. content_of result ≡ content_of_bytes bytes.items) }
     ensures fault { IfErr outcome (λ why. content_of result ≡ content_of_fault why) }

@@ -1,6 +1,6 @@
 //! What each task does on its streams.
-ghost use Rattle.std.specs.Prelude.{◌≡◌, IfErr, IfSome, OnOk};
-ghost use Rattle.goref_program.specs.Tasks.{Breaks, Does, IsFaultOf, IsRefused, read_failures_after, write_failures_after};
+ghost use Rattle.std.specs.Prelude.{IfErr};
+ghost use Rattle.goref_program.specs.Tasks.{IsFaultOf, Performs};
 
 use crate::ends::Fault;
 use go_board::{Sink, Source};
@@ -9,8 +9,8 @@ use goref_streams::{Input, Output};
 use std::alloc::Allocator;
 use std::io::{Read, Write};
 
-/// Does a task: reads from the one stream, writes to the other, and fetches the files that a
-/// session wants from the shelf.
+/// Does a task: reads from the one stream, writes to the other, and fetches the files that a session asks for
+/// from the shelf.
 pub fn obey<A: Allocator + Copy, R: Read + Drop, W: Write + Drop, S: Shelf<A>>(
     alloc: A,
     task: Task,
@@ -37,17 +37,8 @@ fn perform<A: Allocator + Copy, R: Source, W: Sink, S: Shelf<A>>(
     output: &mut W,
     shelf: &mut S,
 ) -> Result<(), Fault>
-    ensures ok { OnOk result (IfSome (R.left input.old) (λ bytes. Does task bytes
-        (S.given shelf.old) (S.given shelf.new) (W.taken output.old) (W.taken output.new))) }
-    ensures held { OnOk result (W.held output.old ≡ 0 → W.held output.new ≡ 0) }
-    ensures fault { IfErr result (IsFaultOf task) }
-    ensures refused { IfErr result (IsRefused (R.left input.old)) }
-    ensures breaks { IfErr result (λ fault. Breaks task fault (R.left input.old) (R.left input.new)
-        (S.given shelf.old) (S.given shelf.new) (W.taken output.old) (W.taken output.new)) }
-    ensures read_failures { R.failures input.new ≡ read_failures_after result
-        (R.failures input.old) }
-    ensures write_failures { W.failures output.new ≡ write_failures_after result
-        (W.failures output.old) }
+    ensures { Performs task R.Source W.Sink result input.old input.new output.old output.new
+        (S.given shelf.old) (S.given shelf.new) }
 {
     match task {
         Task::Gtp(size) => run(alloc, size, input, output, shelf)?,

@@ -72,8 +72,8 @@ fn started_with(alloc: Global, words: &[&str]) -> Result<Vec<String>, AllocError
     Ok(all)
 }
 
-/// Whether words write this and no more to an output with so much room, tell this among the errors,
-/// and end with this status.
+/// Whether words write this and no more to an output with this much room, write this to the errors, and end
+/// with this status.
 fn comes_to(
     rt: &HostRuntime,
     words: &[&str],
@@ -151,8 +151,8 @@ fn streams_that_fail(rt: HostRuntime) {
     assert!(rt; comes_to(&rt, &["gtp"], b"name\n".as_slice(), 0, b"", told, 3));
 }
 
-/// How many bytes are written to an output with so much room and flushed, and to the errors, and
-/// the status.
+/// How many bytes are written to an output with this much room and flushed, and to the errors, and the
+/// status.
 fn explained_to(rt: &HostRuntime, words: &[&str], room: usize) -> (usize, usize, u8) {
     let mut output = Page::new(rt.alloc(), room);
     let mut errors = Page::new(rt.alloc(), 10_000);
@@ -169,15 +169,15 @@ fn explained_to(rt: &HostRuntime, words: &[&str], room: usize) -> (usize, usize,
     (output.flushed, errors.bytes.len(), status)
 }
 
-/// Whether the words are answered by a text on the output alone, and where that is full by a fault
-/// that is told in a line.
+/// Whether the words are answered by a text on the output alone, and by a message of one line where the
+/// output is full.
 fn are_answered(rt: &HostRuntime, words: &[&str]) -> bool {
     let (shown, told, status) = explained_to(rt, words, 10_000);
     let fault = b"goref: write fault\n".as_slice();
     shown > 0 && told == 0 && status == 0 && comes_to(rt, words, Broken, 0, b"", fault, 3)
 }
 
-/// Whether the words are refused, and that is told among the errors alone.
+/// Whether the words are refused, with a text among the errors alone.
 fn are_refused(rt: &HostRuntime, words: &[&str]) -> bool {
     let (shown, told, status) = explained_to(rt, words, 10_000);
     shown == 0 && told > 0 && status == 2

@@ -6,7 +6,7 @@ use std::alloc::{AllocError, Global};
 use std::io::{self, ErrorKind, Read, Write};
 use std::test::Fail;
 
-/// A stream that keeps the bytes of each write, and takes so many of them.
+/// A stream that keeps the bytes of each write, and takes at most a number of them.
 #[derive(Drop)]
 struct Writes {
     bytes: Vec<u8>,
@@ -130,7 +130,7 @@ fn reads_of_each_length(rt: HostRuntime) -> Result<(), Fail> {
     Ok(())
 }
 
-/// A stream of one byte, the first reads of which are interrupted.
+/// A stream of one byte, whose first reads are interrupted.
 #[derive(Drop)]
 struct Interrupted {
     left: u32,

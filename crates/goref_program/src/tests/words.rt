@@ -14,7 +14,7 @@ fn asked<'a>(alloc: Global, words: &'a [&'a str]) -> Result<Task, ErrorKind> {
     }
 }
 
-/// To answer commands on a board of so many lines.
+/// To answer commands on a board of this many lines.
 fn gtp(rt: &impl Abort, lines: u8) -> Task {
     Task::Gtp(Size::new(lines).expect(rt, "a size"))
 }
