@@ -31,7 +31,8 @@ file_told None pairs = refl
 file_told (Some b) pairs = refl
 
 -- the shelf keeps its file, so what it was asked for was answered by that
-pub of_shelf : (result : Result Flow WriteFault) (s now : Standing) (lines : List (List ℕ)) (file file' : Option (List ℕ))
+pub of_shelf : (result : Result Flow WriteFault) (s now : Standing) (lines : List (List ℕ))
+    (file file' : Option (List ℕ))
     (asked : List Asking) (taken taken' : Option (List ℕ)) →
     AnswersLines result s lines now (Some (told_of file [])) (Some (told_of file' asked)) taken taken' →
     AnswersLines result s lines now (Some []) (Some (given_of file asked)) taken taken'
@@ -40,7 +41,8 @@ of_shelf result s now lines file file' asked taken taken' a =
     let same : file' ≡ file =
     sym (file_told file' (given_of file' asked)) ∙ ap file_first h.1 ∙ file_told file h.0 in
     let given : given_of file' asked ≡ h.0 = ap (drop 1) h.1 in
-    subst (λ (f : Option (List ℕ)). AnswersLines result s lines now (Some []) (Some (given_of f asked)) taken taken') same
+    subst (λ (f : Option (List ℕ)). AnswersLines result s lines now (Some []) (Some (given_of f asked)) taken taken')
+    same
     (subst (λ (pairs : List Pair). AnswersLines result s lines now (Some []) (Some pairs) taken taken') (sym given) h.2)
 
 abbrev pub names_of : List Asking → List (List ℕ)
@@ -60,9 +62,11 @@ bytes_in None = []
 bytes_in (Some list) = list
 
 -- lines that were answered without files are one conversation, whose text is shown
-pub answers_shown : (flow : Flow) (n : ℕ) (now : Standing) (text : List ℕ) (file' : Option (List ℕ)) (asked : List Asking)
+pub answers_shown : (flow : Flow) (n : ℕ) (now : Standing) (text : List ℕ) (file' : Option (List ℕ))
+    (asked : List Asking)
     (answers room room' : List ℕ) (count : ℕ) →
-    AnswersLines (Ok flow) (begun n) (goref.lines text) now (Some (told_of None [])) (Some (told_of file' asked)) (Some []) (Some answers) →
+    AnswersLines (Ok flow) (begun n) (goref.lines text) now (Some (told_of None [])) (Some (told_of file' asked))
+    (Some []) (Some answers) →
     IsText answers room room' count → ShowsAnswers n text room room' count
 answers_shown flow n now text file' asked answers room room' count a shown =
     let b = of_shelf (Ok flow) (begun n) now (goref.lines text) None file' asked (Some []) (Some answers) a in

@@ -47,7 +47,8 @@ ShowsGameRefusal source room room' count =
 abbrev pub ShowsNoMemory : List ℕ → List ℕ → ℕ → Type 0
 ShowsNoMemory room room' count = IsText (codes "out of memory") room room' count
 
--- the room has the answers to the lines of a text, from the start on a board of so many lines, where there is no file
+-- the room has the answers to the lines of a text, from the start on a board of this many lines, without a
+-- file
 abbrev pub ShowsAnswers : ℕ → List ℕ → List ℕ → List ℕ → ℕ → Type 0
 ShowsAnswers n text room room' count =
     (names : List (List ℕ)) × ((answers : List ℕ)

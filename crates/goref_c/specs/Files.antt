@@ -24,7 +24,8 @@ given_at file asking = (asking.0, content_given file asking.1)
 abbrev pub given_of : Option (List ℕ) → List Asking → List Pair
 given_of file = map (given_at file)
 
--- What a shelf tells: its file at first, so that it is known to stay the same, and then what it was asked for.
+-- What a shelf shows: its file at first, so that it is known to stay the same, and then what it was asked
+-- for.
 abbrev pub own_file : Option (List ℕ) → Pair
 own_file None = ([], missing)
 own_file (Some b) = ([], bytes b)

@@ -6,7 +6,7 @@ use Rattle.go_sgf.specs.Spelling.{tree_in}
 use Rattle.go_sgf.specs.declared.error.SgfError.{SgfError}
 use Rattle.go_sgf.specs.declared.error.SgfError.TheVariants.{NoTree, EndInside, Unexpected, TooDeep, Memory, TooLong}
 
--- the source's first game tree from a place on stands from one place to the other
+-- the source's first game tree from a place on goes from one place to the other
 abbrev pub ShowsTree : List ℕ → ℕ → ℕ → ℕ → Type 0
 ShowsTree source from begin end =
     (nodes : List (List Property)) × ((children : Trees)

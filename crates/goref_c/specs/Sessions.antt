@@ -1,4 +1,4 @@
--- A session that stands between calls, and what a text that is sent to it comes to.
+-- A session that is kept between calls, and what a text that is sent to it does.
 use Rattle.std.specs.Prelude.{◌≡◌, ◌⊎◌, ℕ, Bool, true, false, List, [], ◌∷◌, Option, Some, None, Result, Ok, Err, length}
 use Rattle.go_board.specs.declared.device.WriteFault.{WriteFault}
 use Rattle.go_game.specs.Standings.{Standing}
@@ -13,7 +13,8 @@ use Rattle.goref_session.specs.Starts.{begun}
 use Rattle.goref_session.specs.declared.flow.Flow.{Flow}
 use Rattle.goref_session.specs.declared.flow.Flow.TheVariants.{More, Quit}
 
--- where a session stands, the answers to the last text that was sent to it, and whether `quit` was answered
+-- the standing of a session, the answers to the last text that was sent to it, and whether `quit` was
+-- answered
 pub record Holding : Type 0 where
   pub standing : Standing
   pub answers : List ℕ
@@ -44,18 +45,18 @@ pub record WasCut (file : Option (List ℕ)) (text : List ℕ) (old new : Holdin
   pub answers : AnswersText (Err fault) file text old new
   pub is_on : new.is_over ≡ false
 
--- what a text comes to
+-- what a text does
 abbrev pub Sends : Result Flow WriteFault → Option (List ℕ) → List ℕ → Holding → Holding → Type 0
 Sends (Ok More) file text old new = GoesOn file text old new
 Sends (Ok Quit) file text old new = IsOver file text old new
 Sends (Err fault) file text old new = WasCut file text old new
 
--- a session that was sent nothing, on a board of so many lines
+-- a session that was sent nothing, on a board of this many lines
 abbrev pub fresh : ℕ → Holding
 fresh n = record { standing = begun n; answers = []; is_over = false }
 
--- What a text with a file, or with none, comes to behind a handle, by the status of the call. The length is that of the
--- answers.
+-- What a text with a file, or with none, does to the session of a handle, by the status of the call. The
+-- length is that of the answers.
 abbrev pub ComesTo : ℕ → Option (List ℕ) → List ℕ → Option Holding → Option Holding → ℕ → Type 0
 ComesTo status file text None new count = (status ≡ 4) × (new ≡ None) × (count ≡ 0)
 ComesTo status file text (Some old) new count =
@@ -69,7 +70,7 @@ abbrev pub ShowsAnswered : ℕ → Option Holding → List ℕ → List ℕ → 
 ShowsAnswered status None room room' count = (status ≡ 4) × IsText [] room room' count
 ShowsAnswered status (Some held) room room' count = (status ≡ 0) × IsText held.answers room room' count
 
--- a line, or what comes of it with one more byte at its front
+-- a line, or that line with one more byte before it
 abbrev pub line_goes_on : Bool → ℕ → List ℕ → List ℕ
 line_goes_on true b line = []
 line_goes_on false b line = b ∷ line
@@ -79,7 +80,7 @@ abbrev pub line_at_front : List ℕ → List ℕ
 line_at_front [] = []
 line_at_front (b ∷ text) = line_goes_on (is_line_end b) b (line_at_front text)
 
--- the room has the name of the file that a line wants, where it wants one
+-- the room has the name of the file that a line asks for, where it asks for one
 abbrev pub ShowsName : ℕ → Option (List ℕ) → List ℕ → List ℕ → ℕ → Type 0
 ShowsName status None room room' count = (status ≡ 1) × IsText [] room room' count
 ShowsName status (Some name) room room' count = (status ≡ 0) × IsText name room room' count

@@ -3,7 +3,7 @@ ghost use Rattle.goref_c.specs.NextGame.{ShowsBrokenTree, ShowsNoTree, ShowsTree
 
 use go_sgf::{SgfError, next_tree, tree_begin};
 
-/// Puts where the next game tree stands into two places, or where it is broken, and gives the
+/// Puts where the next game tree begins and ends into two places, or where it is broken, and returns the
 /// status.
 pub(crate) fn next_game(source: &[u8], from: usize, begin: &mut usize, end: &mut usize) -> u8
     ensures statuses { result ≤ 2 }

@@ -11,8 +11,8 @@ use std::alloc::Global;
 use std::marker::Model;
 use std::ptr::null_mut;
 
-/// A session of the caller's, or none. The pointer leads to a `Held`; its type doesn't say so, since
-/// C is given no pointer to what has a vector inside. Callers in C never look at what it leads to.
+/// A session of the caller's, or none. The pointer is to a `Held`. Its type doesn't say so, since C gets no
+/// pointer to a type that has a vector inside. Callers in C never read it.
 #[repr(C)]
 pub struct Handle {
     at: *mut (),
@@ -90,7 +90,7 @@ unsafe impl Send for Handle {}
 
 fn crosses<T: Send>(_value: &T) {}
 
-/// This call is proved only where the proof that a handle may be sent stands.
+/// This call needs that a handle may be sent to another thread, so its proof shows it.
 fn handles_cross(handle: &Handle) {
     crosses(handle);
 }

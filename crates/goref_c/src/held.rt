@@ -1,4 +1,4 @@
-//! A session that stands between calls, with the answers to the last text.
+//! A session that is kept between calls, with the answers to the last text.
 ghost use Rattle.std.specs.Prelude.{◌≡◌, [], false};
 ghost use Rattle.goref_c.specs.Files.{bytes_of};
 ghost use Rattle.goref_c.specs.Sessions.{Sends};
@@ -45,7 +45,7 @@ impl Held {
         }
     }
 
-    /// Answers the lines of a text; each line that wants a file is given this one, if it is one. After
+    /// Answers the lines of a text. Each line that asks for a file gets this one, if there is one. After
     /// `quit` nothing is answered.
     pub(crate) fn send(&mut self, text: &[u8], file: Option<&[u8]>) -> Result<Flow, WriteFault>
         ensures { Sends result (bytes_of file.entry) text.now self.old self.new }

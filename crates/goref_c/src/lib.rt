@@ -1,5 +1,5 @@
-//! goref for other languages: functions from bytes to bytes, which keep nothing between calls, and
-//! sessions behind handles, which do.
+//! goref for other languages: functions from bytes to bytes, which keep nothing between calls, and sessions
+//! by handles, which do.
 //!
 //! A text goes into a room of the caller's, as far as it fits, and the text's whole length into a
 //! place of the caller's. `include/goref.h` says what each status means.
@@ -25,8 +25,8 @@ mod tools;
 use handle::Handle;
 use std::alloc::Global;
 
-/// The answers to lines of the Go Text Protocol, on a board of so many lines. There are no files. The
-/// status is 0, or 2 where no board has so many lines, or 3 where there was no memory.
+/// The answers to lines of the Go Text Protocol, on a board of `lines` lines. There are no files. The status
+/// is 0, or 2 where no board has that many lines, or 3 where there was no memory.
 #[unsafe(no_mangle)]
 pub extern "C" fn goref_answers(
     alloc: Global,
@@ -79,7 +79,7 @@ pub extern "C" fn goref_judge(
     tools::judge(alloc, source, room, length)
 }
 
-/// Where the first game tree that begins at `from` or later stands. The status is 0, or 1 where no
+/// Where the first game tree that begins at `from` or later begins and ends. The status is 0, or 1 where no
 /// tree begins from there on, or 2 where that tree is broken. No memory is taken.
 #[unsafe(no_mangle)]
 pub extern "C" fn goref_next_game(
@@ -96,9 +96,9 @@ pub extern "C" fn goref_next_game(
     games::next_game(source, from, begin, end)
 }
 
-/// Opens a session on a board of so many lines behind a handle. One that stood there is closed. The
-/// status is 0, or 2 where no board has so many lines, or 3 where there was no memory; with both of
-/// these the handle stays as it was.
+/// Opens a session on a board of `lines` lines, and puts it into a handle. The session that was there is
+/// closed. The status is 0, or 2 where no board has that many lines, or 3 where there was no memory. After 2
+/// and 3 the handle is as it was.
 #[unsafe(no_mangle)]
 pub extern "C" fn goref_open(alloc: Global, lines: u8, handle: &mut Handle) -> u8
     ensures done { result ≡ 0 → handle.new.value ≡ Some (fresh lines) }
@@ -109,9 +109,9 @@ pub extern "C" fn goref_open(alloc: Global, lines: u8, handle: &mut Handle) -> u
     sessions::open(alloc, lines, handle)
 }
 
-/// Answers the lines of a text over the session behind a handle, which keeps the answers. Lines get
-/// no file. The status is 0, or 1 where `quit` was answered, now or before, or 3 where there was no
-/// memory for an answer, or 4 where the handle has no session.
+/// Answers the lines of a text over the session of a handle, which keeps the answers. Lines get no file. The
+/// status is 0, or 1 where `quit` was answered, now or before, or 3 where there was no memory for an answer,
+/// or 4 where the handle has no session.
 #[unsafe(no_mangle)]
 pub extern "C" fn goref_send(
     alloc: Global,
@@ -124,7 +124,7 @@ pub extern "C" fn goref_send(
     sessions::send(alloc, handle, text, None, length)
 }
 
-/// As `goref_send`, where each line that wants a file gets this one.
+/// As `goref_send`, where each line that asks for a file gets this one.
 #[unsafe(no_mangle)]
 pub extern "C" fn goref_give(
     alloc: Global,
@@ -138,8 +138,7 @@ pub extern "C" fn goref_give(
     sessions::send(alloc, handle, text, Some(file), length)
 }
 
-/// The name of the file that the first line of a text wants. The status is 0, or 1 where it wants
-/// none.
+/// The name of the file that the first line of a text asks for. The status is 0, or 1 where it asks for none.
 #[unsafe(no_mangle)]
 pub extern "C" fn goref_wants(text: &[u8], room: &mut [u8], length: &mut usize) -> u8
     ensures { ShowsWanted result text.now room.old room.new length.new }
@@ -161,7 +160,7 @@ pub extern "C" fn goref_take(
     sessions::take(alloc, handle, room, length)
 }
 
-/// Closes the session behind a handle, if there is one.
+/// Closes the session of a handle, if there is one.
 #[unsafe(no_mangle)]
 pub extern "C" fn goref_close(alloc: Global, handle: &mut Handle)
     ensures { handle.new.value ≡ None }

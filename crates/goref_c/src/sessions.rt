@@ -1,4 +1,4 @@
-//! Sessions behind handles.
+//! Sessions by handles.
 ghost use Rattle.std.specs.Prelude.{◌≡◌, ◌≢◌, ◌⊎◌, ◌<◌, ◌↔◌, None, Some};
 ghost use Rattle.go_board.specs.declared.size.TheConstants.{MAX_LINES};
 ghost use Rattle.goref_c.specs.Ends.{IsText};
@@ -14,7 +14,7 @@ use memchr::memchr;
 use std::alloc::Global;
 use std::mem;
 
-/// Puts a new session on a board of so many lines behind a handle, and gives the status.
+/// Puts a new session on a board of this many lines into a handle, and returns the status.
 pub(crate) fn open(alloc: Global, lines: u8, handle: &mut Handle) -> u8
     ensures done { result ≡ 0 → handle.new.value ≡ Some (fresh lines) }
     ensures size { (result ≡ 2) ↔ ((lines ≡ 0) ⊎ (MAX_LINES < lines)) }
@@ -33,8 +33,8 @@ pub(crate) fn open(alloc: Global, lines: u8, handle: &mut Handle) -> u8
     }
 }
 
-/// Sends a text, and a file for the lines that want one, to the session behind a handle. Gives the
-/// length of the answers and the status.
+/// Sends a text, and a file for the lines that ask for one, to the session of a handle. Returns the length of
+/// the answers and the status.
 pub(crate) fn send(
     alloc: Global,
     handle: &mut Handle,
@@ -72,7 +72,7 @@ pub(crate) fn take(alloc: Global, handle: &mut Handle, room: &mut [u8], length: 
     0
 }
 
-/// Puts the name of the file that the first line of a text wants into a room, and gives the status.
+/// Puts the name of the file that the first line of a text asks for into a room, and returns the status.
 pub(crate) fn wanted(text: &[u8], room: &mut [u8], length: &mut usize) -> u8
     ensures { ShowsWanted result text.now room.old room.new length.new }
 {

@@ -7,10 +7,10 @@ use crate::{
 };
 use std::test::Fail;
 
-/// What a call comes to: its status, and the text that stands in a room of so many bytes.
+/// The result of a call: its status, and the text in a room of this many bytes.
 type End = (u8, usize, &'static [u8]);
 
-/// Records, the room that is given, and what `goref_tidy` comes to with each.
+/// Records, the room that is given, and the result of `goref_tidy` with each.
 const TIDIED: &[(&[u8], usize, End)] = &[
     (
         b"( ;FF[4] SZ[9]; B[ee] )",
@@ -49,7 +49,7 @@ const JUDGED: &[(&[u8], usize, End)] = &[
     (b"(", 99, (1, 12, b"no game tree")),
 ];
 
-/// Lines for a board of five lines, and what `goref_answers` comes to with them.
+/// Lines for a board of five lines, and the result of `goref_answers` with them.
 const ANSWERED: &[(u8, &[u8], usize, End)] = &[
     (
         5,
@@ -108,7 +108,7 @@ fn lines_are_answered(rt: HostRuntime) -> Result<(), Fail> {
     Ok(())
 }
 
-/// A text, the file that is given with it, and what sending it comes to: the status and the answers.
+/// A text, the file that is given with it, and the result of sending it: the status and the answers.
 type Sent = (&'static [u8], Option<&'static [u8]>, u8, &'static [u8]);
 
 /// A record on three lines, whose one stone has the whole board.
@@ -145,7 +145,7 @@ const SENT: &[Sent] = &[
     (b"name\n", Some(SMALL), 1, b""),
 ];
 
-/// Lines, the room that is given, and what `goref_wants` comes to with them.
+/// Lines, the room that is given, and the result of `goref_wants` with them.
 const WANTED: &[(&[u8], usize, End)] = &[
     (b"loadsgf a.sgf", 9, (0, 5, b"a.sgf")),
     (b"7 loadsgf\ta.sgf  # it\nname", 4, (0, 5, b"a.sg")),
@@ -154,7 +154,7 @@ const WANTED: &[(&[u8], usize, End)] = &[
     (b"", 9, (1, 0, b"")),
 ];
 
-/// Sends a text with its file, and tells whether the answers are those of the row.
+/// Sends a text with its file, and returns whether the answers are those of the row.
 fn is_answered(rt: &HostRuntime, handle: &mut Handle, sent: &Sent) -> bool {
     let (text, file, status, answers) = sent;
     let mut length = 7;

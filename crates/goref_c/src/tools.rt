@@ -61,8 +61,8 @@ pub(crate) fn judge<A: Allocator + Copy>(
     }
 }
 
-/// Puts the text of a fault into a room, and gives its status; where there is no memory for the
-/// text, that of want of memory.
+/// Puts the text of a fault into a room, and returns its status. If there is no memory for the text, the
+/// status is that of lack of memory.
 fn tell<A: Allocator + Copy>(alloc: A, why: ToolError, room: &mut [u8], length: &mut usize) -> u8
     ensures { ((result ≡ status_of why)
         × IsText (tool_error_text why) room.old room.new length.new)

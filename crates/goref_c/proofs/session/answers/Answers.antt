@@ -13,5 +13,6 @@ returns-in-Ok-clause-done g c = λ _.
     let shelf = c.answer_lines.new.shelf in
     answers_shown c.in-Ok.field-0 c.args.lines c.answer_lines.new.session c.args.text.now shelf.file shelf.asked
     c.answer_lines.new.writer.taken _ _ _
-    (rw (c.new-session.ensures, c.new-writer.ensures, c.new-shelf.ensures, c.in-Some.ensures.value) at c.in-Ok.ensures.answered)
+    (rw (c.new-session.ensures, c.new-writer.ensures, c.new-shelf.ensures, c.in-Some.ensures.value) at
+    c.in-Ok.ensures.answered)
     (rw c.bytes.ensures at c.show-in-Ok.ensures)
