@@ -1,3 +1,2 @@
 mod Charges
 mod Shapes
-mod Ticks

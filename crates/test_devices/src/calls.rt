@@ -1,3 +1,4 @@
+//! How the devices count their calls, so that one of them fails.
 /// A count of calls. One of them may be chosen, by its number.
 #[derive(Clone, Copy)]
 pub(crate) struct Calls {
@@ -11,7 +12,7 @@ impl Calls {
         Calls { made: 0, chosen }
     }
 
-    /// Counts one more, and tells whether it is the chosen one.
+    /// Counts one more, and says whether it is the chosen one.
     pub(crate) fn count(&mut self) -> bool {
         self.made = self.made.saturating_add(1);
         self.made == self.chosen

@@ -7,8 +7,8 @@ use std::alloc::Allocator;
 use std::cell::Cell;
 use std::marker::Model;
 
-/// A writer that holds back what it is given, all of it, and passes it on at a flush alone. It
-/// tells a reader how many bytes it passed on.
+/// A writer that holds back all that it is given, and passes it on only at a flush. A reader can see how many
+/// bytes it passed on.
 #[derive(Drop)]
 pub struct HoldingWriter<'a, A: Allocator> {
     bytes: Vec<u8, A>,
@@ -32,7 +32,7 @@ impl<'a, A: Allocator> Model for HoldingWriter<'a, A> {
 }
 
 impl<'a, A: Allocator + Copy> HoldingWriter<'a, A> {
-    /// A writer that took nothing so far, and tells in this cell how many bytes it passed on.
+    /// A writer that took nothing so far. It keeps in this cell how many bytes it passed on.
     pub fn new(alloc: A, passed: &'a Cell<usize>) -> HoldingWriter<'a, A>
         ensures { result ≡ record { taken = []; held = 0; failures = 0 } }
     {
@@ -53,7 +53,7 @@ impl<'a, A: Allocator + Copy> HoldingWriter<'a, A> {
         self.bytes.as_slice()
     }
 
-    /// How many bytes it had passed on behind each flush.
+    /// How many bytes it had passed on after each flush.
     pub fn ends(&self) -> &[usize] {
         self.ends.as_slice()
     }
@@ -66,7 +66,7 @@ impl<A: Allocator> Sink for HoldingWriter<'_, A> {
 
     ghost held = { λ writer. writer.held };
 
-    /// Want of memory is a failure.
+    /// It fails if there is no memory.
     fn put(&mut self, bytes: &[u8]) -> Result<usize, Failed> {
         if self.bytes.extend_from_slice(bytes).is_err() {
             self.failures.tick();
@@ -76,7 +76,7 @@ impl<A: Allocator> Sink for HoldingWriter<'_, A> {
         Ok(bytes.len())
     }
 
-    /// Want of memory is a failure, which passes nothing on.
+    /// It fails if there is no memory, and passes nothing on then.
     fn flush(&mut self) -> Result<(), Failed> {
         if self.ends.push(self.bytes.len()).is_err() {
             self.failures.tick();

@@ -1,3 +1,4 @@
+//! A reader that sees what a writer passed on.
 ghost use Rattle.std.specs.Prelude.{◌≡◌, Some};
 
 use crate::reader::Reader;
@@ -49,7 +50,7 @@ impl<A: Allocator> Source for NotingReader<'_, A> {
 
     ghost ends = { λ noting. noting.ends };
 
-    /// Want of memory is a failure.
+    /// It fails if there is no memory.
     fn pull(&mut self, buffer: &mut [u8]) -> Result<usize, Failed> {
         if self.seen.push(self.passed.get()).is_err() {
             return Err(self.reader.fail());

@@ -1,5 +1,5 @@
 //! A reader of a text in memory. A test chooses how much each pull gives and which pull fails. The reader
-//! counts its pulls, and how often it told its end.
+//! counts its pulls, and how often a pull met the end.
 ghost use Rattle.std.specs.Prelude.{◌≡◌, ◌≤◌, ◌+◌, Some};
 
 use crate::calls::Calls;
@@ -9,9 +9,9 @@ use std::marker::Model;
 /// What a pull gives of a text, as far as there is room for it.
 #[derive(Clone, Copy)]
 enum Piece {
-    /// So many bytes, and at least one.
+    /// This many bytes, and at least one.
     Bytes(usize),
-    /// What stands up to the end of a line.
+    /// The bytes up to the end of a line.
     Line,
 }
 
@@ -30,7 +30,7 @@ impl Piece {
     }
 }
 
-/// A text that is read. Unless told otherwise it comes whole, as far as there is room for it.
+/// A text that is read. By default a pull gives all of it that there is room for.
 #[derive(Drop)]
 pub struct Reader<'a> {
     rest: &'a [u8],
@@ -77,7 +77,7 @@ impl<'a> Reader<'a> {
         }
     }
 
-    /// Each pull gives at most so many bytes, and at least one.
+    /// Each pull gives at most `most` bytes, and at least one.
     pub fn in_pieces_of(mut self, most: usize) -> Reader<'a>
         ensures { result ≡ self.entry }
     {
@@ -85,7 +85,7 @@ impl<'a> Reader<'a> {
         self
     }
 
-    /// Each pull gives at most one line, or the front of one.
+    /// Each pull gives at most one line, or a prefix of one.
     pub fn in_lines(mut self) -> Reader<'a>
         ensures { result ≡ self.entry }
     {
@@ -106,7 +106,7 @@ impl<'a> Reader<'a> {
         self.calls.made()
     }
 
-    /// How often it told its end: how many pulls with room gave nothing.
+    /// How many pulls met the end: those that had room and gave nothing.
     pub fn end_count(&self) -> u64 {
         self.ends.made()
     }

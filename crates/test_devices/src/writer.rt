@@ -7,7 +7,7 @@ use go_board::{Failed, Meter, Sink};
 use std::alloc::Allocator;
 use std::marker::Model;
 
-/// A writer that keeps the bytes it took. Unless told otherwise it takes all that it is given.
+/// A writer that keeps the bytes it took. By default it takes all that it is given.
 #[derive(Drop)]
 pub struct Writer<A: Allocator> {
     bytes: Vec<u8, A>,
@@ -41,7 +41,7 @@ impl<A: Allocator> Writer<A> {
         }
     }
 
-    /// Each put takes at most so many bytes.
+    /// Each put takes at most `most` bytes.
     pub fn in_pieces_of(mut self, most: usize) -> Writer<A>
         ensures { result ≡ self }
     {
@@ -98,7 +98,7 @@ impl<A: Allocator> Sink for Writer<A> {
 
     ghost held = { λ _. 0 };
 
-    /// Want of memory is a failure too.
+    /// It fails if there is no memory, too.
     fn put(&mut self, bytes: &[u8]) -> Result<usize, Failed> {
         let most = if self.stalls.count() { 0 } else { self.most };
         let count = bytes.len().min(most);

@@ -1,17 +1,17 @@
-//! Boards of `go_chains` compared with grids, after each drawn play and after each play that is taken back.
+//! Boards of `go_chains` compared with grids, after each random play and after each play that is taken back.
 //! In other runs each request for memory of a play is refused in turn.
 ghost use Rattle.std.specs.Prelude.{◌≡◌};
 ghost use Rattle.go_board.specs.Points.{IsOn};
 
-use crate::drawn::any_colour;
 use crate::games::size_of;
+use crate::help::drawn::any_colour;
 use go_board::{Colour, Grid, Meter, Point, Size, plain};
 use go_chains::{Board, Log, PlaceError};
 use rand_core::Rng;
 use rand_pcg::Pcg32;
 use std::alloc::{Allocator, Global};
 use std::process::Abort;
-use test_allocator::Failing;
+use test_allocator::Refusing;
 
 /// Draws a point of a board.
 fn any_point(random: &mut Pcg32, size: Size) -> Point
@@ -34,7 +34,7 @@ fn same_colours(rt: &impl Abort, board: &Board, grid: &Grid) {
     }
 }
 
-/// Asks of the chain of a stone all that can be asked, of the board and of a grid.
+/// Compares each answer about the chain of a stone, by the board and by a grid.
 fn same_chain_of(rt: &impl Abort, board: &Board, grid: &Grid, p: Point)
     requires board { IsOn board.now.lines p }
     requires grid { grid.now.lines ≡ board.now.lines }
@@ -58,8 +58,7 @@ fn same_chain_of(rt: &impl Abort, board: &Board, grid: &Grid, p: Point)
     assert!(rt; board.liberties_of(p) == plain::liberties_of(grid, p));
 }
 
-/// Compares the board's answers with those of the grid: of each stone on a small board, else of a
-/// few.
+/// Compares the board's answers with those of the grid: about each stone on a small board, else about a few.
 fn same_answers(rt: &impl Abort, board: &Board, grid: &Grid, random: &mut Pcg32) {
     same_colours(rt, board, grid);
     let size = board.size();
@@ -134,7 +133,7 @@ fn explore<A: Allocator + Copy>(
     explore(rt, board, log, grid, walk, depth - 1);
 }
 
-/// Explores a board of so many lines, from no stone.
+/// Explores a board of `lines` lines, from the empty board on.
 fn explore_board(rt: &impl Abort, alloc: Global, lines: u8, left: u32, depth: u16) {
     let size = size_of(rt, lines);
     let mut board = Board::new(size);
@@ -147,7 +146,7 @@ fn explore_board(rt: &impl Abort, alloc: Global, lines: u8, left: u32, depth: u1
     agrees(rt, &board, &log, &grid, 0, &mut walk);
 }
 
-/// Plays once on an empty point, if the drawn one is, and compares the board with a grid.
+/// Plays on a random point if it is empty, and compares the board with a grid.
 fn play_once<A: Allocator + Copy>(
     rt: &impl Abort,
     board: &mut Board,
@@ -210,8 +209,8 @@ fn the_largest_board_as_the_plain_body(rt: HostRuntime) {
     explore_board(&rt, rt.alloc(), 25, 800, 900);
 }
 
-/// Plays on each point in turn, sent again where memory was refused; how many were. The last play
-/// takes all stones.
+/// Plays on each point in turn, and again where memory was refused. Returns how many plays were refused. The
+/// last play takes all stones.
 fn script<A: Allocator + Copy>(rt: &impl Abort, board: &mut Board, log: &mut Log<A>) -> u32 {
     let mut random = Pcg32::new(1, 1);
     let mut refused = 0u32;
@@ -231,17 +230,16 @@ fn script<A: Allocator + Copy>(rt: &impl Abort, board: &mut Board, log: &mut Log
     refused
 }
 
-/// The script on four lines, with a log that takes its memory from here. How many plays were
-/// refused.
+/// The script on four lines, with a log that takes its memory from here. Returns how many plays were refused.
 fn script_by(rt: &impl Abort, alloc: impl Allocator + Copy) -> u32 {
     let mut board = Board::new(size_of(rt, 4));
     let mut log = Log::new(alloc);
     script(rt, &mut board, &mut log)
 }
 
-/// Whether the script comes to a request for memory with this number; that one alone is refused.
+/// Whether the script makes a request for memory with this number. Only that request is refused.
 fn meets_request(rt: &impl Abort, alloc: Global, number: u64) -> bool {
-    let failing = Failing::new(alloc, number);
+    let failing = Refusing::nth_request(alloc, number);
     let refused = script_by(rt, &failing);
     let is_met = !failing.waits();
     assert_eq!(rt; refused, u32::from(is_met), "request {number}");

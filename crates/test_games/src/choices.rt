@@ -1,12 +1,12 @@
 //! Which move a game chooses, and which moves it says are legal: worked examples, and runs in which each
 //! request for memory is refused in turn.
 use crate::games::{CAPTURE, Step, example, follow, grid_of, size_of};
-use crate::twins::{assert_same, assert_whole, plays};
+use crate::help::twins::{assert_same, assert_whole, plays};
 use go_board::{Colour, Move, Point, Taken, Vertex};
 use go_game::Game;
 use std::alloc::{AllocError, Allocator, Global};
 use std::process::Abort;
-use test_allocator::Failing;
+use test_allocator::Refusing;
 
 const ON_ONE_POINT: &[Step] = &[
     Step::Chooses(Colour::Black, b"pass"),
@@ -93,7 +93,7 @@ fn legal_plays_after_a_capture(rt: HostRuntime) {
     example(&rt, game, &[CAPTURE, AFTER_A_CAPTURE]);
 }
 
-/// Black's A1 would make anew what stood before the suicide, and take nothing.
+/// Black's A1 would repeat the position before the suicide, and take nothing.
 const AFTER_A_SUICIDE: &[Step] = &[
     Step::Plays(Colour::Black, b"A1"),
     Step::Plays(Colour::White, b"A2"),
@@ -110,8 +110,8 @@ fn choice_beside_a_quiet_repetition(rt: HostRuntime) {
     example(&rt, game, &[AFTER_A_SUICIDE]);
 }
 
-/// Asks for the choice, which is this move; and again where there was no memory. How many times
-/// there was none. The game answers as its twin does, before and after.
+/// Asks for the choice, which is this move, and again where there was no memory. Returns how often there was
+/// none. The game answers as its twin does, before and after.
 fn asks_choice<A: Allocator + Copy>(
     rt: &impl Abort,
     game: &mut Game<A>,
@@ -128,7 +128,7 @@ fn asks_choice<A: Allocator + Copy>(
     refused
 }
 
-/// Asks whether a move is legal, as it is; else as `asks_choice`.
+/// Asks whether a move is legal, which it is. The rest is as in `asks_choice`.
 fn asks_legal<A: Allocator + Copy>(
     rt: &impl Abort,
     game: &mut Game<A>,
@@ -145,7 +145,7 @@ fn asks_legal<A: Allocator + Copy>(
     refused
 }
 
-/// Asks for a move, and plays it in both games. How many calls were refused.
+/// Asks for a move, and plays it in both games. Returns how many calls were refused.
 fn asks_and_plays<A: Allocator + Copy>(
     rt: &impl Abort,
     game: &mut Game<A>,
@@ -170,7 +170,7 @@ const A2: Point = Point { col: 0, row: 1 };
 
 const B2: Point = Point { col: 1, row: 1 };
 
-/// Five moves on two lines, each asked for and then played. How many calls were refused.
+/// Five moves on two lines, each asked for and then played. Returns how many calls were refused.
 fn five_moves<A: Allocator + Copy>(
     rt: &impl Abort,
     alloc: Global,
@@ -190,7 +190,7 @@ fn five_moves<A: Allocator + Copy>(
     refused
 }
 
-/// The five moves in a game that takes its memory from here. How many calls were refused.
+/// The five moves in a game that takes its memory from here. Returns how many calls were refused.
 fn five_moves_by(
     rt: &impl Abort,
     alloc: Global,
@@ -201,9 +201,9 @@ fn five_moves_by(
     five_moves(rt, alloc, &mut game, is_chosen)
 }
 
-/// Whether the five moves come to a request for memory with this number; that one alone is refused.
+/// Whether the five moves make a request for memory with this number. Only that request is refused.
 fn meets_request(rt: &impl Abort, alloc: Global, number: u64, is_chosen: bool) -> bool {
-    let failing = Failing::new(alloc, number);
+    let failing = Refusing::nth_request(alloc, number);
     let refused = five_moves_by(rt, alloc, &failing, is_chosen);
     let is_met = !failing.waits();
     assert_eq!(rt; refused, u32::from(is_met), "request {number}");
@@ -232,10 +232,10 @@ fn each_request_of_a_legal_refused(rt: HostRuntime) {
     refused_in_turn(&rt, rt.alloc(), false);
 }
 
-/// Whether a choice on one point comes to a request for memory with this number; that one alone is
-/// refused. The only play there may take a stone, its own, so it is tried.
+/// Whether a choice on one point makes a request for memory with this number. Only that request is refused.
+/// The only play there may take a stone, its own, so it is tried.
 fn choice_meets_request(rt: &impl Abort, alloc: Global, number: u64) -> bool {
-    let failing = Failing::new(alloc, number);
+    let failing = Refusing::nth_request(alloc, number);
     let mut game = Game::new(&failing, size_of(rt, 1));
     let mut twin = Game::new(alloc, size_of(rt, 1));
     let pass = Move {
@@ -263,8 +263,8 @@ fn each_request_of_a_tried_play_refused(rt: HostRuntime) {
 /// A black stone in the corner that White takes from B1, and nothing repeats.
 const LAST_LIBERTY: &[(Colour, Point)] = &[(Colour::Black, A1), (Colour::White, A2)];
 
-/// Asks for the capture, in a game from the grid before it that takes its memory from here. How many
-/// times there was no memory; none where there was none for the start.
+/// Asks for the capture in a game from the grid before it. The game takes its memory from here. Returns how
+/// often there was no memory, or None if there was none for the start.
 fn asks_capture(
     rt: &impl Abort,
     alloc: Global,
@@ -291,7 +291,7 @@ fn capture_refused_in_turn(rt: &impl Abort, alloc: Global, is_chosen: bool) {
     let mut met = 0u32;
     let mut is_done = false;
     for number in 1..40u64 {
-        let failing = Failing::new(alloc, number);
+        let failing = Refusing::nth_request(alloc, number);
         let refused = asks_capture(rt, alloc, &failing, is_chosen);
         if failing.waits() {
             assert!(rt; refused == Some(0));

@@ -2,13 +2,13 @@
 //! files of the crate too.
 ghost use Rattle.std.specs.Prelude.{◌≡◌};
 
-use crate::turns::same_colours;
+use crate::drawn_games::same_colours;
 use go_board::{Colour, Grid, Move, Point, Size, Taken, Vertex, read_vertex};
 use go_game::{Game, PlayError, SetupError, hundredths_text, score_text};
 use std::alloc::Global;
 use std::process::Abort;
 
-/// The size of so many lines.
+/// The size of `lines` lines.
 pub fn size_of(rt: &impl Abort, lines: u8) -> Size
     ensures { result ≡ lines }
 {
@@ -41,7 +41,7 @@ fn is_legal(rt: &impl Abort, game: &mut Game<Global>, colour: Colour, word: &[u8
 /// What a play answers that takes no stone.
 pub const NONE: Taken = Taken { theirs: 0, own: 0 };
 
-/// A step of a worked example. A play is a colour, and the word of a vertex.
+/// A step of a worked example. A play is a colour and the word of a vertex.
 #[derive(Clone, Copy)]
 pub enum Step {
     /// The play is made, and takes no stone.
@@ -60,7 +60,7 @@ pub enum Step {
     Chooses(Colour, &'static [u8]),
     /// The colour is to move.
     Awaits(Colour),
-    /// So many black stones were taken, in so many moves.
+    /// `black` black stones were taken in `moves` moves.
     HasTaken { black: u64, moves: usize },
 }
 
@@ -258,7 +258,7 @@ fn texts_of_scores(rt: HostRuntime) {
     }
 }
 
-/// A grid of so many lines with these stones.
+/// A grid of `lines` lines with these stones.
 pub fn grid_of(rt: &impl Abort, lines: u8, stones: &[(Colour, Point)]) -> Grid {
     let mut grid = Grid::new(size_of(rt, lines));
     for (colour, at) in stones {

@@ -5,7 +5,7 @@ use go_history::{History, Key};
 use std::alloc::{AllocError, Allocator, Global};
 use std::process::Abort;
 use std::test::Fail;
-use test_allocator::Limited;
+use test_allocator::Refusing;
 
 /// The pack of a board with one stone, or of one with none where no point has this number.
 fn pack_with(rt: &impl Abort, number: u16) -> Packed {
@@ -32,7 +32,7 @@ fn key_before(rt: &impl Abort, number: u16, mover: Option<Colour>) -> Key {
 
 const NO_STONE: u16 = 361;
 
-/// A history of so many stones on the empty board, each taken away by the next.
+/// A history of `moves` moves on the empty board. Each stone is taken away by the next.
 fn history_of(rt: &impl Abort, alloc: Global, moves: u16) -> Result<History<Global>, AllocError> {
     let mut history = History::new(alloc, key_with(rt, NO_STONE));
     for number in 0..moves {
@@ -175,8 +175,8 @@ fn key_of_two(rt: &impl Abort, number: u16) -> Key {
     }
 }
 
-/// Notes each of the many with the number behind its own, and asserts whether it is found, by what its
-/// own leaves when it is divided by 3.
+/// Notes each of the many with the number after its own. Asserts whether it is found, by the remainder of its
+/// own number divided by 3.
 fn note_many(
     rt: &impl Abort,
     history: &mut History<Global>,
@@ -225,7 +225,7 @@ fn many_keys_are_found_and_taken_back(rt: HostRuntime) -> Result<(), Fail> {
     note_and_take_back(&rt, &mut history)
 }
 
-/// What a history of so many keys may ask for in all.
+/// How many bytes a history of the many keys may ask for in all.
 const HISTORY: u64 = 3_000_000;
 
 /// Of the many, those that are kept, and then those that are noted and taken back, one lot after the
@@ -270,7 +270,7 @@ fn note_and_forget<A: Allocator + Copy>(
 
 #[test]
 fn keys_that_are_taken_back_leave_their_room(rt: HostRuntime) -> Result<(), Fail> {
-    let limited = Limited::new(rt.alloc(), HISTORY);
+    let limited = Refusing::beyond_bytes(rt.alloc(), HISTORY);
     let mut history = History::new(&limited, key_with(&rt, NO_STONE));
     note_new(&rt, &mut history, 0, KEPT)?;
     note_and_forget(&rt, &mut history, FIRST_LOT)?;
@@ -291,7 +291,7 @@ fn key_of_bytes(first: u16, last: u8) -> Key {
 
 /// How many bytes the many keys take whose packs have this last byte.
 fn taken_by_many(rt: &impl Abort, alloc: Global, last: u8) -> Result<u64, AllocError> {
-    let limited = Limited::new(alloc, HISTORY);
+    let limited = Refusing::beyond_bytes(alloc, HISTORY);
     let mut history = History::new(&limited, key_with(rt, NO_STONE));
     for number in 1..MANY + 1 {
         let found = history.note(&key_of_bytes(number, last), usize::from(number))?;
@@ -300,8 +300,8 @@ fn taken_by_many(rt: &impl Abort, alloc: Global, last: u8) -> Result<u64, AllocE
     Ok(HISTORY.saturating_sub(limited.left()))
 }
 
-/// How many bytes fewer the many take whose packs have none behind those of 19 lines: 60 for each that
-/// isn't among the first 4,096.
+/// How many bytes fewer the many keys take if their packs have no byte after those of 19 lines: 60 for each
+/// key after the first 4,096.
 const FEWER: u64 = 60 * 904;
 
 #[test]

@@ -33,7 +33,7 @@ fn upward(size: Size) -> Grid {
     grid
 }
 
-/// The colours set from the last point to the first, over stones that stood there.
+/// The colours set from the last point to the first, over other stones.
 fn downward(size: Size) -> Grid {
     let mut grid = Grid::new(size);
     for number in 0..size.points() {

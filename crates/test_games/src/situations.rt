@@ -2,23 +2,23 @@
 ghost use Rattle.std.specs.Prelude.{◌≡◌, []};
 
 use crate::games::{CAPTURE, KO, KO_AFTER_PASSES, Step, example, follow, size_of, turn};
-use crate::twins::{assert_same, plays};
+use crate::help::twins::{assert_same, plays};
 use go_board::{Colour, Grid, Point, Size, Taken, Vertex};
 use go_game::{Game, PlayError, Superko};
 use std::alloc::{Allocator, Global};
 use std::process::Abort;
-use test_allocator::Failing;
+use test_allocator::Refusing;
 
 const OWN_STONE: Taken = Taken { theirs: 0, own: 1 };
 
-/// A game on so many lines by a rule.
+/// A game on `lines` lines by a rule.
 fn game_by<A: Allocator + Copy>(rt: &impl Abort, alloc: A, superko: Superko, lines: u8) -> Game<A> {
     let mut game = Game::new(alloc, size_of(rt, lines));
     game.set_superko(superko);
     game
 }
 
-/// A game on so many lines by the situational rule.
+/// A game on `lines` lines by the situational rule.
 fn situational(rt: &impl Abort, alloc: Global, lines: u8) -> Game<Global> {
     game_by(rt, alloc, Superko::Situational, lines)
 }
@@ -54,7 +54,7 @@ fn after_suicide(rt: &impl Abort, alloc: Global) -> Game<Global> {
     game
 }
 
-/// Asserts that a game answers to each step as the step says, and tells then what its twin tells.
+/// Asserts that a game answers to each step as the step says, and then equals its twin.
 fn stays_same(rt: &impl Abort, game: &mut Game<Global>, twin: &Game<Global>, steps: &[Step]) {
     for step in steps {
         follow(rt, game, &[*step]);
@@ -78,7 +78,7 @@ fn a_refused_suicide_changes_nothing(rt: HostRuntime) {
     stays_same(&rt, &mut game, &twin, SUICIDE_TAKEN_BACK);
 }
 
-/// Passes after White has taken a stone, and the suicide that would bring back what stood then.
+/// Passes after White has taken a stone, and the suicide that would repeat the position of then.
 const PASSES: &[Step] = &[
     Step::Plays(Colour::Black, b"pass"),
     Step::Plays(Colour::White, b"pass"),
@@ -164,7 +164,7 @@ fn two_situational(rt: &impl Abort, alloc: Global, stones: Colour, first: Colour
     game
 }
 
-/// Asserts that a rule stands after a play, on another board and on a cleared one.
+/// Asserts that a rule stays after a play, on another board and on a cleared one.
 fn keeps_rule(rt: &impl Abort, game: &mut Game<Global>, superko: Superko)
     ensures { game.new.standing.moves ≡ [] }
 {
@@ -231,7 +231,7 @@ fn a_start_with_black_to_move(rt: HostRuntime) {
     example(&rt, game, &[BLACK_REPEATS]);
 }
 
-/// Twelve passes on one point. How many were refused.
+/// Twelve passes on one point. Returns how many were refused.
 fn twelve_passes<A: Allocator + Copy>(
     rt: &impl Abort,
     alloc: Global,
@@ -249,10 +249,10 @@ fn twelve_passes<A: Allocator + Copy>(
     refused
 }
 
-/// Passes in a game that takes its memory from here, one request of which may be refused. All passes
-/// stand at last: Black on A1 leaves what stood first at the start, by the situational rule after
-/// the first pass. How many passes were refused.
-fn passes_by(rt: &impl Abort, alloc: Global, superko: Superko, failing: &Failing<Global>) -> u32 {
+/// Passes in a game that takes its memory from here, one request of which may be refused. In the end all
+/// passes are made: Black on A1 would repeat the start, or by the situational rule the position after the
+/// first pass. Returns how many passes were refused.
+fn passes_by(rt: &impl Abort, alloc: Global, superko: Superko, failing: &Refusing<Global>) -> u32 {
     let mut game = game_by(rt, failing, superko, 1);
     let refused = twelve_passes(rt, alloc, superko, &mut game);
     if !failing.waits() {
@@ -266,9 +266,9 @@ fn passes_by(rt: &impl Abort, alloc: Global, superko: Superko, failing: &Failing
     refused
 }
 
-/// Whether the passes come to a request for memory with this number; that one alone is refused.
+/// Whether the passes make a request for memory with this number. Only that request is refused.
 fn meets_request(rt: &impl Abort, alloc: Global, superko: Superko, number: u64) -> bool {
-    let failing = Failing::new(alloc, number);
+    let failing = Refusing::nth_request(alloc, number);
     let refused = passes_by(rt, alloc, superko, &failing);
     let is_met = !failing.waits();
     assert_eq!(rt; refused, u32::from(is_met), "request {number}");

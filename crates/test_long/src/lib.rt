@@ -1,4 +1,7 @@
-//! Tests of long use: games and records of more than 65,536 moves, and what they ask for.
+//! Tests of long use, with more than 65,536 moves.
+//!
+//! - `long_games`: plays, undos and the memory that they take
+//! - `long_records`: replays and verdicts
 #![tactic(auto)]
 
 #[cfg(test)]

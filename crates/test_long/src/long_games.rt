@@ -1,4 +1,4 @@
-//! Games of more plays than a number of two bytes tells, and what they ask for.
+//! Games of more plays than two bytes count, and the memory that they ask for.
 use go_board::{Colour, Grid, Move, Point, Size, Vertex};
 use go_game::Game;
 use rand_core::Rng;
@@ -6,7 +6,7 @@ use rand_pcg::Pcg32;
 use std::alloc::{AllocError, Allocator, Global};
 use std::process::Abort;
 use std::test::Fail;
-use test_allocator::Limited;
+use test_allocator::Refusing;
 
 /// The size of 19 lines.
 pub(crate) fn nineteen(rt: &impl Abort) -> Size {
@@ -28,10 +28,10 @@ fn any_play(rt: &impl Abort, random: &mut Pcg32, size: Size) -> Move {
     }
 }
 
-/// Most of the points that are drawn have a stone: this many are drawn for a play at most.
+/// Most random points have a stone. At most this many are drawn for a play.
 const DRAWN: u32 = 60;
 
-/// Makes plays of drawn colours on drawn points, until this many more moves stand, and gives them.
+/// Makes plays of random colours on random points, until there are this many more moves, and returns them.
 pub(crate) fn plays_on<A: Allocator + Copy>(
     rt: &impl Abort,
     alloc: Global,
@@ -53,7 +53,7 @@ pub(crate) fn plays_on<A: Allocator + Copy>(
     Ok(moves)
 }
 
-/// The stones that stand.
+/// The stones on the board.
 fn shown<A: Allocator + Copy>(game: &Game<A>) -> Grid {
     let mut grid = Grid::new(game.size());
     for number in 0..game.size().points() {
@@ -65,7 +65,7 @@ fn shown<A: Allocator + Copy>(game: &Game<A>) -> Grid {
     grid
 }
 
-/// Asserts that the superko rule first saw these stones after so many moves.
+/// Asserts that the superko rule saw these stones first after `number` moves.
 fn saw_first<A: Allocator + Copy>(rt: &impl Abort, game: &Game<A>, grid: &Grid, number: usize) {
     assert!(rt; grid.size() == game.size());
     let seen = game.first_seen(grid, Colour::Black);
@@ -107,16 +107,16 @@ const LONG: u32 = 5_000;
 /// More bytes than these games ask for in all.
 const AMPLE: u64 = 1 << 32;
 
-/// How many bytes a game asks for in all, up to so many plays.
+/// How many bytes a game of `plays` plays asks for in all.
 fn asked_for(rt: &impl Abort, alloc: Global, plays: u32) -> Result<u64, AllocError> {
-    let limited = Limited::new(alloc, AMPLE);
+    let limited = Refusing::beyond_bytes(alloc, AMPLE);
     let mut game = Game::new(&limited, nineteen(rt));
     plays_on(rt, alloc, &mut game, plays)?;
     Ok(AMPLE.saturating_sub(limited.left()))
 }
 
-/// Where lists are doubled as they grow, twice the plays ask for about twice the bytes: where each
-/// play moved them, for four times as many.
+/// Lists double as they grow, so twice the plays ask for about twice the bytes. If each play moved them, it
+/// would be four times as many.
 #[test]
 fn twice_the_plays_ask_for_less_than_three_times_the_bytes(rt: HostRuntime) -> Result<(), Fail> {
     let once = asked_for(&rt, rt.alloc(), LONG)?;

@@ -1,4 +1,4 @@
-//! Records of more moves and nodes than a number of two bytes tells, set-up far from the root, and a long result.
+//! Records of more moves and nodes than two bytes count, set-up far from the root, and a long result.
 use crate::long_games::nineteen;
 use go_game::Game;
 use go_record::{RecordError, Stated, Verdict, judge_source, replay_source, replay_source_on};
@@ -7,15 +7,15 @@ use std::alloc::{AllocError, Global};
 use std::process::Abort;
 use std::test::Fail;
 
-/// A text: its front, so many copies of a piece, and its end.
+/// A text: its prefix, copies of a piece, and its end.
 fn repeated(
     alloc: Global,
-    front: &[u8],
+    prefix: &[u8],
     piece: &[u8],
     count: u32,
     end: &[u8],
 ) -> Result<Vec<u8>, AllocError> {
-    let mut text = front.to_vec(alloc)?;
+    let mut text = prefix.to_vec(alloc)?;
     for _ in 0..count {
         text.extend_from_slice(piece)?;
     }
@@ -115,13 +115,13 @@ const WHOLE: &[u8] = b"(;GM[1]SZ[9]KM[6.5]AB[cc:dd]PL[W];W[ee]C[a\\]b];B[];W[ff]
 #[test]
 fn a_record_that_is_cut_is_told_by_check(rt: HostRuntime) -> Result<(), Fail> {
     for end in 0..WHOLE.len() {
-        let (front, _) = WHOLE.split_at(end);
+        let (prefix, _) = WHOLE.split_at(end);
         let why = if end < 2 {
             SgfError::NoTree
         } else {
             SgfError::EndInside(end)
         };
-        assert_eq!(rt; check(front).err(), Some(why), "{end} bytes");
+        assert_eq!(rt; check(prefix).err(), Some(why), "{end} bytes");
     }
     assert_eq!(rt; replayed(&rt, rt.alloc(), WHOLE, None), Ok(4));
     Ok(())

@@ -1,11 +1,11 @@
-//! The game trees of a text, found one after another: where each of them stands.
+//! The game trees of a text, found one after another, and where each of them begins and ends.
 use crate::records::copies;
 use go_sgf::{SgfError, Tree, TreeSpan, next_tree, read, tree_begin};
 use std::alloc::{AllocError, Global};
 use std::process::Abort;
 use std::test::Fail;
 
-/// What is to be found: where a tree stands, no tree, or where a tree begins that isn't whole, and
+/// What is to be found: where a tree begins and ends, no tree, or where a tree begins that isn't whole, and
 /// why not.
 #[derive(Clone, Copy)]
 enum Found {
@@ -85,8 +85,8 @@ const NESTED: &[(u32, bool, usize, Found)] = &[
 #[test]
 fn the_next_tree_of_nested_ones(rt: HostRuntime) -> Result<(), Fail> {
     for (row, (depth, is_closed, from, found)) in NESTED.iter().enumerate() {
-        let back = copies(rt.alloc(), b")", if *is_closed { *depth } else { 0 }, b"")?;
-        let nested = copies(rt.alloc(), b"(;", *depth, back.as_slice())?;
+        let suffix = copies(rt.alloc(), b")", if *is_closed { *depth } else { 0 }, b"")?;
+        let nested = copies(rt.alloc(), b"(;", *depth, suffix.as_slice())?;
         let source = copies(rt.alloc(), b"(;)", 1, nested.as_slice())?;
         assert!(rt; is_found(source.as_slice(), *from, *found), "row {row}");
     }
@@ -125,7 +125,7 @@ fn archive(alloc: Global, before: &[u8]) -> Result<Vec<u8>, AllocError> {
     Ok(text)
 }
 
-/// Where a game of an archive stands, by its number and where it begins: six bytes are about its
+/// Where a game of an archive begins and ends, by its number and its beginning: it has six bytes besides its
 /// comment.
 fn span_of(number: usize, begin: usize) -> TreeSpan {
     TreeSpan {
@@ -134,7 +134,7 @@ fn span_of(number: usize, begin: usize) -> TreeSpan {
     }
 }
 
-/// Asserts that a walk over an archive meets each of its games, with so many bytes before each.
+/// Asserts that a walk over an archive meets each of its games, with `between` bytes before each.
 fn meets_all(rt: &impl Abort, source: &[u8], between: usize) {
     let mut from = 0usize;
     for number in 0..GAMES {
@@ -145,7 +145,7 @@ fn meets_all(rt: &impl Abort, source: &[u8], between: usize) {
     assert!(rt; next_tree(source, from) == Ok(None));
 }
 
-/// What may stand before each game of an archive.
+/// What there may be before each game of an archive.
 const BETWEEN: &[&[u8]] = &[b"", b"\n", b"(no game)"];
 
 #[test]

@@ -1,6 +1,6 @@
 //! The tool that judges a record: verdicts, why a record has none, and runs in which a device fails or memory
 //! is refused.
-use crate::tools::{Tool, told};
+use crate::help::tools::{Tool, assert_fault_text};
 use go_board::Point;
 use go_game::PlayError;
 use go_record::RecordError;
@@ -8,7 +8,7 @@ use go_sgf::SgfError;
 use goref_tools::ToolError;
 use std::alloc::{Allocator, Global};
 use std::process::Abort;
-use test_allocator::Failing;
+use test_allocator::Refusing;
 use test_devices::{Reader, Writer};
 
 const SAMPLE: &[u8] = b"(;GM[1]SZ[9]KM[6.5]RE[B+74.5];B[ee])";
@@ -116,14 +116,14 @@ fn records_without_a_game(rt: HostRuntime) {
     for (number, (source, why, text)) in ILLEGAL.iter().enumerate() {
         let fault = ToolError::Record(*why);
         assert!(rt; is_refused(rt.alloc(), source, fault), "row {number}");
-        told(&rt, rt.alloc(), fault, text, 1);
+        assert_fault_text(&rt, rt.alloc(), fault, text, 1);
     }
 }
 
 #[test]
 fn a_move_off_the_board(rt: HostRuntime) {
     let fault = ToolError::Record(RecordError::Illegal(7, PlayError::OffBoard));
-    told(&rt, rt.alloc(), fault, "move 7 is off the board", 1);
+    assert_fault_text(&rt, rt.alloc(), fault, "move 7 is off the board", 1);
 }
 
 #[test]
@@ -156,8 +156,8 @@ fn no_write_of_a_refused_record(rt: HostRuntime) {
     assert!(rt; writer.put_count() == 0 && writer.flush_count() == 0);
 }
 
-/// Whether a record is refused for its repetition with this allocator; that memory was wanted, if
-/// not. Nothing is written either way.
+/// Whether a record is refused for its repetition with this allocator. If not, asserts that there was no
+/// memory. Nothing is written either way.
 fn refuses_repetition<A: Allocator + Copy>(rt: &impl Abort, alloc: A, ample: Global) -> bool {
     let mut writer = Writer::new(ample);
     let result = Tool::Judge.run(alloc, &mut Reader::new(REPEATING), &mut writer);
@@ -172,7 +172,7 @@ fn each_request_at_a_refused_record(rt: HostRuntime) {
     let alloc = rt.alloc();
     let mut requests = 0;
     for number in 1..200u64 {
-        let failing = Failing::new(alloc, number);
+        let failing = Refusing::nth_request(alloc, number);
         let done = refuses_repetition(&rt, &failing, alloc);
         assert!(rt; done == failing.waits(), "request {number}");
         if done {

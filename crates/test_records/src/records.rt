@@ -9,7 +9,7 @@ use go_sgf::{
 use std::alloc::{AllocError, Allocator, Global};
 use std::process::Abort;
 use std::test::Fail;
-use test_allocator::Failing;
+use test_allocator::Refusing;
 use test_devices::Writer;
 
 const SAMPLE: &[u8] = b"x(;GM[1] FF[4] ;B[aa](;W[bb])(;W[cc]C[a\\]b]))";
@@ -33,13 +33,13 @@ fn written(
     write(collection, writer)
 }
 
-/// Whether the trees of a record are written as this text, by so many bytes at most.
+/// Whether the trees of a record are written as this text, by at most `most` bytes a write.
 fn writes(alloc: Global, collection: &Collection<'_, Global>, most: usize, text: &[u8]) -> bool {
     let mut writer = Writer::new(alloc).in_pieces_of(most);
     written(collection, &mut writer) == Ok(()) && writer.bytes() == text
 }
 
-/// Whether the bytes of a source are written as this text, by so many bytes at most.
+/// Whether the bytes of a source are written as this text, by at most `most` bytes a write.
 fn tidies(alloc: Global, source: &[u8], most: usize, text: &[u8]) -> bool {
     let Ok(checked) = check(source) else {
         return false;
@@ -62,18 +62,18 @@ pub(crate) fn is_tidied(alloc: Global, source: &[u8], text: &[u8]) -> bool {
     true
 }
 
-/// So many copies of a piece, and a back.
+/// Copies of a piece, and a suffix.
 pub(crate) fn copies(
     alloc: Global,
     piece: &[u8],
     count: u32,
-    back: &[u8],
+    suffix: &[u8],
 ) -> Result<Vec<u8>, AllocError> {
     let mut text = Vec::new(alloc);
     for _ in 0..count {
         text.extend_from_slice(piece)?;
     }
-    text.extend_from_slice(back)?;
+    text.extend_from_slice(suffix)?;
     Ok(text)
 }
 
@@ -106,12 +106,12 @@ fn fronts_of_a_record(rt: HostRuntime) {
         } else {
             SgfError::EndInside(length)
         };
-        let front = SAMPLE.split_at(length).0;
-        assert!(rt; is_refused(rt.alloc(), front, why), "{length} bytes");
+        let prefix = SAMPLE.split_at(length).0;
+        assert!(rt; is_refused(rt.alloc(), prefix, why), "{length} bytes");
     }
 }
 
-/// How many trees begin one in another, what stands behind that, and why the whole is refused.
+/// How many trees begin one in another, what follows, and why the whole is refused.
 const DEPTHS: &[(u32, &[u8], SgfError)] = &[
     (1_001, b"", SgfError::TooDeep(2_000)),
     (1_000, b"", SgfError::EndInside(2_000)),
@@ -120,8 +120,8 @@ const DEPTHS: &[(u32, &[u8], SgfError)] = &[
 
 #[test]
 fn too_deep_records(rt: HostRuntime) -> Result<(), Fail> {
-    for (number, (depth, back, why)) in DEPTHS.iter().enumerate() {
-        let source = copies(rt.alloc(), b"(;", *depth, back)?;
+    for (number, (depth, suffix, why)) in DEPTHS.iter().enumerate() {
+        let source = copies(rt.alloc(), b"(;", *depth, suffix)?;
         assert!(rt;
             is_refused(rt.alloc(), source.as_slice(), *why),
             "row {number}"
@@ -130,9 +130,9 @@ fn too_deep_records(rt: HostRuntime) -> Result<(), Fail> {
     Ok(())
 }
 
-/// A thousand trees one in another, and a back.
-fn thousand_trees(alloc: Global, back: &[u8]) -> Result<Vec<u8>, AllocError> {
-    let closing = copies(alloc, b")", 1_000, back)?;
+/// A thousand trees one in another, and a suffix.
+fn thousand_trees(alloc: Global, suffix: &[u8]) -> Result<Vec<u8>, AllocError> {
+    let closing = copies(alloc, b")", 1_000, suffix)?;
     copies(alloc, b"(;", 1_000, closing.as_slice())
 }
 
@@ -191,7 +191,7 @@ fn tidy_a_record(rt: HostRuntime) {
     }
 }
 
-/// Whether the trees of a record break off at a writer, which takes a front of this text alone.
+/// Whether the trees of a record break off at a writer that takes only a prefix of this text.
 fn breaks_off(
     collection: &Collection<'_, Global>,
     mut writer: Writer<Global>,
@@ -225,7 +225,7 @@ fn a_record_that_breaks_off(rt: HostRuntime) {
     each_breaks_off(&rt, rt.alloc(), &collection);
 }
 
-/// A name as it stands, the name without its lower-case letters, and values.
+/// A name as it is spelled, the name without its lower-case letters, and values.
 type Named = (&'static [u8], &'static [u8], &'static [&'static [u8]]);
 
 /// Whether a property is this.
@@ -612,7 +612,7 @@ fn hundredths(rt: HostRuntime) {
     }
 }
 
-/// Whether a record is read with this allocator; that it is refused for want of memory, if not.
+/// Whether a record is read with this allocator. If not, asserts that it was out of memory.
 fn reads<A: Allocator + Copy>(rt: &impl Abort, alloc: A) -> bool {
     match read(alloc, SAMPLE) {
         Ok(_) => true,
@@ -628,7 +628,7 @@ fn read_always_memory(rt: HostRuntime) {
     assert!(rt; reads(&rt, rt.alloc()));
 }
 
-/// Whether a call comes to its end with this allocator.
+/// Whether a call succeeds with this allocator.
 fn is_done<A: Allocator + Copy>(rt: &impl Abort, alloc: A, call: u8) -> bool {
     match call {
         0 => reads(rt, alloc),
@@ -642,7 +642,7 @@ fn is_done<A: Allocator + Copy>(rt: &impl Abort, alloc: A, call: u8) -> bool {
 /// How many requests a call makes, each of which it is refused with.
 fn each_refused(rt: &impl Abort, alloc: Global, call: u8) -> u64 {
     for number in 1..100u64 {
-        let failing = Failing::new(alloc, number);
+        let failing = Refusing::nth_request(alloc, number);
         let done = is_done(rt, &failing, call);
         assert!(rt; done == failing.waits(), "request {number} of call {call}");
         if done {

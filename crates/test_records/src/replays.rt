@@ -5,7 +5,7 @@ use go_record::{RecordError, Stated, Verdict, judge, put_record, replay, replay_
 use go_sgf::{Collection, SgfError, read, trim};
 use std::alloc::{Allocator, Global};
 use std::process::Abort;
-use test_allocator::Failing;
+use test_allocator::Refusing;
 use test_devices::Writer;
 
 /// A record whose fourth move repeats the position after the third.
@@ -42,8 +42,8 @@ fn is_refused(rt: &impl Abort, alloc: Global, source: &[u8], why: RecordError) -
 
 /// Asserts the text of a refusal.
 fn has_text(rt: &impl Abort, alloc: Global, error: RecordError, text: &str) {
-    let told = format!(in alloc; "{error}").expect(rt, "a text");
-    assert!(rt; told.as_str() == text, "{told}");
+    let shown = format!(in alloc; "{error}").expect(rt, "a text");
+    assert!(rt; shown.as_str() == text, "{shown}");
 }
 
 /// Records without a game, why, and the texts of that.
@@ -126,8 +126,8 @@ fn stone(rt: &impl Abort, game: &Game<Global>, word: &[u8]) -> Option<Colour> {
     }
 }
 
-/// So much of a record, and what stands after it: how many lines the board has, how many moves were
-/// made, and some stones.
+/// A prefix of a record, and the game after it: how many lines the board has, how many moves were made, and
+/// some stones.
 type Standing = (&'static [u8], Option<u32>, u8, usize, &'static [Stone]);
 
 const STANDINGS: &[Standing] = &[
@@ -150,7 +150,7 @@ const STANDINGS: &[Standing] = &[
         0,
         &[(b"z1", Some(Colour::Black))],
     ),
-    // Nodes of several moves. What sets up comes before them, wherever it stands in the node.
+    // Nodes of several moves. Set-up comes before them, wherever it is in the node.
     (
         b"(;SZ[9];B[aa]W[bb]AB[cc];B[dd])",
         None,
@@ -179,7 +179,7 @@ const STANDINGS: &[Standing] = &[
     ),
 ];
 
-/// Whether a game stands so.
+/// Whether a game is as its row says.
 fn stands(rt: &impl Abort, game: &Game<Global>, standing: &Standing) -> bool {
     let (_, _, lines, moves, stones) = standing;
     game.size().lines() == *lines && game.move_count() == *moves && has_stones(rt, game, stones)
@@ -207,8 +207,8 @@ fn nothing_is_set_and_passed(rt: HostRuntime) {
     assert!(rt; pass.move_at(0) == Some(made));
 }
 
-/// So much of the record with stones set up, and what stands after it: how many moves were made,
-/// whose turn it is, and the stone in the centre.
+/// A prefix of the record with stones set up, and the game after it: how many moves were made, whose turn it
+/// is, and the stone in the centre.
 type Part = (Option<u32>, usize, Colour, Option<Colour>);
 
 const PARTS: &[Part] = &[
@@ -229,7 +229,7 @@ fn is_set_up(rt: &impl Abort, game: &Game<Global>) -> bool {
         && has_stones(rt, game, HANDICAP_STONES)
 }
 
-/// Whether a game stands as after this part.
+/// Whether a game is as after this part.
 fn stands_after(rt: &impl Abort, game: &Game<Global>, part: Part) -> bool {
     let (_, moves, next, centre) = part;
     game.move_count() == moves
@@ -397,7 +397,7 @@ fn no_verdict_on_a_repetition(rt: HostRuntime) {
     assert!(rt; judged(&rt, rt.alloc(), REPEATING) == Err(why));
 }
 
-/// What a replay of a record tells.
+/// The number of moves and the margin by the replay of a record.
 fn replay_tells<A: Allocator + Copy>(
     alloc: A,
     collection: &Collection<'_, A>,
@@ -408,7 +408,7 @@ fn replay_tells<A: Allocator + Copy>(
     }
 }
 
-/// What the verdict on a record tells.
+/// The number of moves and the margin by the verdict on a record.
 fn verdict_tells<A: Allocator + Copy>(
     alloc: A,
     collection: &Collection<'_, A>,
@@ -419,8 +419,9 @@ fn verdict_tells<A: Allocator + Copy>(
     }
 }
 
-/// What a replay and a verdict tell of the record with stones set up, where there is memory.
-fn told<A: Allocator + Copy>(rt: &impl Abort, alloc: A, is_judged: bool) -> Option<(usize, i64)> {
+/// The number of moves and the margin of the record with stones set up, by a replay or a verdict, if there is
+/// memory.
+fn tells<A: Allocator + Copy>(rt: &impl Abort, alloc: A, is_judged: bool) -> Option<(usize, i64)> {
     let collection = read(alloc, SET_UP).ok()?;
     let answer = if is_judged {
         verdict_tells(alloc, &collection)
@@ -428,7 +429,7 @@ fn told<A: Allocator + Copy>(rt: &impl Abort, alloc: A, is_judged: bool) -> Opti
         replay_tells(alloc, &collection)
     };
     match answer {
-        Ok(told) => Some(told),
+        Ok(answer) => Some(answer),
         Err(why) => {
             assert!(rt; why == RecordError::Memory);
             None
@@ -436,14 +437,14 @@ fn told<A: Allocator + Copy>(rt: &impl Abort, alloc: A, is_judged: bool) -> Opti
     }
 }
 
-/// Asserts that each request for memory is refused in turn, until all is told.
+/// Asserts that each request for memory is refused in turn, until a run needs no more of them.
 fn each_refused(rt: &impl Abort, alloc: Global, is_judged: bool) {
-    let ample = told(rt, alloc, is_judged);
+    let ample = tells(rt, alloc, is_judged);
     assert!(rt; ample == Some((2, 200 - 100 - 550)));
     let mut requests = 0u64;
     for number in 1..200u64 {
-        let failing = Failing::new(alloc, number);
-        let answer = told(rt, &failing, is_judged);
+        let failing = Refusing::nth_request(alloc, number);
+        let answer = tells(rt, &failing, is_judged);
         if failing.waits() {
             assert!(rt; answer == ample);
             requests = number - 1;
@@ -460,8 +461,8 @@ fn each_request_for_memory_refused(rt: HostRuntime) {
     each_refused(&rt, rt.alloc(), true);
 }
 
-/// Replays the record with stones set up, once more where memory was wanted, which leaves the game
-/// vacant. Whether it wasn't.
+/// Replays the record with stones set up, and again if there was no memory, which leaves the game vacant.
+/// Returns whether there was memory at once.
 fn replays<A: Allocator + Copy>(
     rt: &impl Abort,
     game: &mut Game<A>,
@@ -477,7 +478,7 @@ fn replays<A: Allocator + Copy>(
     false
 }
 
-/// Whether a replay in place comes to its end with this allocator.
+/// Whether a replay into a game succeeds with this allocator.
 fn replays_in_place<A: Allocator + Copy>(rt: &impl Abort, alloc: A) -> bool {
     match read(alloc, SET_UP) {
         Ok(collection) => {
@@ -497,7 +498,7 @@ fn replays_in_place<A: Allocator + Copy>(rt: &impl Abort, alloc: A) -> bool {
 fn each_request_of_a_replay_in_place(rt: HostRuntime) {
     let mut requests = 0u64;
     for number in 1..200u64 {
-        let failing = Failing::new(rt.alloc(), number);
+        let failing = Refusing::nth_request(rt.alloc(), number);
         let done = replays_in_place(&rt, &failing);
         assert!(rt; done == failing.waits(), "request {number}");
         if done {

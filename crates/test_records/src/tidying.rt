@@ -1,6 +1,6 @@
 //! The tool that tidies a record: worked examples, refusals, records at the limit of length, and the texts
 //! and exit statuses of faults.
-use crate::tools::{Tool, told};
+use crate::help::tools::{Tool, assert_fault_text};
 use go_sgf::SgfError;
 use goref_tools::ToolError;
 use std::alloc::{AllocError, Global};
@@ -48,31 +48,31 @@ fn inputs_without_a_record(rt: HostRuntime) {
     }
 }
 
-/// A tree behind so many spaces.
-fn tree_behind(alloc: Global, spaces: usize) -> Result<Vec<u8>, AllocError> {
+/// A tree after `spaces` spaces.
+fn tree_after(alloc: Global, spaces: usize) -> Result<Vec<u8>, AllocError> {
     let mut text = vec![in alloc; b' '; spaces]?;
     text.extend_from_slice(b"(;)")?;
     Ok(text)
 }
 
-/// Asserts that a tree behind so many spaces is written alone.
+/// Asserts that a tree after `spaces` spaces is written alone.
 fn tree_alone(rt: &impl Abort, alloc: Global, spaces: usize) {
-    let source = tree_behind(alloc, spaces).expect(rt, "memory");
+    let source = tree_after(alloc, spaces).expect(rt, "memory");
     let mut writer = Writer::new(alloc);
     let end = Tool::Tidy.run(alloc, &mut Reader::new(source.as_slice()), &mut writer);
     assert!(rt; end == Ok(()));
     assert!(rt; writer.bytes() == b"(;)\n".as_slice());
 }
 
-/// Asserts that a tree behind so many spaces is too long.
+/// Asserts that a tree after `spaces` spaces is too long.
 fn too_long(rt: &impl Abort, alloc: Global, spaces: usize) {
-    let source = tree_behind(alloc, spaces).expect(rt, "memory");
+    let source = tree_after(alloc, spaces).expect(rt, "memory");
     assert!(rt; is_refused(alloc, source.as_slice(), SgfError::TooLong));
 }
 
-/// How many pulls of 4096 bytes are made of a tree behind so many spaces, which is too long.
+/// How many pulls of 4,096 bytes are made for a tree after `spaces` spaces, which is too long.
 fn pulls_of_too_long(rt: &impl Abort, alloc: Global, spaces: usize) -> u64 {
-    let source = tree_behind(alloc, spaces).expect(rt, "memory");
+    let source = tree_after(alloc, spaces).expect(rt, "memory");
     let mut reader = Reader::new(source.as_slice()).in_pieces_of(4_096);
     let end = Tool::Tidy.run(alloc, &mut reader, &mut Writer::new(alloc));
     assert!(rt; end == Err(ToolError::Sgf(SgfError::TooLong)));
@@ -126,6 +126,6 @@ const TEXTS: &[(ToolError, &str, u8)] = &[
 #[test]
 fn texts_and_statuses(rt: HostRuntime) {
     for (fault, text, status) in TEXTS {
-        told(&rt, rt.alloc(), *fault, text, *status);
+        assert_fault_text(&rt, rt.alloc(), *fault, text, *status);
     }
 }

@@ -1,9 +1,9 @@
 //! Worked rows of diagrams, chains and scores, on boards from one point to the largest.
+use crate::help::shared_rows::{CAPTURE, Row};
 use crate::loads::{Gift, answers_over};
-use crate::rows::{CAPTURE, Row};
 use crate::scripts::all_say;
 
-/// What is told of boards.
+/// Diagrams, chains and scores.
 const BOARDS: &[Row] = &[
     CAPTURE,
     Row {

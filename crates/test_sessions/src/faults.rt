@@ -1,8 +1,8 @@
-//! A script in which each read, each write and each flush fails in turn: what was written is a
-//! front of its answers. And what a session answers after a fault.
-use crate::rows::CAPTURE;
+//! A script in which each read, each write and each flush fails in turn: what was written is a prefix of its
+//! answers. And what a session answers after a fault.
+use crate::help::sessions::{Answered, answers, begun, fails_at};
+use crate::help::shared_rows::CAPTURE;
 use crate::scripts::ends;
-use crate::sessions::{Answered, answers, begun, fails_at};
 use goref::{RunError, Session};
 use std::alloc::Global;
 use std::process::Abort;
@@ -13,7 +13,7 @@ fn lines_in(text: &[u8]) -> usize {
     text.iter().filter(|byte| **byte == b'\n').count()
 }
 
-/// The first so many answers of a text. An answer ends at the first empty line.
+/// The first `count` answers of a text. An answer ends at the first empty line.
 fn first_answers(text: &[u8], count: usize) -> &[u8] {
     let mut left = count;
     let mut last = b' ';
@@ -87,8 +87,7 @@ fn each_read_of_a_line_fails(rt: HostRuntime) {
     }
 }
 
-/// No more is written than a front of the answers, where the write of the byte behind it fails or
-/// takes nothing.
+/// Only a prefix of the answers is written, where the write of the byte after it fails or takes nothing.
 #[test]
 fn each_write_fails(rt: HostRuntime) {
     let answers = CAPTURE.answers;
@@ -119,7 +118,7 @@ fn each_flush_fails(rt: HostRuntime) {
     }
 }
 
-/// One call more than the script makes is none that fails.
+/// A call with a number that the script doesn't reach never fails.
 #[test]
 fn no_call_fails(rt: HostRuntime) {
     let puts = CAPTURE.answers.len() as u64 + 1;
@@ -133,20 +132,20 @@ fn no_call_fails(rt: HostRuntime) {
     assert!(rt; writer.bytes() == CAPTURE.answers);
 }
 
-/// Lines on a board of two lines, one whose answer fails, and what is answered behind that.
+/// Lines on a board of two lines, one whose answer fails, and the answers after that.
 struct Broken {
     before: &'static [Answered],
     failing: Answered,
-    behind: &'static [Answered],
+    after: &'static [Answered],
 }
 
 const DONE: &[u8] = b"=\n\n";
 
-/// A play whose answer fails stands.
+/// A play whose answer fails is made.
 const PLAY: Broken = Broken {
     before: &[(b"play b A1", DONE), (b"play w B1", DONE)],
     failing: (b"play w A2", DONE),
-    behind: &[
+    after: &[
         (b"goref-chains", b"= W B1 : A1 B2\nW A2 : A1 B2\n\n"),
         (b"undo", DONE),
         (b"goref-chains", b"= B A1 : A2\nW B1 : B2\n\n"),
@@ -157,7 +156,7 @@ const PLAY: Broken = Broken {
 const UNDO: Broken = Broken {
     before: &[(b"play b A1", DONE), (b"play w B1", DONE)],
     failing: (b"undo", DONE),
-    behind: &[(b"undo", DONE), (b"undo", b"? cannot undo\n\n")],
+    after: &[(b"undo", DONE), (b"undo", b"? cannot undo\n\n")],
 };
 
 /// A list that fails changes nothing.
@@ -168,7 +167,7 @@ const LIST: Broken = Broken {
         (b"play w A2", DONE),
     ],
     failing: (b"goref-chains", b"= W B1 : A1 B2\nW A2 : A1 B2\n\n"),
-    behind: &[
+    after: &[
         (b"goref-chains", b"= W B1 : A1 B2\nW A2 : A1 B2\n\n"),
         (b"undo", DONE),
     ],
@@ -178,10 +177,10 @@ const LIST: Broken = Broken {
 fn breaks(alloc: Global, session: &mut Session<Global>, row: &Broken, put: u64) -> bool {
     answers(alloc, session, row.before)
         && fails_at(alloc, session, row.failing, put)
-        && answers(alloc, session, row.behind)
+        && answers(alloc, session, row.after)
 }
 
-/// Asserts what is answered before and behind an answer that fails at each write in turn.
+/// Asserts the answers before and after an answer that fails at each write in turn.
 fn each_breaks(rt: &impl Abort, alloc: Global, row: &Broken) {
     for put in 1..=row.failing.1.len() as u64 {
         assert!(rt;

@@ -1,6 +1,6 @@
 //! Worked rows of the three handicap commands: their counts, their points and their refusals. One row is of
 //! the time commands.
-use crate::rows::{FREE_HANDICAP, HANDICAP, HANDICAP_AFTER_PASS, Row};
+use crate::help::shared_rows::{FREE_HANDICAP, HANDICAP, HANDICAP_AFTER_PASS, Row};
 use crate::scripts::all_say;
 
 /// Handicaps, and times.

@@ -1,7 +1,7 @@
 //! `loadsgf` over a shelf that gives one file: names, prefixes of a record, records that are refused, and how
 //! often the file is asked for.
-use crate::rows::{LOAD, PRINTED, Row};
-use crate::sessions::{answers, begun};
+use crate::help::sessions::{answers, begun};
+use crate::help::shared_rows::{LOAD, PRINTED, Row};
 use go_board::Size;
 use goref::{Fetched, Shelf, run};
 use std::alloc::{AllocError, Allocator, Global};
@@ -70,7 +70,7 @@ impl<A: Allocator + Copy> Shelf<A> for OneFile<'_, A> {
     }
 }
 
-/// Runs what is read over a shelf, and asserts that it comes to its end.
+/// Runs over a shelf, and asserts that the run ends without a fault.
 fn runs(
     rt: &impl Abort,
     alloc: Global,

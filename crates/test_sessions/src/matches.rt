@@ -1,13 +1,13 @@
 //! A game of goref against a small opponent, held by a controller that judges each answer by a game
 //! of its own.
-use crate::sessions::told;
+use crate::help::sessions::result_of;
 use go_board::{Colour, Move, Point, Size, Vertex, read_vertex, vertex_text};
 use go_game::{Game, score_text};
 use goref::Session;
 use std::alloc::{AllocError, Global};
 use std::process::Abort;
 
-/// A vertex behind a space.
+/// A vertex after a space.
 fn spaced(alloc: Global, vertex: Vertex) -> Result<Vec<u8>, AllocError> {
     let mut text = Vec::new(alloc);
     text.push(b' ')?;
@@ -15,7 +15,7 @@ fn spaced(alloc: Global, vertex: Vertex) -> Result<Vec<u8>, AllocError> {
     Ok(text)
 }
 
-/// The legal plays of White as the judge finds them, each behind a space.
+/// The legal plays of White as the judge finds them, each after a space.
 fn legal_for_white(
     rt: &impl Abort,
     alloc: Global,
@@ -36,7 +36,7 @@ fn legal_for_white(
     Ok(text)
 }
 
-/// The last of some words, each behind a space.
+/// The last of some words, each after a space.
 fn last_word(words: &[u8]) -> &[u8] {
     let mut from = 0usize;
     for (place, byte) in words.iter().enumerate() {
@@ -62,7 +62,7 @@ fn goref_moves(
     session: &mut Session<Global>,
     judge: &Game<Global>,
 ) -> Result<Vertex, AllocError> {
-    let word = told(rt, alloc, session, b"genmove b")?;
+    let word = result_of(rt, alloc, session, b"genmove b")?;
     assert!(rt; word.first() == Some(&b' '));
     let read = read_vertex(bare(word.as_slice()), judge.size());
     let vertex = read.expect(rt, "a vertex");
@@ -70,8 +70,7 @@ fn goref_moves(
     Ok(vertex)
 }
 
-/// The opponent's choice for White, behind a space: the last of its legal plays, or a pass late in
-/// the game.
+/// The opponent's choice for White, after a space: the last of its legal plays, or a pass late in the game.
 fn choice(legal: &[u8], moves: usize) -> &[u8] {
     if moves < 30 && !legal.is_empty() {
         last_word(legal)
@@ -80,7 +79,7 @@ fn choice(legal: &[u8], moves: usize) -> &[u8] {
     }
 }
 
-/// Plays for White what stands behind a space, which goref must accept.
+/// Plays for White the vertex after a space, which goref must accept.
 fn plays_white(
     rt: &impl Abort,
     alloc: Global,
@@ -89,7 +88,7 @@ fn plays_white(
 ) -> Result<(), AllocError> {
     let mut line = b"play w".to_vec(alloc)?;
     line.extend_from_slice(word)?;
-    let answer = told(rt, alloc, session, line.as_slice())?;
+    let answer = result_of(rt, alloc, session, line.as_slice())?;
     assert!(rt; answer.is_empty());
     Ok(())
 }
@@ -101,7 +100,7 @@ fn opponent_moves(
     session: &mut Session<Global>,
     judge: &mut Game<Global>,
 ) -> Result<Vertex, AllocError> {
-    let legal = told(rt, alloc, session, b"goref-legal w")?;
+    let legal = result_of(rt, alloc, session, b"goref-legal w")?;
     let expected = legal_for_white(rt, alloc, judge)?;
     assert!(rt; legal.as_slice() == expected.as_slice());
     let word = choice(legal.as_slice(), judge.move_count());
@@ -161,7 +160,7 @@ fn plays_to_the_end(
 
 /// Asserts that goref's score is the judge's.
 fn same_score(rt: &impl Abort, alloc: Global, session: &mut Session<Global>, judge: &Game<Global>) {
-    let score = told(rt, alloc, session, b"final_score").expect(rt, "memory");
+    let score = result_of(rt, alloc, session, b"final_score").expect(rt, "memory");
     assert!(rt; bare(score.as_slice()) == score_text(judge.margin()).as_bytes());
 }
 
@@ -171,7 +170,7 @@ fn undoes(rt: &impl Abort, alloc: Global, session: &mut Session<Global>, judge: 
         if judge.undo().is_none() {
             break;
         }
-        let answer = told(rt, alloc, session, b"undo").expect(rt, "memory");
+        let answer = result_of(rt, alloc, session, b"undo").expect(rt, "memory");
         assert!(rt; answer.is_empty());
         same_board(rt, session, judge);
     }

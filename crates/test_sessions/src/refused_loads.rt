@@ -1,5 +1,5 @@
-//! A `loadsgf` that is refused leaves the game as it was: a session that got one answers everything
-//! behind it as a session that got none.
+//! A refused `loadsgf` leaves the game as it was: a session that got one answers all later lines as a session
+//! that got none.
 use crate::loads::{Gift, answers_over};
 use std::alloc::{AllocError, Global};
 use std::process::Abort;
@@ -10,22 +10,21 @@ const BEFORE: &[u8] = b"boardsize 4\nkomi 0.5\ngoref-superko situational\n\
     set_free_handicap b3 a2\nplay w c3\nplay b b1\nplay w c1\nplay b pass\nplay w d2\nplay w b2\n\
     play b c2\n";
 
-/// All that a session tells of its game, and then each move taken back.
+/// Each question about the game, and then each move taken back.
 const AFTER: &[u8] = b"showboard\ngoref-printsgf\ngoref-chains\ngoref-legal b\ngoref-legal w\n\
     final_score\nplay w b2\nreg_genmove b\nreg_genmove w\n\
     undo\nshowboard\ngoref-legal w\nundo\nshowboard\ngoref-legal b\nundo\nshowboard\nundo\nshowboard\n\
     undo\nshowboard\nundo\nshowboard\nundo\nshowboard\nundo\ngoref-printsgf\ngoref-legal w\n";
 
-/// Three texts, one behind another.
-fn joined(alloc: Global, front: &[u8], text: &[u8], back: &[u8]) -> Result<Vec<u8>, AllocError> {
-    let mut whole = front.to_vec(alloc)?;
+/// Three texts, one after another.
+fn joined(alloc: Global, prefix: &[u8], text: &[u8], suffix: &[u8]) -> Result<Vec<u8>, AllocError> {
+    let mut whole = prefix.to_vec(alloc)?;
     whole.extend_from_slice(text)?;
-    whole.extend_from_slice(back)?;
+    whole.extend_from_slice(suffix)?;
     Ok(whole)
 }
 
-/// The answers in the midst of which a line is refused so, and all others are those of a session
-/// without it.
+/// The answers where one line in the middle is refused so. All others are those of a session without it.
 fn with_refusal(
     rt: &impl Abort,
     alloc: Global,
@@ -40,8 +39,8 @@ fn with_refusal(
     joined(alloc, early.as_slice(), refusal, late)
 }
 
-/// Asserts how a line is answered in the midst of the game, and that all answers around it are
-/// those of a session without it.
+/// Asserts the answer to a line in the middle of the game, and that all answers around it are those of a
+/// session without it.
 fn is_refused(
     rt: &impl Abort,
     alloc: Global,

@@ -1,7 +1,7 @@
 //! Runs of whole scripts: their bytes come and go in pieces, devices fail, and reads are limited. The
 //! functions that check rows of other files are here too.
-use crate::rows::{KO, KO_AFTER_PASSES, Row};
-use crate::sessions::{answered, answers, fails_at};
+use crate::help::sessions::{answered, answers, fails_at};
+use crate::help::shared_rows::{KO, KO_AFTER_PASSES, Row};
 use go_board::Size;
 use goref::{Fetched, Line, RunError, Session, Shelf, run, run_within};
 use std::alloc::{AllocError, Allocator, Global};
@@ -23,7 +23,7 @@ impl<A: Allocator> Shelf<A> for NoFiles {
     }
 }
 
-/// The size of a session that is told none.
+/// The default size of a session.
 fn usual(rt: &impl Abort) -> Size {
     Size::new(19).expect(rt, "a board has so many lines")
 }
@@ -96,7 +96,7 @@ const TALKS: &[Row] = &[
         answers: b"=7 goref\n\n?5 unknown command\n\n=2147483647 goref\n\n? unknown command\n\n= true\n\n= false\n\n=0 goref\n\n=0\n\n",
     },
     Row {
-        name: "ids and known commands",
+        name: "an id after tabs",
         script: b"known_command\nprotocol_version 7\n\t12\t\tversion\n",
         answers: b"? syntax error\n\n= 2\n\n=12 1.0\n\n",
     },
@@ -121,7 +121,7 @@ const TALKS: &[Row] = &[
         answers: b"=\n\n? unacceptable size\n\n? syntax error\n\n? syntax error\n\n=\n\n? illegal move\n\n",
     },
     Row {
-        name: "sizes and vertices",
+        name: "malformed vertices, and vertices off the board",
         script: b"boardsize 9\nplay b i5\nplay b a25\nplay b a26\nplay b a0\nplay b A05\nplay b a5\n",
         answers: b"=\n\n? syntax error\n\n? illegal move\n\n? syntax error\n\n? syntax error\n\n=\n\n? illegal move\n\n",
     },
@@ -131,7 +131,7 @@ const TALKS: &[Row] = &[
         answers: b"",
     },
     Row {
-        name: "empty input and quit",
+        name: "no answer after quit",
         script: b"quit\nname\n",
         answers: b"=\n\n",
     },
@@ -143,12 +143,12 @@ const TALKS: &[Row] = &[
         answers: b"=\n\n=\n\n=\n\n=\n\n=\n\n",
     },
     Row {
-        name: "komi",
+        name: "malformed and large komi",
         script: b"komi .\nkomi +\nkomi 999999999.991\nkomi\nkomi 1000000000\nkomi 6.505\n",
         answers: b"? syntax error\n\n? syntax error\n\n? syntax error\n\n? syntax error\n\n? syntax error\n\n? syntax error\n\n",
     },
     Row {
-        name: "komi",
+        name: "an undo keeps the komi",
         script: b"komi 3\nplay b a1\nkomi 4\nundo\nundo\n",
         answers: b"=\n\n=\n\n=\n\n=\n\n? cannot undo\n\n",
     },
@@ -159,9 +159,9 @@ fn commands_and_lines(rt: HostRuntime) {
     all_say(&rt, rt.alloc(), TALKS);
 }
 
-/// A line of a front and so many letters, with its end.
-pub(crate) fn long_line(alloc: Global, front: &[u8], letters: u32) -> Result<Vec<u8>, AllocError> {
-    let mut line = front.to_vec(alloc)?;
+/// A line of a prefix and `letters` letters, with its end.
+pub(crate) fn long_line(alloc: Global, prefix: &[u8], letters: u32) -> Result<Vec<u8>, AllocError> {
+    let mut line = prefix.to_vec(alloc)?;
     for _ in 0..letters {
         line.push(b'a')?;
     }
@@ -173,12 +173,12 @@ pub(crate) fn long_line(alloc: Global, front: &[u8], letters: u32) -> Result<Vec
 fn long_lines(rt: HostRuntime) -> Result<(), Fail> {
     let alloc = rt.alloc();
     let mut script = Vec::new(alloc);
-    for (front, letters) in [
+    for (prefix, letters) in [
         (b"play ".as_slice(), 8_188u32),
         (b"play ".as_slice(), 8_187),
         (b"9 play ".as_slice(), 8_186),
     ] {
-        script.extend_from_slice(long_line(alloc, front, letters)?.as_slice())?;
+        script.extend_from_slice(long_line(alloc, prefix, letters)?.as_slice())?;
     }
     let answers = b"? line too long\n\n? syntax error\n\n?9 line too long\n\n";
     assert!(rt; says(&rt, alloc, script.as_slice(), answers));
@@ -279,8 +279,8 @@ const FAULT_TEXTS: &[(RunError, &str)] = &[
 #[test]
 fn fault_texts(rt: HostRuntime) -> Result<(), Fail> {
     for (fault, text) in FAULT_TEXTS {
-        let told = format!(in rt.alloc(); "{fault}")?;
-        assert!(rt; told.as_str() == *text, "{told}");
+        let shown = format!(in rt.alloc(); "{fault}")?;
+        assert!(rt; shown.as_str() == *text, "{shown}");
     }
     Ok(())
 }

@@ -1,6 +1,6 @@
 //! Worked rows of `goref-superko`: where the two rules differ, when the rule can't be changed, and what keeps
 //! it.
-use crate::rows::Row;
+use crate::help::shared_rows::Row;
 use crate::scripts::all_say;
 
 /// The rules of superko.
@@ -74,7 +74,7 @@ const SUPERKO: &[Row] = &[
         goref-superko positional\ngoref-legal b\n",
         answers: b"=\n\n=\n\n=\n\n=\n\n= A1\n\n=\n\n=\n\n",
     },
-    // White on A1 takes its own stone, which leaves what stood before with Black to move.
+    // White on A1 takes its own stone, which leaves the earlier position with Black to move.
     Row {
         name: "placed handicaps keep the rule",
         script: b"boardsize 7\ngoref-superko situational\nfixed_handicap 2\nplay b A2\nplay b B1\nplay w A1\nplay w A1\n",
