@@ -38,7 +38,7 @@ abbrev pub is_number_one : Option ℕ → Bool
 is_number_one None = false
 is_number_one (Some n) = n == 1
 
--- the game is Go unless the value names another
+-- the game is Go: the value is blank or the number 1
 abbrev pub is_go_value : List ℕ → Bool
 is_go_value value = is_blank_value value || is_number_one (number_in value)
 
@@ -70,8 +70,8 @@ abbrev pub Needs : RecordError → Bool → Outcome → Type 0 → Type 0
 Needs error false outcome Later = outcome ≡ Err error
 Needs error true outcome Later = Later
 
--- The outcome of a record, up to the move of a number where one is given: first its game, its size and its
--- komi are judged, and then the main line on an empty board.
+-- The outcome of a record, or of the moves before the move of a number where one is given: first GM, SZ and
+-- KM are judged, and then the main line on an empty board.
 unfoldable pub IsGameOf : Trees → Option ℕ → Outcome → Type 0
 IsGameOf c number outcome =
     Needs NotGo (is_go_value (value_at_root (codes "GM") c)) outcome

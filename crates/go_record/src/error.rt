@@ -16,7 +16,7 @@ pub enum RecordError {
     NotGo,
     /// The size is no number of lines of a square board.
     BadSize,
-    /// The komi is no number with at most two decimals, or too large.
+    /// The komi is no number of whole hundredths, or too large.
     BadKomi,
     /// A value in this node is malformed.
     BadValue(usize),

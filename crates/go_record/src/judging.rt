@@ -18,10 +18,9 @@ use go_sgf::laws::one_record;
 use go_sgf::{Checked, Collection, cook_simple, hundredths_of, trim};
 use std::alloc::{AllocError, Allocator};
 
-/// The verdict on a record: its game's moves and margin, and whether that is the margin that its RE
-/// states. `0` and `Draw` state an even score, `B+` and `W+` before a number with at most two
-/// decimals that margin, and anything else states none. It refuses what [`replay`] without a number
-/// refuses.
+/// The verdict on a record: its game's moves and margin, and whether that is the margin that its RE states.
+/// `0` and `Draw` state an even score, `B+` and `W+` before a number of whole hundredths that margin, and
+/// anything else states none. It refuses what [`replay`] without a number refuses.
 pub fn judge<A: Allocator + Copy>(
     alloc: A,
     collection: &Collection<'_, A>,
@@ -66,7 +65,7 @@ fn compared(stated: Option<i64>, margin: i64) -> Stated
     }
 }
 
-/// The margin that an RE value states, on Black's side. It is not inlined into `judge_source`: there it would
+/// The margin that an RE value states, on Black's side. It isn't inlined into `judge_source`: there it would
 /// keep the compiler from seeing that a moved game needn't be emptied.
 #[inline(never)]
 fn margin_stated<A: Allocator + Copy>(alloc: A, value: &[u8]) -> Result<Option<i64>, AllocError>

@@ -4,7 +4,7 @@ ghost use Rattle.go_record.specs.inner.Progress.{AreMoves};
 
 use go_board::Colour;
 
-/// The moves that were met in a node. Most nodes have one. It is kept, so that such a node is read once.
+/// The moves that were met in a node. Most nodes have one move. It is kept, so those nodes are read once.
 #[derive(Clone, Copy)]
 pub(crate) enum MovesMet<'a> {
     NoMove,
@@ -14,7 +14,7 @@ pub(crate) enum MovesMet<'a> {
 }
 
 impl<'a> MovesMet<'a> {
-    /// Meets one more.
+    /// Meets one more move.
     pub(crate) fn meet(&mut self, colour: Colour, value: &'a [u8])
         ensures { (node : ℕ) (before : List Event) → AreMoves node self.old before
             → AreMoves node self.new (before ++ move_met node colour value.now ∷ []) }

@@ -22,8 +22,7 @@ use std::alloc::Allocator;
 
 /// The game of a record: that of the main line of its first tree, with its size, komi and start. With a
 /// number the walk ends before the move of that number, counted from 1. 0 is read as 1. Memory may run out
-/// anywhere. Otherwise the refusal is the first that is met: the game, the size and the komi in this order,
-/// and then along the line.
+/// anywhere. Otherwise it checks GM, SZ and KM in this order, then each node, and returns the first refusal.
 pub fn replay<A: Allocator + Copy>(
     alloc: A,
     collection: &Collection<'_, A>,
@@ -92,7 +91,7 @@ pub fn replay_source_on<A: Allocator + Copy>(
     }
 }
 
-/// Replays a record into an existing game. After a refusal the game is as the walk left it.
+/// As [`replay_source_on`], but after a refusal the game is as the walk left it.
 fn bring<A: Allocator + Copy>(
     game: &mut Game<A>,
     source: &Checked<'_>,
@@ -130,7 +129,7 @@ pub(crate) fn walk_on<A: Allocator + Copy>(
     walk.finish(game)
 }
 
-/// The events that are visited by a walk that ends before the move of this number.
+/// The events that a walk visits if it ends before the move of this number.
 fn left_of(number: Option<u32>) -> Left
     ensures { result ≡ left_by number }
 {

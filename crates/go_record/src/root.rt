@@ -16,8 +16,7 @@ use go_sgf::{Checked, MainLine, hundredths_of, is_named, number_of};
 /// The number of lines of a board whose record has no SZ.
 pub const USUAL_LINES: u8 = 19;
 
-/// The values of a record's first node that are no events: the first value of the first property with each
-/// name, or an empty one.
+/// The first GM, SZ, KM and RE of the first node, each by its first value. Empty where there is none.
 #[derive(Clone, Copy)]
 pub(crate) struct RootValues<'a> {
     /// GM.
@@ -30,7 +29,8 @@ pub(crate) struct RootValues<'a> {
     pub(crate) result: &'a [u8],
 }
 
-/// The values at the root of a record. It is not inlined, as `margin_stated` isn't.
+/// The values at the root of a record. It isn't inlined into `judge_source`: there it would keep the compiler
+/// from seeing that a moved game needn't be emptied.
 #[inline(never)]
 pub(crate) fn root_values<'a>(source: &Checked<'a>) -> RootValues<'a>
     ensures { OfRecord source.now (IsRootOf result) }
@@ -60,7 +60,7 @@ struct Found<'a> {
 }
 
 impl<'a> Found<'a> {
-    /// Before the first property nothing is found.
+    /// Nothing is found before the first property.
     fn nothing() -> Found<'a>
         ensures { (c : Trees) → AreFoundOf result (first_node c) c }
     {
@@ -92,7 +92,7 @@ impl<'a> Found<'a> {
         self.game.is_some() && self.size.is_some() && self.komi.is_some() && self.result.is_some()
     }
 
-    /// The values, where no property is left.
+    /// The values that were found.
     fn values(&self) -> RootValues<'a>
         ensures { (c : Trees) → AreFoundOf self.now [] c → IsRootOf result c }
     {
@@ -143,7 +143,7 @@ pub(crate) fn root_of(values: &RootValues<'_>) -> Result<Root, RecordError>
     }
 }
 
-/// Whether a GM value says that the game is Go. An empty value says so too.
+/// Whether a GM value says that the game is Go. A value of white space alone, or an empty one, says so too.
 pub(crate) fn is_go(value: &[u8]) -> bool
     ensures { result ≡ is_go_value value.now }
 {
@@ -168,7 +168,7 @@ fn is_blank(value: &[u8]) -> bool
         .all(|byte| matches!(*byte, b' ' | b'\t'..=b'\r'))
 }
 
-/// The size in an SZ value: one number, or two that are equal.
+/// The size in an SZ value: one number, or two that are equal. A blank value gives 19 lines.
 pub(crate) fn size_of(value: &[u8]) -> Option<Size>
     ensures { result ≡ lines_in value.now }
 {
@@ -209,7 +209,7 @@ fn same_number(columns: Option<u32>, rows: Option<u32>) -> Option<u32>
     }
 }
 
-/// The komi in a KM value, in hundredths of a point.
+/// The komi in a KM value, in hundredths of a point. A blank value gives 0.
 pub(crate) fn komi_of(value: &[u8]) -> Option<i64>
     ensures value { result ≡ komi_in value.now }
     ensures range { IfSome result IsKomi }

@@ -13,7 +13,7 @@ ghost use Rattle.go_record.specs.Walks.{colour_stated, opening_mover, holds_ston
 use go_board::{Colour, Grid, Point};
 use go_sgf::{MainLine, Rectangle, Row, points_in, trim};
 
-/// Gives the points of a property's values a colour, or empties them, value by value. None: a value is
+/// Gives the points of a property's values a colour, or empties them, value by value. None where a value is
 /// malformed. The points of the values before it are set then.
 pub(crate) fn set_points(
     grid: &mut Grid,
@@ -60,7 +60,7 @@ fn set_row(grid: &mut Grid, colour: Option<Colour>, row: Row)
     }
 }
 
-/// The colour that a value names in any case, with white space at both ends skipped.
+/// The colour that a value names, in upper or lower case, with white space at both ends skipped.
 pub(crate) fn colour_of(value: &[u8]) -> Option<Colour>
     ensures { result ≡ colour_stated value.now }
 {

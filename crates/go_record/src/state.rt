@@ -1,5 +1,5 @@
-//! The types of a walk, in a file of their own. A struct with a ghost field imports all that the ghost imports of
-//! its file name. In `walk.rt` that import would go in a circle.
+//! The types of a walk, in a file of their own. A struct with a ghost field takes over the `ghost use` lines
+//! of its file. Those of `walk.rt` need these types, so the import would be circular.
 ghost use Rattle.go_board.specs.Komi.{IsKomi};
 
 use go_board::{Colour, Grid};

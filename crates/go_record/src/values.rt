@@ -6,7 +6,7 @@ ghost use Rattle.go_record.specs.inner.Progress.{IsAmongValues};
 
 use go_sgf::MainLine;
 
-/// The first value of a property whose name was taken, or an empty one if it has none.
+/// The first value of a property whose name was read, or an empty one if it has none.
 pub(crate) fn first_value<'a>(line: &mut MainLine<'a>) -> &'a [u8]
     ensures value { (values : List (List ℕ)) (later : List Property) (nodes : List (List Property))
         → IsLeft line.old values later nodes → result.now ≡ leading_value values }

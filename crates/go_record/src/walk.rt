@@ -71,7 +71,7 @@ impl Walk {
         Ok(moves)
     }
 
-    /// Visits a property of this kind. Set-up is done. A move is only noted.
+    /// Visits a property of this kind. It sets up stones at once, and only notes a move.
     fn visit_setup<'a>(
         &mut self,
         kind: Kind,
@@ -184,7 +184,7 @@ impl Walk {
         }
     }
 
-    /// Whether no later event is visited.
+    /// Whether the walk is over.
     pub(crate) fn is_over(&self) -> bool
         ensures { result ≡ is_nothing self.now.left }
     {
@@ -216,7 +216,7 @@ impl Walk {
         }
     }
 
-    /// Plays the move of a value, the first on the stones set up.
+    /// Plays the move of a value. Before the first one it begins the game from the set-up.
     fn play<A: Allocator + Copy>(
         &mut self,
         game: &mut Game<A>,
@@ -306,8 +306,8 @@ fn refusal(count: usize, why: PlayError) -> RecordError
     }
 }
 
-/// The number after this one, of a node or a move. There is none after the greatest, but no memory has room
-/// for that many nodes.
+/// The number after this one, of a node or a move. The greatest number has none, but no record has that
+/// number of nodes.
 pub(crate) fn next(number: usize) -> Result<usize, RecordError>
     ensures ok { IfOk result (λ after. after ≡ number + 1) }
     ensures err { IfErr result (λ e. e ≡ Memory) }

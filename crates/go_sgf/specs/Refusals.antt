@@ -8,23 +8,23 @@ use Rattle.go_sgf.specs.declared.error.SgfError.{SgfError}
 use Rattle.go_sgf.specs.declared.error.SgfError.TheVariants.{NoTree, EndInside, Unexpected, TooDeep, Memory, TooLong}
 use Rattle.go_sgf.specs.declared.limits.TheConstants.{MAX_DEPTH, MAX_RECORD}
 
--- Behind these trees, whole and no deeper nested than is allowed, the source goes on with this text, which begins
--- with a tree's `(` and its `;`.
+-- After these trees, which are whole and not nested deeper than is allowed, the source goes on with this
+-- text. The text begins with a tree's `(` and its `;`.
 pub record IsBehind (source : List ℕ) (before : Trees) (text : List ℕ) : Type 0 where
   pub whole : AreTrees before
   pub nesting : depth before ≤ MAX_DEPTH
   pub spelling : SpellsParts (tree_in source) (parts before) text
   pub begins : is_tree_first text ≡ true
 
--- This number of bytes of this text is read, and no more. They stand as no whole tree, and no prefix of them is nested
--- too deep. Why no more are read says Reason.
+-- This number of bytes of this text is read. They begin a tree that isn't complete, and aren't nested too
+-- deep. Reason says why reading stops.
 pub record IsReadUpTo (text : List ℕ) (count : ℕ) (Reason : List ℕ → ℕ → Type 0) : Type 0 where
   pub unfinished : IsUnfinished (stands (take count text))
   pub shallow : (k : ℕ) → k ≤ count → IsAtDepth (suc MAX_DEPTH) (stands (take k text)) → ⊥
   pub stops : Reason text count
 
--- The source spells no record. After whole trees comes a text, of which this number of bytes is read:
--- those before the place, which is a byte's number in the source.
+-- The source spells no record. After whole trees comes a text, and reading it stops at this place, which is a
+-- byte's number in the source.
 pub record StopsAt (source : List ℕ) (place : ℕ) (Reason : List ℕ → ℕ → Type 0) : Type 0 where
   pub spells_none : (c : Trees) → Spells source c → ⊥
   pub before : Trees
@@ -38,11 +38,11 @@ pub record StopsAt (source : List ℕ) (place : ℕ) (Reason : List ℕ → ℕ 
 abbrev pub EndsAt : List ℕ → ℕ → Type 0
 EndsAt text count = count ≡ length text
 
--- no longer prefix of the text stands, and there is a byte more
+-- no prefix with more bytes begins a tree, and there is one byte more
 abbrev pub StandsNoLonger : List ℕ → ℕ → Type 0
 StandsNoLonger text count = (count < length text) × ((k : ℕ) → count < k → stands (take k text) ≡ None)
 
--- with the next byte the text stands one deeper than is allowed
+-- with the next byte the text is nested one deeper than is allowed
 abbrev pub StandsTooDeep : List ℕ → ℕ → Type 0
 StandsTooDeep text count = (count < length text) × IsAtDepth (suc MAX_DEPTH) (stands (take (count + 1) text))
 

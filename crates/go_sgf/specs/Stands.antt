@@ -1,4 +1,5 @@
--- Where a tree stops to be one: how its text stands, byte by byte.
+-- An automaton for a tree's text: its state after each byte, or none where the grammar fails. A text stands
+-- where it begins a tree.
 use Rattle.std.specs.Prelude.{◌≡◌, ◌≢◌, ℕ, zero, suc, ◌==◌, if◌then◌else◌, List, [], ◌∷◌, Option, Some, None, option_and_then}
 use Rattle.go_sgf.specs.Record.{is_upper_byte, is_lower}
 use Rattle.go_sgf.specs.Spelling.{is_space}
@@ -74,7 +75,7 @@ on_bracket gap d = Some (in_value, d)
 on_bracket after d = Some (in_value, d)
 on_bracket _ d = None
 
--- one byte on, outside of a value
+-- the state after one more byte, outside of a value
 abbrev pub outside : State → ℕ → ℕ → Option StateAt
 outside s d c =
     if is_space c then on_space s d else
@@ -89,7 +90,7 @@ outside s d c =
 abbrev pub inside : ℕ → State
 inside c = if c == 93 then after else (if c == 92 then escape else in_value)
 
--- one byte on
+-- the state after one more byte
 abbrev pub step : State → ℕ → ℕ → Option StateAt
 step in_value d c = Some (inside c, d)
 step escape d c = Some (in_value, d)
@@ -107,7 +108,7 @@ abbrev pub run : State → ℕ → List ℕ → Option StateAt
 run s d [] = Some (s, d)
 run s d (c ∷ cs) = option_and_then (λ p. run p.0 p.1 cs) (step s d c)
 
--- how a text stands, from a tree's `(` on
+-- the state after a text from a tree's `(` on, where it stands
 abbrev pub stands : List ℕ → Option StateAt
 stands [] = None
 stands (c ∷ cs) = if c == 40 then run opened 1 cs else None

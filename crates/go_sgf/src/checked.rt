@@ -1,4 +1,4 @@
-//! A source that was checked. What goes over one needs no answer for a broken record.
+//! A source that was checked. Code that reads it needs no error for a broken record.
 ghost use Rattle.std.specs.Prelude.{◌≡◌};
 ghost use Rattle.go_sgf.specs.Record.{Trees};
 ghost use Rattle.go_sgf.specs.Spelling.{Spells};

@@ -9,7 +9,7 @@ use std::fmt;
 /// Why a source can't be read. A place is a byte's number in the source, from 0.
 #[derive(Clone, Copy, Debug, PartialEq, Eq)]
 pub enum SgfError {
-    /// After no `(` comes a `;`. White space between them doesn't count.
+    /// No `(` has a `;` after it. White space between them doesn't count.
     NoTree,
     /// The source ends before a tree does. The place is its length.
     EndInside(usize),
@@ -53,7 +53,7 @@ impl From<AllocError> for SgfError {
     }
 }
 
-/// Why reading stops, by how many bytes of the source are left there.
+/// Why reading stops. A number counts the bytes of the source that are left there.
 #[derive(Clone, Copy)]
 pub(crate) enum Fault {
     Memory,

@@ -10,7 +10,7 @@ use crate::keep::Nothing;
 use crate::reader::{placed, tree};
 use crate::scan::from_tree;
 
-/// Where a game tree stands in a source. A place is a byte's number in the source, from 0.
+/// Where a game tree is in a source. A place is a byte's number in the source, from 0.
 #[derive(Clone, Copy, Debug, PartialEq, Eq)]
 pub struct TreeSpan {
     /// The place of its `(`.
@@ -19,9 +19,9 @@ pub struct TreeSpan {
     pub end: usize,
 }
 
-/// The first place from `from` on where a game tree begins: a `(` that `;` follows, white space
-/// aside. None where no tree begins from there on, as where `from` is past the end of the source.
-/// Whether the tree is whole is not looked at.
+/// The first place from `from` on where a game tree begins: a `(` and then a `;`, with white space between
+/// them or none. None where no tree begins there, as where `from` is past the end of the source. It doesn't
+/// look whether the tree is whole.
 pub fn tree_begin(source: &[u8], from: usize) -> Option<usize>
     ensures begins { IfSome result (BeginsAt source.now from) }
     ensures none { IfNone result (tree_in (drop from source.now) ≡ []) }
@@ -34,16 +34,16 @@ pub fn tree_begin(source: &[u8], from: usize) -> Option<usize>
     Some(source.len() - found.len())
 }
 
-/// Reads the first game tree that begins at `from` or later, and says where it stands; none where
-/// no tree begins from there on. Who begins at 0 and goes on from the end of each tree goes over the
-/// source once. It may be of any length, nothing of it is kept, and no memory is taken.
+/// Reads the first game tree that begins at `from` or later, and says where it is; none where no tree begins
+/// there. A caller that begins at 0 and goes on from the end of each tree reads the source once. The source
+/// may have any length. The function keeps nothing and takes no memory.
 ///
 /// # Errors
 ///
-/// `EndInside`, `Unexpected` and `TooDeep` where that first tree isn't whole, with the first place
-/// that shows it, counted in the whole source. The other errors never come. That tree begins at
-/// [`tree_begin`] of the same `from`. Who goes on from the place that shows it still goes over the
-/// source once; what begins inside of the broken tree is found too then.
+/// `EndInside`, `Unexpected` and `TooDeep` where that first tree isn't whole, with the first place that shows
+/// it, counted in the whole source. The other errors never come. That tree begins at [`tree_begin`] of the
+/// same `from`. A caller that goes on from the place that shows it still reads the source once. It then also
+/// finds what begins inside of the broken tree.
 pub fn next_tree(source: &[u8], from: usize) -> Result<Option<TreeSpan>, SgfError>
     ensures begins { IfOk result (λ found. IfSome found (λ span. BeginsAt source.now from span.begin)) }
     ensures tree { IfOk result (λ found. IfSome found (λ span.

@@ -8,7 +8,7 @@ pub(crate) trait Keep: Copy {
 
     ghost keeps: { Type 0 };
 
-    /// Where there is to be memory for what is kept; none where nothing is.
+    /// The allocator for what is kept. `None` if nothing is kept.
     fn alloc(self) -> Option<Self::Alloc>
         ensures kept { IfSome result (λ _. keeps) }
         ensures none { IfNone result (keeps → ⊥) };

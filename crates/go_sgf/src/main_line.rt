@@ -1,6 +1,6 @@
 //! A cursor along a record's main line, which takes the first child at each branch. It reads names and values
-//! from the source itself, so it builds no lists. Each step passes what is left before it, so no order of steps
-//! leads astray.
+//! from the source itself, so it builds no lists. Each step first skips what earlier steps left, so steps may
+//! come in any order.
 ghost use Rattle.std.specs.Prelude.{◌≡◌, ◌<◌, ◌≤◌, ℕ, List, [], IfNone, IfSome, IsFalse, IsTrue, length, true};
 ghost use Rattle.go_sgf.specs.MainLine.{IsLeft, NextName, NextNode, NextValue, main_line};
 ghost use Rattle.go_sgf.specs.Record.{Property};
@@ -11,8 +11,8 @@ use crate::scan::{after_space, begins_letter, from_tree, name_at, strip};
 use crate::values::value;
 use std::marker::Model;
 
-/// A walk along the main line of a record, from node to node, in a node from property to property,
-/// and in a property from value to value. It goes over the source itself, so it takes no memory.
+/// A cursor along the main line of a record, from node to node, in a node from property to property, and in a
+/// property from value to value. It reads the source itself, so it takes no memory.
 #[derive(Drop)]
 pub struct MainLine<'a> {
     rest: &'a [u8],
@@ -27,7 +27,7 @@ impl<'a> Model for MainLine<'a> {
 }
 
 impl<'a> MainLine<'a> {
-    /// The walk along the main line of a record, before its first node.
+    /// The cursor along the main line of a record, before its first node.
     pub fn of(source: &Checked<'a>) -> MainLine<'a>
         ensures { OfRecord source.now (λ c. IsLeft result [] [] (main_line c)) }
     {
@@ -37,15 +37,15 @@ impl<'a> MainLine<'a> {
         }
     }
 
-    /// Another walk, from the same place.
+    /// Another cursor, at the same place.
     pub fn fork(&self) -> MainLine<'a>
         ensures { result ≡ self.now }
     {
         MainLine { rest: self.rest }
     }
 
-    /// Enters the next node, past what is left of the one before. False where the line has no more
-    /// of them.
+    /// Enters the next node. It first skips what is left of the node before. False where the line has no more
+    /// nodes.
     pub fn next_node(&mut self) -> bool
         ensures next { (values : List (List ℕ)) (properties : List Property)
             (nodes : List (List Property)) → IsLeft self.old values properties nodes
@@ -63,9 +63,8 @@ impl<'a> MainLine<'a> {
         }
     }
 
-    /// The name of the node's next property, as it is written, past the values that are left of the
-    /// one before. None where the node has no more of them, and then the white space before what
-    /// comes next is passed.
+    /// The name of the node's next property, as it is written. It first skips the values that are left of the
+    /// property before. None where the node has no more properties; then it skips white space.
     pub fn next_name(&mut self) -> Option<&'a [u8]>
         ensures next { (values : List (List ℕ)) (properties : List Property)
             (nodes : List (List Property)) → IsLeft self.old values properties nodes
@@ -78,8 +77,8 @@ impl<'a> MainLine<'a> {
         self.name_here()
     }
 
-    /// The property's next value, without its brackets. None where it has no more of them, and then
-    /// the white space before what comes next is passed.
+    /// The property's next value, without its brackets. None where the property has no more values; then it
+    /// skips white space.
     pub fn next_value(&mut self) -> Option<&'a [u8]>
         ensures next { (values : List (List ℕ)) (properties : List Property)
             (nodes : List (List Property)) → IsLeft self.old values properties nodes
@@ -96,7 +95,7 @@ impl<'a> MainLine<'a> {
         Some(value)
     }
 
-    /// Passes the values of the property that are left.
+    /// Skips the values of the property that are left.
     fn pass_values(&mut self)
         ensures line { (values : List (List ℕ)) (properties : List Property)
             (nodes : List (List Property)) → IsLeft self.old values properties nodes
@@ -106,7 +105,7 @@ impl<'a> MainLine<'a> {
         while let Some(_) = self.next_value() {}
     }
 
-    /// Passes the properties of the node that are left.
+    /// Skips the properties of the node that are left.
     fn pass_properties(&mut self)
         ensures line { (values : List (List ℕ)) (properties : List Property)
             (nodes : List (List Property)) → IsLeft self.old values properties nodes
@@ -116,7 +115,7 @@ impl<'a> MainLine<'a> {
         while let Some(_) = self.next_name() {}
     }
 
-    /// The name of the next property, where no value of the one before is left.
+    /// The name of the next property, where no value of the property before is left.
     fn name_here(&mut self) -> Option<&'a [u8]>
         ensures next { (properties : List Property) (nodes : List (List Property))
             → IsLeft self.old [] properties nodes → NextName result properties nodes self.new }

@@ -32,7 +32,7 @@ fn unexpected(rest: &[u8]) -> Fault
     }
 }
 
-/// Adds one more to a list, where what is read is kept.
+/// Adds an item to a list, if this reader keeps what it reads.
 fn add<T: Drop, K: Keep>(keep: K, list: &mut Few<T, K::Alloc>, item: T) -> Result<(), AllocError>
     ensures added { OnOk result (K.keeps → list.new ≡ list.old ++ item ∷ []) }
     ensures memory { OnErr result K.keeps }
@@ -43,7 +43,7 @@ fn add<T: Drop, K: Keep>(keep: K, list: &mut Few<T, K::Alloc>, item: T) -> Resul
     Ok(())
 }
 
-/// Reads the values after a name into a list, at least one, and gives the text after them.
+/// Reads the values after a name into a list, at least one, and returns the text after them.
 fn values<'a, K: Keep>(
     keep: K,
     list: &mut Few<&'a [u8], K::Alloc>,
@@ -71,7 +71,7 @@ fn values<'a, K: Keep>(
     Ok(rest)
 }
 
-/// Reads a property from its name on into a list, and gives what follows it.
+/// Reads a property from its name on into a list, and returns what follows it.
 fn property<'a, K: Keep>(
     keep: K,
     list: &mut Option<Few<nodes::Property<'a, K::Alloc>, K::Alloc>>,
@@ -95,7 +95,7 @@ fn property<'a, K: Keep>(
     Ok(rest)
 }
 
-/// Adds the property with this name and these values to a list, where what is read is kept.
+/// Adds the property with this name and these values to a list, if this reader keeps what it reads.
 fn add_property<'a, K: Keep>(
     keep: K,
     list: &mut Option<Few<nodes::Property<'a, K::Alloc>, K::Alloc>>,
@@ -114,7 +114,7 @@ fn add_property<'a, K: Keep>(
     Ok(())
 }
 
-/// Reads a node, after its `;`, into a list, and gives the text after it.
+/// Reads a node, after its `;`, into a list, and returns the text after it.
 fn node<'a, K: Keep>(
     keep: K,
     list: &mut Few<Node<'a, K::Alloc>, K::Alloc>,
@@ -136,7 +136,7 @@ fn node<'a, K: Keep>(
     Ok(rest)
 }
 
-/// A list of properties, where what is read is kept.
+/// An empty list of properties, if this reader keeps what it reads.
 fn no_properties<'a, K: Keep>(keep: K) -> Option<Few<nodes::Property<'a, K::Alloc>, K::Alloc>>
     ensures { K.keeps → result ≡ Some [] }
 {
@@ -146,7 +146,7 @@ fn no_properties<'a, K: Keep>(keep: K) -> Option<Few<nodes::Property<'a, K::Allo
     }
 }
 
-/// Adds the node with these properties to a list, where what is read is kept.
+/// Adds the node with these properties to a list, if this reader keeps what it reads.
 fn add_node<'a, K: Keep>(
     keep: K,
     list: &mut Few<Node<'a, K::Alloc>, K::Alloc>,
@@ -164,8 +164,7 @@ fn add_node<'a, K: Keep>(
     Ok(())
 }
 
-/// Reads the nodes of a tree, after its `(`, into a list, at least one, and gives the text after
-/// them.
+/// Reads the nodes of a tree, after its `(`, into a list, at least one, and returns the text after them.
 fn nodes<'a, K: Keep>(
     keep: K,
     list: &mut Few<Node<'a, K::Alloc>, K::Alloc>,
@@ -190,7 +189,7 @@ fn nodes<'a, K: Keep>(
     Ok(rest)
 }
 
-/// A list of trees, where what is read is kept.
+/// An empty list of trees, if this reader keeps what it reads.
 fn no_trees<'a, K: Keep>(keep: K) -> Option<Vec<Tree<'a, K::Alloc>, K::Alloc>>
     ensures kept { K.keeps → trees_in result ≡ Some [] }
     ensures some { IfSome result (λ _. K.keeps) }
@@ -201,7 +200,7 @@ fn no_trees<'a, K: Keep>(keep: K) -> Option<Vec<Tree<'a, K::Alloc>, K::Alloc>>
     }
 }
 
-/// Adds the tree of these nodes and children to a list of trees, where there is one.
+/// Adds the tree of these nodes and children to a list of trees, if there is one.
 fn add_tree<'a, A: Allocator + Copy>(
     trees: &mut Option<Vec<Tree<'a, A>, A>>,
     nodes: Few<Node<'a, A>, A>,
@@ -222,7 +221,7 @@ fn add_tree<'a, A: Allocator + Copy>(
     Ok(())
 }
 
-/// Adds one more. The first takes room for one alone, which is the usual number.
+/// Adds an item. An empty list reserves room for one item, since most lists have one.
 fn push<T: Drop, A: Allocator + Copy>(list: &mut Vec<T, A>, item: T) -> Result<(), AllocError>
     ensures { OnOk result (list.new.items ≡ list.old.items ++ item ∷ []) }
 {
@@ -233,8 +232,8 @@ fn push<T: Drop, A: Allocator + Copy>(list: &mut Vec<T, A>, item: T) -> Result<(
     Ok(())
 }
 
-/// Reads a tree at this depth, after its `(`, into a list of trees where there is one, and gives the
-/// text after its `)`.
+/// Reads a tree at this depth, after its `(`, into a list of trees if there is one, and returns the text
+/// after its `)`.
 pub(crate) fn tree<'a, K: Keep>(
     keep: K,
     trees: &mut Option<Vec<Tree<'a, K::Alloc>, K::Alloc>>,
@@ -268,7 +267,7 @@ pub(crate) fn tree<'a, K: Keep>(
     Ok(behind)
 }
 
-/// What is answered for a fault in a source of this length.
+/// The error that callers get for a fault in a source of this length.
 pub(crate) fn placed(fault: Fault, length: usize) -> SgfError
     requires { left_of fault ≤ length }
     ensures { result ≡ error_at length fault }
@@ -316,9 +315,9 @@ fn trees<'a, K: Keep>(
 ///
 /// # Errors
 ///
-/// `TooLong` exactly where the source has more than [`MAX_RECORD`] bytes, which comes first.
-/// `NoTree` where no tree begins. `EndInside`, `Unexpected` and `TooDeep` where the source spells
-/// no record, with the first place that shows it. `Memory` may stand in place of all but
+/// `TooLong` exactly where the source has more than [`MAX_RECORD`] bytes. This is tested first. `NoTree`
+/// where no tree begins. `EndInside`, `Unexpected` and `TooDeep` where the source spells no record, with the
+/// first place that shows it. Where memory lacks, `Memory` may take the place of any other result, but not of
 /// `TooLong`.
 pub fn read<'a, A: Allocator + Copy>(
     alloc: A,
@@ -332,8 +331,7 @@ pub fn read<'a, A: Allocator + Copy>(
     Ok(Collection { source, trees })
 }
 
-/// A source that spells a record. It is read as by [`read`], with the same errors but `Memory`:
-/// nothing of it is kept, and no memory is taken.
+/// Checks a source as [`read`] does, with the same errors but `Memory`. It keeps nothing and takes no memory.
 pub fn check(source: &[u8]) -> Result<Checked<'_>, SgfError>
     ensures too_long { (result ≡ Err SgfError.TooLong) ↔ (MAX_RECORD < length source.now) }
     ensures source { IfOk result (λ checked. checked ≡ source.now) }

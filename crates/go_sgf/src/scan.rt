@@ -16,7 +16,7 @@ use std::simd::prelude::*;
 pub(crate) fn is_white(byte: u8) -> bool
     ensures { result ≡ is_space byte }
 {
-    // One test tells most bytes, since they are above a space.
+    // The first comparison decides for most bytes, since they are above a space.
     byte <= b' ' && (byte == b' ' || (9 <= byte && byte <= 13))
 }
 
@@ -47,7 +47,7 @@ pub(crate) fn is_left_out(byte: u8) -> bool
     is_white(byte) || (b'a' <= byte && byte <= b'z')
 }
 
-/// The bytes from the first on that is written.
+/// Skips the bytes that the canonical spelling leaves out, and returns the rest.
 pub(crate) fn behind_left_out(bytes: &[u8]) -> &[u8]
     ensures written { (d : ℕ) → d ≢ 0
         → tidied_from Outside d bytes.now ≡ tidied_from Outside d result.now }
@@ -66,7 +66,7 @@ pub(crate) fn behind_left_out(bytes: &[u8]) -> &[u8]
     rest
 }
 
-/// The bytes after the white space that comes first. Mostly there is none.
+/// The bytes after the white space that comes first. Most texts here begin with none.
 #[inline]
 #[tactic(auto, using(crate::proofs::Scanning::space_steps))]
 pub(crate) fn after_space(bytes: &[u8]) -> &[u8]
@@ -205,7 +205,7 @@ fn is_stop(byte: u8) -> bool
 /// The number of bytes that one test looks at.
 const LANES: usize = 16;
 
-/// The number of such tests before a search over a longer text, which begins slowly.
+/// After this number of tests `memchr2` searches on. Its start costs time.
 const BLOCKS: usize = 4;
 
 /// Which of the bytes are `]` or `\`, as bits.

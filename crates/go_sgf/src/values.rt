@@ -11,7 +11,7 @@ ghost use Rattle.go_sgf.specs.Stands.{in_value};
 
 use crate::scan::{near_bracket, ordinary};
 
-/// A value, after its `[`, and the text after its `]`; none where the value has no end.
+/// The value that `bytes` begins with after its `[`, and the text after its `]`. None where it has no end.
 #[inline]
 pub(crate) fn value(bytes: &[u8]) -> Option<(&[u8], &[u8])>
     ensures inside { IfSome result (λ v. IsValue v.0.now) }
@@ -43,7 +43,7 @@ pub(crate) fn value_end(bytes: &[u8]) -> Option<usize>
     }
 }
 
-/// The same, of a value of any length.
+/// The same, for a value of any length.
 #[inline(never)]
 fn far_end(bytes: &[u8]) -> Option<usize>
     ensures inside { IfSome result (λ place. IsValue (take place bytes.now)) }

@@ -6,9 +6,9 @@ ghost use Rattle.go_sgf.specs.inner.Tidied.{Outside, StaysTo, behind_from, is_le
 use crate::scan::{is_left_out, is_upper};
 use crate::values::value_end;
 
-/// The prefix of a tree's text that the canonical spelling has unchanged, the text after it, and how
-/// many trees are open there. `depth` trees are open at the beginning. None where the first byte
-/// isn't written, no tree is open or the text is empty.
+/// The prefix of a tree's text that the canonical spelling has unchanged, the text after it, and the number
+/// of trees that are open there. `depth` trees are open at the beginning. None where the first byte isn't
+/// written, no tree is open or the text is empty.
 pub(crate) fn verbatim(text: &[u8], depth: usize) -> Option<(&[u8], &[u8], usize)>
     requires { depth + length text.now ≤ 2 ^ 63 }
     ensures whole { IfSome result (λ r. text.now ≡ r.0.now ++ r.1.now) }
@@ -37,8 +37,8 @@ pub(crate) fn verbatim(text: &[u8], depth: usize) -> Option<(&[u8], &[u8], usize
     Some((front, rest, there))
 }
 
-/// The text after a byte that is written, most often a parenthesis, and after the properties that follow it in an open
-/// tree; and how many trees are open there.
+/// Skips a byte that is written, and in an open tree the properties after it. Returns the rest and the number
+/// of open trees there.
 #[inline]
 fn behind_next(text: &[u8], depth: usize) -> Option<(&[u8], usize)>
     requires bound { depth + length text.now ≤ 2 ^ 63 }
@@ -64,7 +64,7 @@ fn behind_next(text: &[u8], depth: usize) -> Option<(&[u8], usize)>
     Some((behind_properties(more), now))
 }
 
-/// How many trees are open after a byte outside of values.
+/// The number of trees that are open after a byte outside of values.
 fn open_behind(byte: u8, depth: usize) -> usize
     requires some { depth ≢ 0 }
     requires bound { depth < 2 ^ 63 }
@@ -78,9 +78,9 @@ fn open_behind(byte: u8, depth: usize) -> usize
     }
 }
 
-/// The text after the first values, upper-case letters and `;`, of which a record mostly consists. It
-/// counts a place, since a slice for each byte takes longer, and has a frame of its own, so that text and
-/// place stay in registers.
+/// Skips values, upper-case letters and `;`, of which a record mostly consists, and returns the rest. It uses
+/// an index, which is faster than a slice for each byte. It isn't inlined, so text and index stay in
+/// registers.
 #[inline(never)]
 fn behind_properties(text: &[u8]) -> &[u8]
     ensures stays { (d : ℕ) → d ≢ 0 → StaysTo Outside d text.now d result.now }

@@ -1,5 +1,5 @@
-//! The canonical spelling of a record. It is written from the source, also where the record was read, so one
-//! function serves both and takes no memory.
+//! The canonical spelling of a record. `write` and `tidy` both write from the source, so one function does
+//! both and takes no memory.
 ghost use Rattle.std.specs.Prelude.{◌≡◌, ◌≤◌, ℕ, List, length};
 ghost use Rattle.go_board.specs.Device.{Sent, failures_after};
 ghost use Rattle.go_board.specs.Pens.{Writes};
@@ -15,8 +15,8 @@ use crate::verbatim::verbatim;
 use go_board::{Pen, Sink, WriteFault};
 use std::alloc::Allocator;
 
-/// Writes a record in its canonical spelling: each tree and LF, names by their upper-case letters
-/// alone, values as they are, and no other byte. On a fault the device took a prefix of that text.
+/// Writes a record in its canonical spelling. It leaves out white space and lower-case letters outside of
+/// values, and writes LF after each tree. On a fault the device took a prefix of that text.
 pub fn write<A: Allocator + Copy, W: Sink>(
     collection: &Collection<'_, A>,
     writer: &mut W,
@@ -29,9 +29,9 @@ pub fn write<A: Allocator + Copy, W: Sink>(
     tidy(&collection.checked(), writer)
 }
 
-/// Writes the canonical spelling of the record that a source spells: each tree and LF, names by
-/// their upper-case letters alone, values as they are, and no other byte. On a fault the device
-/// took a prefix of that text. It takes no memory.
+/// Writes the canonical spelling of the record that a source spells. It leaves out white space and lower-case
+/// letters outside of values, and writes LF after each tree. On a fault the device took a prefix of that
+/// text. It takes no memory.
 pub fn tidy<W: Sink>(source: &Checked<'_>, writer: &mut W) -> Result<(), WriteFault>
     ensures sent { OfRecord source.now (λ c.
         Sent result (W.taken writer.old) (W.taken writer.new) (canonical c)) }
@@ -55,8 +55,8 @@ fn put_trees<W: Sink>(source: &[u8], pen: &mut Pen<'_, W>)
     }
 }
 
-/// Writes a tree, after its `(`, and gives the text after its `)` and white space. It writes what the
-/// canonical spelling has unchanged in one piece.
+/// Writes a tree. `text` begins after its `(`. Returns the text after its `)` and white space. It writes each
+/// run of unchanged bytes in one piece. In a checked source each tree ends, so it never returns early.
 fn put_tree<'a, W: Sink>(text: &'a [u8], pen: &mut Pen<'_, W>) -> &'a [u8]
     ensures written { Writes W.Sink pen.old pen.new (tidied_from Outside 1 text.now) }
     ensures rest { result.now ≡ without_space (behind_from Outside 1 text.now) }

@@ -36,8 +36,8 @@ ends_with_space [] = false
 ends_with_space (b ∷ []) = is_plain_space b
 ends_with_space (b ∷ c ∷ text) = ends_with_space (c ∷ text)
 
--- what is kept of a line: a prefix of its words so joined, whether they were longer, and, for the bytes that
--- may follow, whether a comment has begun and whether a space came after the last word
+-- What is kept of a line: a prefix of its words so joined, and whether they were longer. For the bytes that
+-- may follow it also has whether a comment has begun, and whether a space came after the last word.
 pub record Kept : Type 0 where
   pub text : List ℕ
   pub is_long : Bool

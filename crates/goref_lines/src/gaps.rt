@@ -4,7 +4,7 @@ ghost use Rattle.std.specs.List.{list_all, list_any, prefix_len};
 ghost use Rattle.goref_lines.specs.Kept.{is_control_byte};
 ghost use Rattle.goref_lines.specs.inner.Prefixes.{AreBetweenWords, is_blank_byte, is_gap_byte};
 
-/// How many bytes are looked at together.
+/// The number of bytes that one test looks at.
 const BLOCK: usize = 64;
 
 /// Whether a byte is a control, which a line drops. A tab is no control but white space.
@@ -56,7 +56,7 @@ fn after_controls(bytes: &[u8]) -> Option<&[u8]>
     }
 }
 
-/// Whether all bytes are controls. It never stops early, so that the compiler can test many bytes at once.
+/// Whether all bytes are controls. It never stops early, so the compiler can test many bytes at once.
 fn are_controls(bytes: &[u8]) -> bool
     ensures { result ≡ list_all is_control_byte bytes.now }
 {
@@ -74,7 +74,8 @@ fn is_of_gap(byte: u8) -> bool
     byte <= b' ' || byte == 127
 }
 
-/// The length of a prefix of controls and white space. It is whole blocks if there is one.
+/// The length of a prefix of controls and white space. If the first block is all of these, it counts whole
+/// blocks only.
 pub(crate) fn gap_prefix(bytes: &[u8]) -> usize
     ensures gap { AreBetweenWords (take result bytes.now) }
     ensures bound { result ≤ length bytes.now }
@@ -110,7 +111,7 @@ fn after_block(bytes: &[u8]) -> Option<&[u8]>
     if is_gap(block) { Some(more) } else { None }
 }
 
-/// How many bytes of controls and white space come first.
+/// The number of bytes of controls and white space that come first.
 fn gap_len(bytes: &[u8]) -> usize
     ensures value { result ≡ prefix_len is_gap_byte bytes.now }
     ensures bound { result ≤ length bytes.now }
@@ -118,8 +119,8 @@ fn gap_len(bytes: &[u8]) -> usize
     bytes.iter().take_while(|byte| is_of_gap(**byte)).count()
 }
 
-/// Whether all bytes are controls and white space. It never stops early, so that the compiler can test many
-/// bytes at once.
+/// Whether all bytes are controls and white space. It never stops early, so the compiler can test many bytes
+/// at once.
 fn is_gap(bytes: &[u8]) -> bool
     ensures { result ≡ list_all is_gap_byte bytes.now }
 {

@@ -109,7 +109,7 @@ impl Line {
         }
     }
 
-    /// Takes the next bytes of a line that is longer than a line may be: none of them is kept.
+    /// Takes the next bytes of a line whose words are over the limit: none of them is kept.
     fn skip(&mut self, bytes: &[u8])
         requires { self.old.is_long ≡ true }
         ensures { (line : List ℕ) → self.old ≡ kept line → self.new ≡ kept (line ++ bytes.now) }
@@ -126,7 +126,7 @@ impl Line {
         }
     }
 
-    /// Takes bytes without a `#` in a line that is longer than a line may be.
+    /// Takes bytes without a `#` in a line whose words are over the limit.
     fn skip_before_comment(&mut self, bytes: &[u8])
         requires long { self.old.is_long ≡ true }
         requires no_comment { self.old.has_comment ≡ false }
@@ -234,8 +234,8 @@ fn words_prefix(bytes: &[u8]) -> usize
     words_end(start, bytes.len())
 }
 
-/// Where the words before `place` end. The last of them begins at `start`. If it has no byte yet, they end
-/// before the space that comes before it.
+/// Where the words before `place` end. If a word begins at `start`, they end at `place`; else they end before
+/// the last space.
 fn words_end(start: usize, place: usize) -> usize
     ensures { result ≡ end_of_words start place }
 {

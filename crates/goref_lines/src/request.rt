@@ -1,4 +1,5 @@
-//! The words of a line as an id, a command's name and its arguments. A line that was cut still has its id.
+//! The words of a line as an id, a command's name and its arguments. A line that is too long still has its
+//! id, if a space follows it in what is kept.
 ghost use Rattle.std.specs.Prelude.{◌≡◌, ◌<◌, IfSome, length, option_copied, position, slice_get};
 ghost use Rattle.goref_lines.specs.Words.{is_plain_space, words};
 ghost use Rattle.goref_lines.specs.Requests.{Asked, asked_by, id_before_space};
@@ -76,7 +77,7 @@ impl<'a> Request<'a> {
     }
 }
 
-/// The id of a text that was cut.
+/// The id of a text whose end was cut off, if a space follows it: the last word may be incomplete.
 pub fn id_of_cut(text: &[u8]) -> Option<u32>
     ensures { result ≡ id_before_space text.now }
 {

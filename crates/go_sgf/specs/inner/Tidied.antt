@@ -1,5 +1,5 @@
--- What is written of a tree's text, byte by byte: all but the white space and the lower-case letters outside of values. It serves the
--- contracts of private functions alone.
+-- What is written of a tree's text, byte by byte: all but white space and lower-case letters outside of
+-- values. Only the contracts of private functions use it.
 use Rattle.std.specs.Prelude.{◌≡◌, ℕ, zero, suc, ◌-◌, ◌==◌, ◌||◌, if◌then◌else◌, Bool, false, List, [], ◌∷◌, ◌++◌}
 use Rattle.go_sgf.specs.Record.{is_lower}
 use Rattle.go_sgf.specs.Spelling.{is_space}
@@ -23,7 +23,7 @@ spot_after Outside c = if c == 91 then Inside else Outside
 spot_after Inside c = if c == 93 then Outside else (if c == 92 then Escaped else Inside)
 spot_after Escaped c = Inside
 
--- how many trees are open after a byte
+-- the number of trees that are open after a byte
 abbrev pub open_after : Spot → ℕ → ℕ → ℕ
 open_after Outside d c = if c == 40 then suc d else (if c == 41 then d - 1 else d)
 open_after _ d c = d
@@ -33,19 +33,19 @@ abbrev pub written : Spot → ℕ → List ℕ
 written Outside c = if is_left_out_byte c then [] else c ∷ []
 written _ c = c ∷ []
 
--- what is written from here until all open trees are closed, of which this is the number
+-- with this number of open trees: what is written until all of them are closed
 unfoldable pub tidied_from : Spot → ℕ → List ℕ → List ℕ
 tidied_from spot d [] = []
 tidied_from spot zero (c ∷ cs) = []
 tidied_from spot (suc d) (c ∷ cs) = written spot c ++ tidied_from (spot_after spot c) (open_after spot (suc d) c) cs
 
--- what follows there
+-- with this number of open trees: the text that is left where all of them are closed
 unfoldable pub behind_from : Spot → ℕ → List ℕ → List ℕ
 behind_from spot d [] = []
 behind_from spot zero (c ∷ cs) = c ∷ cs
 behind_from spot (suc d) (c ∷ cs) = behind_from (spot_after spot c) (open_after spot (suc d) c) cs
 
--- From a text with this number of open trees up to a later one outside of values, with the number there, all bytes are written.
+-- All bytes between b and rest are written. d trees are open at b, and e at rest, which is outside of values.
 pub record StaysTo (spot : Spot) (d : ℕ) (b : List ℕ) (e : ℕ) (rest : List ℕ) : Type 0 where
   pub front : List ℕ
   pub whole : b ≡ front ++ rest
