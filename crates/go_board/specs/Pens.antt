@@ -25,7 +25,7 @@ pub record Place : Type 0 where
 abbrev pub place : Bool → Option (List ℕ) → ℕ → Place
 place has_failed taken failures = record { has_failed = has_failed; taken = taken; failures = failures }
 
--- whatever was written up to the old place, that with this text after it is written up to the new one
+-- if a text was written at the old place, that text and more are written at the new one
 pub record Adds (old new : Place) (more : List ℕ) : Type 0 where
   pub grown : (start : Option (List ℕ)) (failures : ℕ) (text : List ℕ) →
       Wrote old.has_failed start old.taken failures old.failures text →

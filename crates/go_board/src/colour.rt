@@ -33,7 +33,7 @@ impl Colour {
         }
     }
 
-    /// The colour that a word names: `b`, `black`, `w` or `white`, in any case.
+    /// The colour that a word names: `b`, `black`, `w` or `white`, in upper or lower case.
     pub fn named(word: &[u8]) -> Option<Colour>
         ensures { result ≡ colour_named word.now }
     {
@@ -75,7 +75,7 @@ fn is_word(word: &[u8], name: &[u8]) -> bool
     word.eq_ignore_ascii_case(name)
 }
 
-/// Whether two colours are the same; none is the colour of an empty point.
+/// Whether two points have the same colour. `None` is an empty point's.
 pub fn is_same(a: Option<Colour>, b: Option<Colour>) -> bool
     ensures { IsTrue result ↔ (a ≡ b) }
 {

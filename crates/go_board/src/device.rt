@@ -10,7 +10,7 @@ use thiserror::Error;
 #[error("device failed")]
 pub struct Failed;
 
-/// A text could not be written whole.
+/// A text could not be written and flushed whole.
 #[derive(Clone, Copy, Debug, PartialEq, Eq, Error)]
 #[error("write fault")]
 pub struct WriteFault;
@@ -29,8 +29,8 @@ pub trait Source {
     /// How often it found the end of the input.
     ghost ends: { Self → ℕ };
 
-    /// Reads into the buffer, and gives the number of bytes read. None into a buffer with room is
-    /// the end of the input.
+    /// Reads into the buffer, and returns the number of bytes read. 0, if the buffer has room, is the end of
+    /// the input.
     fn pull(&mut self, buffer: &mut [u8]) -> Result<usize, Failed>
         ensures within { IfOk result (λ n. n ≤ length buffer.new) }
         ensures bytes { IfOk result
@@ -48,13 +48,13 @@ pub trait Sink {
     /// The bytes that it took so far, if the device knows them.
     ghost taken: { Self → Option (List ℕ) };
 
-    /// How often a call failed. To take none of some bytes is a failure too.
+    /// How often a call failed. A put of some bytes that takes none is a failure too.
     ghost failures: { Self → ℕ };
 
     /// How many of the bytes that it took it still holds.
     ghost held: { Self → ℕ };
 
-    /// Takes a prefix of a slice, and gives the number of its bytes.
+    /// Takes a prefix of a slice, and returns the prefix's length.
     fn put(&mut self, bytes: &[u8]) -> Result<usize, Failed>
         ensures within { IfOk result (λ n. n ≤ length bytes.now) }
         ensures bytes { IfOk result

@@ -52,7 +52,7 @@ impl<'a, W: Sink> Pen<'a, W> {
         }
     }
 
-    /// Gives the device back, and whether all pieces were written.
+    /// Ends the writing, and returns whether all pieces were written.
     pub fn finish(self) -> Result<(), WriteFault>
         ensures value { result ≡ (if self.entry.has_failed then Err record {} else Ok tt) }
         ensures writer { self.exit.0.now ≡ self.entry.writer.now }

@@ -38,8 +38,8 @@ pub enum VertexError {
     OffBoard,
 }
 
-/// The vertex that a word spells on a board of this size: `pass`, or the letter of a column and the
-/// number of a row from 1 in one or two digits, both in either case (Go Text Protocol version 2).
+/// The vertex that a word spells on a board of this size: `pass`, or the letter of a column and the number of
+/// a row from 1 in one or two digits. Case doesn't count (Go Text Protocol version 2).
 pub fn read_vertex(word: &[u8], size: Size) -> Result<Vertex, VertexError>
     ensures value { result ≡ vertex_on size (vertex_of word.now) }
     ensures malformed { (result ≡ Err VertexError.Malformed) ↔ (vertex_of word.now ≡ None) }
@@ -72,7 +72,7 @@ fn on_board(point: Point, size: Size) -> Result<Vertex, VertexError>
     }
 }
 
-/// The point that a letter and a row name, on the largest board that words can speak of.
+/// The point that a letter and a row name, on a board of 25 lines.
 fn read_point(word: &[u8]) -> Option<Point>
     ensures { option_map (λ p. Vertex.At p) result ≡ point_of word.now }
 {

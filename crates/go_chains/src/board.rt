@@ -24,8 +24,8 @@ use go_board::{Area, Colour, Grid, Meter, Open, Point, Size};
 use std::marker::Model;
 
 /// A board that keeps its chains and their liberties, changed in place by each play. The methods for boards
-/// of every kind `K` (play, rewind, and the questions about one point) can neither make a meter nor call a
-/// question that counts nothing, so the meter that they are given counts all their reads and writes.
+/// of every kind `K` (play, rewind, and the questions about one point) can't make a meter, and can't call a
+/// method that doesn't count. So the meter that they get counts all their reads and writes.
 #[derive(Drop)]
 pub struct Board<K = Open> {
     size: Size,

@@ -13,8 +13,8 @@ use crate::masks::has_liberty_but;
 use go_board::{Meter, Size};
 use std::alloc::Allocator;
 
-/// Captures the chain on a point, if it has the colour `taken` and no liberty, and gives the number of its
-/// stones. The points are liberties of the colour `rest` then.
+/// Captures the chain on a point, if it has the colour `taken` and no liberty, and returns the number of its
+/// stones. Its points become liberties of chains of the colour `rest`.
 pub fn capture_if_dead<K, A: Allocator + Copy>(
     cells: &mut Cells<K>,
     changes: &mut Vec<LoggedChange, A>,
@@ -48,7 +48,7 @@ pub fn capture_if_dead<K, A: Allocator + Copy>(
     take_off(cells, changes, meter, size, near, taken, rest)
 }
 
-/// Captures the chains of the colour `taken` on these points that have no liberty, and gives the number of
+/// Captures the chains of the colour `taken` on these points that have no liberty, and returns the number of
 /// their stones.
 pub fn capture_beside<K, A: Allocator + Copy>(
     cells: &mut Cells<K>,

@@ -13,8 +13,7 @@ pub enum PlayError {
     /// The point is past the board's edge.
     #[error("the point is off the board")]
     OffBoard,
-    /// The play leaves what the superko rule saw before, a position or a situation, which first came after
-    /// this many moves.
+    /// The play repeats a position or a situation. The number says after how many moves that first came.
     #[error("the play repeats the position after {0} moves")]
     Repeats(usize),
     /// There was no memory for the move.

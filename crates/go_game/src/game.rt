@@ -1,5 +1,5 @@
-//! A game with its komi and its superko rule, and the questions about its moves and its board. Starts from
-//! a grid, plays and undo, and the choice of a play are in files of their own.
+//! A game with its komi and its superko rule, and the questions about its moves and its board. Other files
+//! have the start from a grid, the plays and undo, and the choice.
 ghost use Rattle.std.specs.Prelude.{◌≡◌, ◌<◌, ◌+◌, ◌*◌, [], pos, false, IsSome, length, map, slice_get};
 
 use crate::Superko;

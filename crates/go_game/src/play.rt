@@ -75,8 +75,8 @@ impl<A: Allocator + Copy> Game<A> {
         Ok(taken)
     }
 
-    /// Places a stone on an empty point where that is legal. The board is played on first, and the play is
-    /// taken back where it repeats or there is no memory to keep it.
+    /// Places a stone on an empty point where that is legal. It plays on the board first, and undoes that at
+    /// once where the play repeats, or where there is no memory to keep it.
     pub(crate) fn place_stone(&mut self, colour: Colour, p: Point) -> Result<Taken, PlayError>
         requires on { IsOn self.old.standing.lines p }
         requires vacant { stone_at (present self.old.standing) p ≡ None }
@@ -120,7 +120,7 @@ impl<A: Allocator + Copy> Game<A> {
         }
     }
 
-    /// Takes back the last move, and gives it. It takes no memory.
+    /// Takes back the last move, and returns it. It takes no memory.
     pub fn undo(&mut self) -> Option<Move>
         ensures none { IfNone result ((self.old.standing.moves ≡ []) × (self.new ≡ self.old)) }
         ensures some { IfSome result

@@ -14,7 +14,7 @@ pub enum Superko {
 }
 
 impl Superko {
-    /// The key of what the rule sees where a colouring has this pack and this colour is to move.
+    /// The key of a pack and the colour to move, as the rule sees them.
     pub(crate) fn key(self, pack: Packed, mover: Colour) -> Key
         ensures pack { result.pack ≡ pack }
         ensures mover { result.mover ≡ mover_by self mover }

@@ -13,8 +13,8 @@ use std::collections::HashMap;
 use std::hash::{BuildHasherDefault, FoldHasher};
 use std::marker::Model;
 
-/// How many keys the hash table has at most: more than a game has moves. The seed is fixed, so somebody
-/// may pick moves whose keys lie side by side, and a look-up there goes past them all.
+/// How many keys the hash table has at most: more than a usual game has moves. The seed is fixed, so somebody
+/// may pick moves whose keys lie side by side. That makes a look-up slow, so the table is limited.
 const FIRST_KEYS: usize = 4_096;
 
 /// A history that begins anew keeps the memory of its hash table up to this many keys.
@@ -33,7 +33,7 @@ pub struct History<A: Allocator + Copy> {
     alloc: A,
 }
 
-// Not derived: the owner of a history proves one call at each of its ends, not a drop of each tree.
+// `Drop` isn't derived: so who drops a history proves one call, and not the drop of each tree.
 impl<A: Allocator + Copy> Drop for History<A> {
     /// Drops its keys.
     fn drop(self) {
@@ -94,8 +94,8 @@ impl<A: Allocator + Copy> History<A> {
         self.further.get(key)
     }
 
-    /// After how many moves the position of this key first came; or none where it didn't come, and then
-    /// the key is noted with this number.
+    /// After how many moves the position of this key first came. If it didn't come, notes the key with this
+    /// number, and returns none.
     pub fn note(&mut self, key: &Key, number: usize) -> Result<Option<usize>, AllocError>
         ensures known { IfOk result (λ known. known ≡ number_at self.old key.now) }
         ensures noted { result ≡ Ok None → IsChangedAt self.old self.new key.now (Some number) }
@@ -134,8 +134,8 @@ impl<A: Allocator + Copy> History<A> {
         }
     }
 
-    /// Begins anew. It takes no memory, and gives back that of a long game at once, list by list: no
-    /// key of it is looked at.
+    /// Begins anew. It takes no memory, and gives back that of a long game at once, list by list: it looks at
+    /// no key.
     pub fn restart(&mut self, start: Key)
         ensures { IsBegun self.new start }
     {
@@ -149,8 +149,8 @@ impl<A: Allocator + Copy> History<A> {
     }
 }
 
-/// The number of a key among the first, or none where it has none, and then the key is noted there with
-/// this number.
+/// The number of a key among the first. If it has none, notes the key there with this number, and returns
+/// none.
 fn note_first<A: Allocator + Copy>(
     first: &mut HashMap<Key, usize, BuildHasherDefault<FoldHasher>, A>,
     key: &Key,

@@ -19,7 +19,7 @@ impl Hash for Key {
 
     ghost respects_eq = { Prim.search (hashing, rules) };
 
-    // The pack alone: few colourings of a game come with either colour to move.
+    // Only the pack is hashed: a game seldom has one colouring with both colours to move.
     fn hash<H: Hasher>(&self, state: &mut H) {
         self.pack.hash(state);
     }
