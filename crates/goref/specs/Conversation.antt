@@ -50,7 +50,7 @@ pub record BreaksOff (s : Standing) (lines : List (List ℕ)) (given given' : Op
   pub tells : given' ≡ then_pairs given asked
   pub took : taken' ≡ then_bytes taken text
 
--- whatever is said to later lines over the standing now, with these lines before them it is one conversation
+-- these lines lead from s to now: any conversation from now on continues that of these lines
 pub record GetsTo (s : Standing) (lines : List (List ℕ)) (asked : List Pair) (text : List ℕ) (now : Standing) : Type 0
   where
     pub on : (more : List (List ℕ)) (later : List Pair) (rest : List ℕ) → Conversation now more later rest →

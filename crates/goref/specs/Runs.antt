@@ -24,7 +24,7 @@ pub record AnswersFront (s : Standing) (left left' : Option (List ℕ)) (given g
   pub has_read : left ≡ after_bytes read left'
   pub breaks_off : BreaksOff s (lines read) given given' taken taken'
 
--- at least this many bytes were read, as when each of this many reads gave one
+-- at least this number of bytes were read: one for each read
 pub record ReadsAtLeast (count : ℕ) (left left' : Option (List ℕ)) : Type 0 where
   pub read : List ℕ
   pub has_read : left ≡ after_bytes read left'
@@ -40,15 +40,15 @@ abbrev pub write_failures_after : {T : Type 0} → Result T RunError → ℕ →
 write_failures_after (Err Write) old = old + 1
 write_failures_after _ old = old
 
--- This many reads were made, and gave at least as many bytes, but no end.
+-- This number of reads were made. They gave at least as many bytes, and no end.
 pub record FoundNoEnd {R : Type 0} (limit : ℕ) (input : source.Ghosts R) (reader reader' : R) : Type 0 where
   pub all_pulls : input.pulls reader' ≡ input.pulls reader + limit
   pub many_bytes : ReadsAtLeast limit (input.left reader) (input.left reader')
   pub no_end : input.ends reader' ≡ input.ends reader
 
--- What a run of at most this many reads does to its devices: it finds one end at most, and an input endless
--- only where it found none. A fault of a device is counted once, if it ended the run. If the writer doesn't
--- fail, it holds nothing back.
+-- What a run of at most this number of reads does to its devices. It meets the end at most once, and returns
+-- `Endless` only if it met none. A fault of a device is counted once, if it ended the run. If the writer
+-- doesn't fail and held nothing back at the start, it holds nothing back.
 pub record RunsOn {T R W : Type 0} (limit : ℕ) (input : source.Ghosts R) (output : sink.Ghosts W)
     (result : Result T RunError) (reader reader' : R) (writer writer' : W) : Type 0 where
   pub pulls : input.pulls reader' ≤ input.pulls reader + limit
@@ -58,9 +58,9 @@ pub record RunsOn {T R W : Type 0} (limit : ℕ) (input : source.Ghosts R) (outp
   pub write_failures : output.failures writer' ≡ write_failures_after result (output.failures writer)
   pub held : result ≢ Err Write → output.held writer ≡ 0 → output.held writer' ≡ 0
 
--- What a run of at most this number of reads comes to, from a standing on. Where it ends well, it answered all lines of
--- the input. A failed read, or an input without end, leaves the complete lines answered; a failed write, a prefix of
--- their answers written.
+-- How a run of at most this number of reads ends that begins with this standing. `Ok`: it answered all lines
+-- up to `quit`. `Read` and `Endless`: it answered the complete lines. `Write`: a prefix of the answers was
+-- written.
 pub record Runs {T R W : Type 0} (limit : ℕ) (start : Standing) (input : source.Ghosts R) (output : sink.Ghosts W)
     (result : Result T RunError) (reader reader' : R) (writer writer' : W) (given given' : Option (List Pair)) : Type 0
   where

@@ -8,7 +8,7 @@ pub enum RunError {
     Read,
     /// A write or a flush failed, or a write took no byte.
     Write,
-    /// The input had no end within the reads that a run makes.
+    /// The input had no end within the reads that the run may make.
     Endless,
 }
 

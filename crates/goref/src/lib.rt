@@ -19,8 +19,8 @@
 //! run(rt.alloc(), size, &mut reader, &mut writer, &mut shelf)?;
 //! ```
 //!
-//! The promises are in the clauses of these calls. `specs/` defines the words of runs, and exports those of
-//! the crates between this one and `go_board`, so that callers can prove with them.
+//! The promises are in the clauses of these calls. `specs/` has the definitions of runs, and exports what
+//! callers need of the crates below, so that they can prove with them.
 #![tactic(auto)]
 
 mod error;

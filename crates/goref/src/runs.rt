@@ -24,13 +24,13 @@ use goref_tools::CHUNK;
 use memchr::memchr;
 use std::alloc::Allocator;
 
-/// The most reads that a run makes.
+/// The most reads that [`run`] makes.
 pub const READS: u64 = 1 << 40;
 
-/// Reads lines and answers each before the next read, up to `quit` or to the end of the input. A
-/// last line without a line end is answered too. It makes at most [`READS`] reads, and finds an
-/// input endless only after that many reads and as many bytes, where none of them found its end. No
-/// answer is held back while it reads: [`run_within`] says so, whatever number of reads it ends after.
+/// Reads lines and answers each before the next read, up to `quit` or to the end of the input. A last line
+/// without a line end is answered too. It makes at most [`READS`] reads. It returns `Endless` only after that
+/// number of reads; each of them gave a byte, and none found the end. Before each read the writer holds no
+/// answer back: the contract of [`run_within`] says so for each limit.
 pub fn run<A: Allocator + Copy, R: Source, W: Sink, S: Shelf<A>>(
     alloc: A,
     size: Size,

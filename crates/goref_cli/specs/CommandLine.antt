@@ -68,6 +68,6 @@ IsPlainUse (name ∷ rest) = (rest ≡ codes "gtp" ∷ [])
     ⊎ (rest ≡ codes "tidy" ∷ [])
     ⊎ ((n : ℕ) × IsSize n × (rest ≡ codes "gtp" ∷ codes "--size" ∷ decimal n ∷ []))
 
--- the texts after the words
+-- the texts of the words
 abbrev pub texts_of : List (Bor Text) → List Text
 texts_of = map (λ word. word.now)

@@ -45,7 +45,7 @@ pub fn task_of<'a>(alloc: Global, words: &'a [&'a str]) -> Result<Task, Error>
     }
 }
 
-/// The program's words as clap reads them.
+/// The command line that clap knows.
 fn program_command<'a>(alloc: Global) -> Result<Command<'a>, AllocError>
     ensures { IfOk result (λ c. app_of c ≡ program) }
 {

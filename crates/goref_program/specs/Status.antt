@@ -26,7 +26,7 @@ abbrev pub end_status : Result (Unit {0}) Fault → ℕ
 end_status (Ok _) = 0
 end_status (Err fault) = fault_status fault
 
--- the status after a task: 0 where it was done, and else that of one of its faults
+-- the possible statuses of a task: 0, or that of one of its possible faults
 abbrev pub IsStatusOf : Task → ℕ → Type 0
 IsStatusOf task status = (status ≡ 0) ⊎ ((fault : Fault) × IsFaultOf task fault × (status ≡ fault_status fault))
 
@@ -35,8 +35,8 @@ IsStatusOf task status = (status ≡ 0) ⊎ ((fault : Fault) × IsFaultOf task f
 abbrev pub IsStatusOfText : ErrorKind → ℕ → Type 0
 IsStatusOfText kind status = (status ≡ words_status kind) ⊎ ((words_status kind ≡ 0) × (status ≡ 3))
 
--- the status after words: that of the task that they mean, or that of a text; words as a user is told of them come to a
--- text only where memory lacks
+-- The status after words: that of the task that they mean, or that of a text. For a plain use a text is shown
+-- only where memory lacks.
 abbrev pub FollowsWords : List Text → ℕ → Type 0
 FollowsWords words status =
     ((task : Task) × Means words task × IsStatusOf task status)

@@ -23,15 +23,15 @@ Does (Gtp size) input given given' taken taken' = Converses (begun size) (lines 
 Does Judge input given given' taken taken' = Judges input taken taken'
 Does Tidy input given given' taken taken' = Tidies input taken taken'
 
--- where it wasn't: a run of lines met a fault, or a tool did
+-- the faults of a task that wasn't done: those of a run of lines, or those of a tool
 abbrev pub IsFaultOf : Task → Fault → Type 0
 IsFaultOf (Gtp size) (Run why) = Unit {0}
 IsFaultOf (Gtp size) (Tool why) = ⊥
 IsFaultOf _ (Run why) = ⊥
 IsFaultOf _ (Tool why) = Unit {0}
 
--- what was done then: a session answered what it read, or a prefix of that was written; a tool wrote nothing,
--- or a prefix of its text
+-- what was done then: a session answered all that it read, or wrote a prefix of those answers; a tool wrote
+-- nothing, or a prefix of its text
 abbrev pub Breaks : Task → Fault → Option (List ℕ) → Option (List ℕ) → Option (List Pair) → Option (List Pair)
     → Option (List ℕ) → Option (List ℕ) → Type 0
 Breaks (Gtp size) (Run run_error.Write) left left' given given' taken taken' =
@@ -46,7 +46,7 @@ Breaks Judge (Tool _) left left' given given' taken taken' = taken' ≡ taken
 Breaks Tidy (Tool _) left left' given given' taken taken' = taken' ≡ taken
 Breaks task fault left left' given given' taken taken' = ⊥
 
--- a fault of the input is its refusal
+-- if the fault is `Sgf` or `Record`, the input is really refused for it
 abbrev pub IsRefused : Option (List ℕ) → Fault → Type 0
 IsRefused left (Tool (tool_error.Sgf why)) = Refuses left why
 IsRefused left (Tool (tool_error.Record why)) = RefusesGame left why
@@ -64,8 +64,9 @@ write_failures_after (Err (Run run_error.Write)) old = old + 1
 write_failures_after (Err (Tool tool_error.Write)) old = old + 1
 write_failures_after _ old = old
 
--- What a task comes to on its devices: it is done, or a fault of its kind ends it. A fault of a device is counted once,
--- a refusal is the input's, and where a task is done the writer holds nothing back.
+-- How a task ends on its devices: it is done, or a fault of its kind ends it. A fault of a device is counted
+-- once, a refusal is the input's, and if the writer held nothing back at the start, it doesn't after a task
+-- that is done.
 pub record Performs {T R W : Type 0} (task : Task) (input : source.Ghosts R) (output : sink.Ghosts W)
     (result : Result T Fault) (reader reader' : R) (writer writer' : W) (given given' : Option (List Pair)) : Type 0
   where

@@ -11,7 +11,7 @@ use thiserror::Error;
 /// The exit status where the words are refused.
 pub const REFUSED: u8 = 2;
 
-/// The exit status where a stream fails.
+/// The exit status where a stream fails, or an input has no end.
 pub const FAULT: u8 = 3;
 
 /// Why a task didn't reach its end.
@@ -53,7 +53,7 @@ impl From<ToolError> for Fault {
     }
 }
 
-/// Tells of a fault in one line, where there is one, and gives the exit status.
+/// If there is a fault, writes it as one line. Returns the exit status.
 pub fn tell<E: Write>(end: Result<(), Fault>, errors: &mut E) -> u8
     ensures status { result ≡ end_status end }
     ensures silent { result ≡ 0 → errors.new ≡ errors.old }
@@ -67,8 +67,8 @@ pub fn tell<E: Write>(end: Result<(), Fault>, errors: &mut E) -> u8
     }
 }
 
-/// Writes why the words name no task, or the help that they asked for, and returns the exit status. Help that
-/// can't be written is a fault, which has a message of one line.
+/// Writes why the words name no task, or the help or version that they ask for, and returns the exit status.
+/// If it can't write the text that they ask for, it writes one line about the fault.
 pub fn explain<O: Write, E: Write>(error: &clap::Error, output: &mut O, errors: &mut E) -> u8
     ensures status { IsStatusOfText (kind_of error.now) result }
     ensures silent { result ≡ 0 → errors.new ≡ errors.old }
@@ -86,7 +86,7 @@ pub fn explain<O: Write, E: Write>(error: &clap::Error, output: &mut O, errors: 
     }
 }
 
-/// Writes a text of help whole.
+/// Writes a text that was asked for, whole.
 fn show<O: Write>(error: &clap::Error, output: &mut O) -> std::io::Result<()> {
     write!(output, "{error}")?;
     output.flush()

@@ -36,8 +36,8 @@ impl<A: Allocator + Copy, F: Files> Shelf<A> for NamedFiles<'_, A, F> {
     }
 }
 
-/// The file at a path. Where it cannot be opened or read it is missing, and so is what is no
-/// regular file: to open a pipe, or to read from a terminal, may wait for ever.
+/// The file at a path, `Missing` if it can't be opened or read. Anything but a regular file is missing too:
+/// to open a pipe, or to read from a terminal, may wait for ever.
 fn file_at<A: Allocator + Copy, F: Files>(alloc: A, system: &F, path: &str) -> Fetched<A> {
     if !is_regular(system, path) {
         return Fetched::Missing;

@@ -14,7 +14,7 @@ fn main(rt: HostRuntime) -> ExitCode {
     ExitCode::from(status(&rt))
 }
 
-/// Does what the program's words ask on the standard streams, and gives the exit status.
+/// Does, on the standard streams, what the program's words ask, and returns the exit status.
 fn status(rt: &HostRuntime) -> u8 {
     answer_words(
         rt.alloc(),
@@ -26,7 +26,7 @@ fn status(rt: &HostRuntime) -> u8 {
     )
 }
 
-/// The program's words, where each is a text.
+/// The program's words, if each is a text and there is memory for them.
 fn all_words(rt: &HostRuntime) -> Option<Vec<String>> {
     match std::env::args(rt) {
         Ok(words) => words.collect(rt.alloc()).ok(),

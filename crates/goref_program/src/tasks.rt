@@ -9,8 +9,8 @@ use goref_streams::{Input, Output};
 use std::alloc::Allocator;
 use std::io::{Read, Write};
 
-/// Does a task: reads from the one stream, writes to the other, and fetches the files that a session asks for
-/// from the shelf.
+/// Does a task: reads from the one stream, writes to the other, and takes from the shelf the files that lines
+/// name.
 pub fn obey<A: Allocator + Copy, R: Read + Drop, W: Write + Drop, S: Shelf<A>>(
     alloc: A,
     task: Task,

@@ -1,4 +1,4 @@
-//! What the program's words do: a task that is done, or a text, and an exit status.
+//! Does the task that the program's words name, or writes a text, and returns the exit status.
 ghost use Rattle.std.specs.Prelude.{◌≡◌, ◌⊎◌, IfSome, None, map};
 ghost use Rattle.std.specs.String.{string_bytes};
 ghost use Rattle.goref.specs.CommandLine.{texts_of};
@@ -10,8 +10,8 @@ use goref::{Shelf, task_of};
 use std::alloc::Global;
 use std::io::{Read, Write};
 
-/// Does what the words ask on these streams, and returns the exit status. None is for words that can't be
-/// read.
+/// Does, on these streams, what the words ask, and returns the exit status. `None` is for words that can't be
+/// read, or for which there is no memory.
 pub fn answer_words<R: Read + Drop, W: Write + Drop, E: Write, S: Shelf<Global>>(
     alloc: Global,
     words: Option<Vec<String>>,

@@ -26,6 +26,6 @@ is_refusal _ = false
 abbrev pub LacksMemoryFor : Decided → Type 0
 LacksMemoryFor d = is_refusal d.decision ≡ false
 
--- what may be decided where the table says this, on a command that may lack memory
+-- the decision is the stated one, or a refusal for lack of memory where the command may lack it
 abbrev pub MayDecide : Standing → Decided → Decided → Type 0
 MayDecide s stated d = (d ≡ stated) ⊎ (LacksMemoryFor stated × (d ≡ keeps s (Refused OutOfMemory)))

@@ -68,8 +68,8 @@ abbrev pub load_error_of : RecordError → LoadError
 load_error_of record_error.Memory = load_error.Memory
 load_error_of why = load_error.Cannot
 
--- what may be decided on the bytes of a file: play goes on with the game of its record, or there is none, or
--- there is no memory
+-- what may be decided on the bytes of a file: play goes on with the game of its record, or no game comes of
+-- them, or memory lacks
 abbrev pub DecidesBytes : Standing → List ℕ → Option ℕ → Decided → Type 0
 DecidesBytes s b number d = ((game : Standing) × Loads b number game × (d ≡ comes_to game))
     ⊎ (LoadsNone b number × (d ≡ keeps s (Refused CannotLoad)))

@@ -17,7 +17,7 @@ pub fn int_argument(request: &Request, place: u16) -> Option<u32>
     read_int(request.argument(place)?)
 }
 
-/// The number that an argument spells, or that there is no argument.
+/// The number that an argument spells: `Some(None)` if there is no argument, `None` if it is malformed.
 pub fn number_argument(request: &Request, place: u16) -> Option<Option<u32>>
     ensures { result ≡ number_asked (slice_get request.now.arguments place) }
 {
@@ -37,7 +37,7 @@ pub fn colour_argument(request: &Request, place: u16) -> Option<Colour>
     Colour::named(request.argument(place)?)
 }
 
-/// The vertex that an argument spells; where there is no argument it is malformed.
+/// The vertex that an argument spells, or `Malformed` if there is no argument.
 pub fn vertex_argument(request: &Request, place: u16, size: Size) -> Result<Vertex, VertexError>
     ensures { result ≡ vertex_on size
         (vertex_given request.now.arguments place) }

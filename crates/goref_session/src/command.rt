@@ -89,8 +89,7 @@ pub fn command_asked(request: &Request) -> Option<Command>
     }
 }
 
-/// The command of this name. The moves and their way back, which most lines ask for, are compared
-/// first.
+/// The command of this name. `play` and `undo`, which most lines ask for, are compared first.
 pub fn command_named(name: &[u8]) -> Option<Command>
     ensures { result ≡ command_of name.now }
 {

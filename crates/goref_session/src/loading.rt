@@ -9,7 +9,7 @@ ghost use Rattle.goref_session.specs.declared.command.Command.{Command};
 use crate::arguments::number_argument;
 use goref_lines::Request;
 
-/// A file that is to be loaded, up to the move of a number where one is given.
+/// A file to load. With a number, only the moves before that move.
 #[derive(Clone, Copy)]
 pub struct Load<'a> {
     pub name: &'a [u8],

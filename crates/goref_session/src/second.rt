@@ -1,4 +1,4 @@
-//! The second game of a session. It is a type of its own, and takes memory only where a record is loaded.
+//! The second game of a session. It is a type of its own, and takes memory from the first load on.
 ghost use Rattle.std.specs.Prelude.{◌≡◌, IfOk, OnErr, Some, false};
 ghost use Rattle.go_game.specs.Standings.{Standing};
 ghost use Rattle.goref_session.specs.Record.{DecidesBytes};
@@ -11,8 +11,8 @@ use go_board::Size;
 use go_game::Game;
 use std::alloc::{AllocError, Allocator};
 
-/// The second game, and whether it is the one that is played. Records are loaded on the game that
-/// isn't played, so that a refused one leaves the other as it is, and no game is moved.
+/// The second game, and whether it is the one that is played. A record is loaded into the game that isn't
+/// played. So a refused record leaves the played game as it is, and no game is copied.
 #[derive(Drop)]
 pub struct Second<A: Allocator + Copy> {
     pub game: Box<Game<A>, A>,
@@ -31,8 +31,8 @@ impl<A: Allocator + Copy> Second<A> {
         })
     }
 
-    /// Loads a record on the game that isn't played, and plays on that. The one that was played gives
-    /// its memory back then.
+    /// Loads a record into the game that isn't played, which is then the one that is played. The other gives
+    /// its memory back, but for a small hash table.
     pub fn load(&mut self, first: &mut Game<A>, source: &Record) -> Result<(), Refusal>
         ensures decides { (s : Standing) → s ≡ played_of first.old.standing (Some self.old) →
             DecidesBytes s source.now.bytes.now source.now.number

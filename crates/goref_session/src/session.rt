@@ -35,7 +35,7 @@ use std::marker::Model;
 #[derive(Drop)]
 pub struct Session<A: Allocator + Copy> {
     first: Game<A>,
-    /// The second game, once a record was to be loaded.
+    /// The second game. The first load makes it.
     second: Option<Second<A>>,
     alloc: A,
 }
@@ -61,7 +61,7 @@ impl<A: Allocator + Copy> Session<A> {
         }
     }
 
-    /// The game that is played: all its answers are functions of the session's standing.
+    /// The game that is played. What its methods return depends only on the session's standing.
     pub fn game(&self) -> &Game<A>
         ensures { result.now.standing ≡ self.now }
     {
@@ -71,8 +71,8 @@ impl<A: Allocator + Copy> Session<A> {
         }
     }
 
-    /// Answers a line. On a fault what was written is a prefix of the answer, and the session is as after the
-    /// command.
+    /// Answers a line. If a write fails, the device has a prefix of the answer. The command was done all the
+    /// same.
     pub fn answer<W: Sink>(
         &mut self,
         line: &Line,
@@ -104,7 +104,8 @@ impl<A: Allocator + Copy> Session<A> {
         }
     }
 
-    /// Answers the command that is asked for. None: that is `loadsgf`.
+    /// Answers a command. Returns `None` for `loadsgf`, which `decide_load` handles, and has then done
+    /// nothing.
     fn answer_command<W: Sink>(
         &mut self,
         request: &Request,
@@ -125,8 +126,8 @@ impl<A: Allocator + Copy> Session<A> {
         }
     }
 
-    /// Decides on `loadsgf`, which both games are for. It has a frame of its own, since the second game
-    /// is made in it: each line would pay for that.
+    /// Decides on `loadsgf`, which needs both games. It isn't inlined: the second game makes its frame large,
+    /// and every line would pay for that.
     #[inline(never)]
     fn decide_load(&mut self, request: &Request, fetched: &Fetched<A>) -> Decision
         ensures { DecidesLoad self.old (load_of request.now.arguments) (content_of fetched.now)
@@ -162,8 +163,8 @@ impl<A: Allocator + Copy> Session<A> {
     }
 }
 
-/// Answers the command that is asked for over the game that is played. None: that is `loadsgf`. A decision
-/// has room for all points, so this function returns none.
+/// Answers a command over the game that is played. Returns `None` for `loadsgf`. A `Decision` is large, so
+/// this function writes the answer and doesn't return the decision.
 fn answer_on<A: Allocator + Copy, W: Sink>(
     game: &mut Game<A>,
     alloc: A,
@@ -203,8 +204,8 @@ fn tell<A: Allocator + Copy, W: Sink>(
     }
 }
 
-/// Decides on the command that is asked for. None: that is `loadsgf`, which has a function of its own since
-/// it needs both games.
+/// Decides on a command over the game that is played. Returns `None` for `loadsgf`, which needs both games
+/// and has a function of its own.
 fn decide_on<A: Allocator + Copy>(
     game: &mut Game<A>,
     alloc: A,

@@ -20,7 +20,6 @@ pub record Writing : Type 0 where
 abbrev pub given_to : Writing → Option (List ℕ)
 given_to writing = append_known writing.held writing.kept
 
--- the most bytes that a put takes, of an output that keeps this many bytes and at most the limit: a full one
--- is emptied first
+-- the most bytes that a put takes, by the limit and the number of kept bytes; a full output is emptied first
 abbrev pub room : ℕ → ℕ → ℕ
 room limit kept = if kept == limit then limit else limit - kept

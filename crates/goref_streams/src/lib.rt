@@ -110,8 +110,8 @@ fn read_again<R: Read>(stream: &mut R, buffer: &mut [u8]) -> io::Result<usize>
     Err(io::Error::from(ErrorKind::Interrupted))
 }
 
-/// A stream that is written, as a device that doesn't show its bytes. It keeps them back until it is full or
-/// flushed, and a fault of the stream loses those.
+/// A stream that is written, as a device that doesn't show its bytes. It keeps bytes until it is full or
+/// flushed. If the stream then fails, the kept bytes are lost.
 #[derive(Drop)]
 pub struct Output<W: Write> {
     stream: W,

@@ -37,16 +37,16 @@ Refuses left why = (why ≢ Memory) × IfSome left (λ input. IsRefusal input wh
 abbrev pub HasNoGame : List ℕ → RecordError → Type 0
 HasNoGame input why = (c : Trees) × Spells input c × IsGameOf c None (Err why)
 
--- so for the whole input, and it isn't lack of memory
+-- the whole input has no game for this reason, which isn't lack of memory
 abbrev pub RefusesGame : Option (List ℕ) → RecordError → Type 0
 RefusesGame left why = (why ≢ record_error.Memory) × IfSome left (λ input. HasNoGame input why)
 
--- a refusal of the record; lack of memory is one of the tool itself
+-- the tool's error for a refused record; lack of memory has its own
 abbrev pub tool_error_of : SgfError → ToolError
 tool_error_of Memory = tool_error.Memory
 tool_error_of why = Sgf why
 
--- a refusal of its game; lack of memory is one of the tool itself
+-- the tool's error for a refused game; lack of memory has its own
 abbrev pub of_game : RecordError → ToolError
 of_game record_error.Memory = tool_error.Memory
 of_game why = Record why
@@ -69,9 +69,9 @@ abbrev pub write_failures_after : {T : Type 0} → Result T ToolError → ℕ �
 write_failures_after (Err Write) old = old + 1
 write_failures_after _ old = old
 
--- What a tool does to its devices. It reads no more than the largest record needs, and finds one end at most.
--- A fault of a device is counted once, if it ended the tool. Something is written only if a fault of the
--- writer ended the tool, or none did, and then nothing is held back.
+-- What a tool does to its devices. It reads at most one byte more than the largest record has, and meets the
+-- end at most once. A fault of a device is counted once, if it ended the tool. After any error but `Write`
+-- nothing is written. After success nothing is held back.
 pub record UsesDevices {T R W : Type 0} (input : source.Ghosts R) (output : sink.Ghosts W) (result : Result T ToolError)
     (reader reader' : R) (writer writer' : W) : Type 0 where
   pub reads : Reads (input.left reader) (input.left reader')

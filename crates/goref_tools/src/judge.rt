@@ -17,13 +17,13 @@ use std::alloc::Allocator;
 /// Reads a record up to the end of the input, and writes the verdict on it in three lines: how many moves its
 /// main line has, the score after them, and whether the record states that score. Of an input that is too
 /// long for a record it reads one byte more than a record may have. Nothing is written before the whole
-/// verdict is there, and the writer is flushed once, after the last byte.
+/// verdict is there. The tool flushes the writer once, after the last byte.
 ///
 /// # Errors
 ///
-/// `Read` and `Write` where a device failed; `Sgf` where the input is no record, and `Record` where
-/// the record has no game; `Memory` where there was none for the record or its game. Only with
-/// `Write` was anything written.
+/// `Read` and `Write` where a device failed; `Sgf` where the input is no record, and `Record` where the
+/// record has no game; `Memory` where there was none for the record or its game. After any error but `Write`
+/// nothing was written.
 pub fn judge_run<A: Allocator + Copy, R: Source, W: Sink>(
     alloc: A,
     reader: &mut R,

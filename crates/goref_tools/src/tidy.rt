@@ -14,12 +14,13 @@ use std::alloc::Allocator;
 
 /// Reads a record up to the end of the input, and writes its canonical spelling. Of an input that is too long
 /// for a record it reads one byte more than a record may have. Nothing is written before the whole record was
-/// read, and the writer is flushed once, after the last byte.
+/// read. The tool flushes the writer once, after the last byte.
 ///
 /// # Errors
 ///
 /// `Read` and `Write` where a device failed; `Sgf` where the input is no record; `Memory` where there was
-/// none for the input. Never `Record`: the game isn't replayed. Only with `Write` was anything written.
+/// none for the input. Never `Record`: the game isn't replayed. After any error but `Write` nothing was
+/// written.
 pub fn tidy_run<A: Allocator + Copy, R: Source, W: Sink>(
     alloc: A,
     reader: &mut R,

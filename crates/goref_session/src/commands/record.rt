@@ -1,4 +1,4 @@
-//! loadsgf: a game that is read of a record.
+//! loadsgf: a game from a record.
 ghost use Rattle.std.specs.Prelude.{◌≡◌, IfErr, IfOk, IsErrOf, OnOk};
 ghost use Rattle.go_game.specs.Standings.{Standing};
 ghost use Rattle.goref_session.specs.Contents.{content_of};
@@ -16,7 +16,7 @@ use go_sgf::{SgfError, check};
 use goref_lines::Request;
 use std::alloc::Allocator;
 
-/// A record that is to be loaded, up to the move of a number where one is given.
+/// A record to load. With a number, only the moves before that move.
 #[derive(Clone, Copy)]
 pub struct Record<'a> {
     pub bytes: &'a [u8],
@@ -50,8 +50,7 @@ pub fn record_asked<'a, A: Allocator + Copy>(
     }
 }
 
-/// Replays a record into a game, or returns why not. After a refusal the game isn't the one that was asked
-/// for.
+/// Replays a record into an empty game, or returns why not. After a refusal the game is empty.
 pub fn load_on<A: Allocator + Copy>(game: &mut Game<A>, source: &Record) -> Result<(), Refusal>
     ensures { (s : Standing) → DecidesBytes s source.now.bytes.now source.now.number
         (after_load s game.new.standing result) }
@@ -63,7 +62,7 @@ pub fn load_on<A: Allocator + Copy>(game: &mut Game<A>, source: &Record) -> Resu
     }
 }
 
-/// The same, with lack of memory apart from all other refusals.
+/// Replays a record into a game. The error tells lack of memory from other refusals.
 fn replay_on<A: Allocator + Copy>(game: &mut Game<A>, source: &Record) -> Result<(), LoadError>
     ensures ok { OnOk result (Loads source.now.bytes.now source.now.number game.new.standing) }
     ensures cannot { IsErrOf result LoadError.Cannot
