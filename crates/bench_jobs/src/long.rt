@@ -130,13 +130,13 @@ fn vacant(game: &Game<Global>, random: &mut Random) -> Option<Point> {
         if at.on(game.size()) && game.colour_at(at).is_none() {
             return Some(at);
         }
-        at = behind(at);
+        at = after(at);
     }
     None
 }
 
 /// The point behind this one in point order, and behind the last one the first.
-fn behind(at: Point) -> Point {
+fn after(at: Point) -> Point {
     if at.col < 18 {
         return Point {
             col: at.col + 1,

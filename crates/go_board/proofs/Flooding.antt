@@ -27,20 +27,20 @@ joined_more : (n : ℕ) (g : Colouring) (seeds : List Bool) (p q : ℕ) → IsJo
 joined_more n g seeds p q h step = (h.0, h.1, (h.2.0 ++ q ∷ [], leads_more n g h.0 h.2.0 p q h.2.1 step))
 
 -- the last that waits is on the board, and without it there is still room
-pub last_on : (n : ℕ) (g : Colouring) (seeds marks : List Bool) (waiting front : List ℕ) (p : ℕ) → waiting ≡ front
+pub last_on : (n : ℕ) (g : Colouring) (seeds marks : List Bool) (waiting prefix : List ℕ) (p : ℕ) → waiting ≡ prefix
     ++ p ∷ [] → IsFlood n g seeds marks waiting → p < n * n
-last_on n g seeds marks waiting front p is flood = flood.on p (flood.marked p (rw is (Contains-push front p)))
+last_on n g seeds marks waiting prefix p is flood = flood.on p (flood.marked p (rw is (Contains-push prefix p)))
 
 -- one turn: the last that waits is taken, and its steps lead to marked points
-pub flood_more : (n : ℕ) (g : Colouring) (seeds marks : List Bool) (waiting front : List ℕ) (p : ℕ) (marks' : List Bool)
+pub flood_more : (n : ℕ) (g : Colouring) (seeds marks : List Bool) (waiting prefix : List ℕ) (p : ℕ) (marks' : List Bool)
     (waiting' : List ℕ)
-    → waiting ≡ front ++ p ∷ [] → IsFlood n g seeds marks waiting
-    → Grows (IsStep n g p) marks front marks' waiting' → ((j : ℕ) → IsStep n g p j → IsMarked marks' j)
+    → waiting ≡ prefix ++ p ∷ [] → IsFlood n g seeds marks waiting
+    → Grows (IsStep n g p) marks prefix marks' waiting' → ((j : ℕ) → IsStep n g p j → IsMarked marks' j)
     → IsFlood n g seeds marks' waiting'
-flood_more n g seeds marks waiting front p marks' waiting' is flood grows done =
-    let p_marked : IsMarked marks p = flood.marked p (rw is (Contains-push front p)) in
-    let front_marked : (j : ℕ) → Contains front j → IsMarked marks j = λ j w.
-    flood.marked j (rw is (Contains-append_left front (p ∷ []) j w)) in
+flood_more n g seeds marks waiting prefix p marks' waiting' is flood grows done =
+    let p_marked : IsMarked marks p = flood.marked p (rw is (Contains-push prefix p)) in
+    let prefix_marked : (j : ℕ) → Contains prefix j → IsMarked marks j = λ j w.
+    flood.marked j (rw is (Contains-append_left prefix (p ∷ []) j w)) in
     record {
       sound = λ j m. elim (grows.only j m) [
         | inl before ↦ flood.sound j before
@@ -48,10 +48,10 @@ flood_more n g seeds marks waiting front p marks' waiting' is flood grows done =
       ];
       seeded = λ j m. grows.kept j (flood.seeded j m);
       on = λ j m. elim (grows.only j m) [ inl before ↦ flood.on j before | inr new ↦ new.0.0.1 ];
-      marked = λ j w. elim (grows.waiting_only j w) [ inl before ↦ grows.kept j (front_marked j before) | inr m ↦ m ];
+      marked = λ j w. elim (grows.waiting_only j w) [ inl before ↦ grows.kept j (prefix_marked j before) | inr m ↦ m ];
       closed = λ j m. elim (grows.only j m) [
         | inl before ↦ elim (flood.closed j before) [
-          | inl waits ↦ elim (Contains-push_cases front p j (rw is at waits)) [
+          | inl waits ↦ elim (Contains-push_cases prefix p j (rw is at waits)) [
             | inl still ↦ inl (grows.waits j still)
             | inr taken ↦ inr (λ q step. done q (subst (λ (k : ℕ). IsStep n g k q) (sym taken) step))
           ]

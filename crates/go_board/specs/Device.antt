@@ -10,15 +10,15 @@ abbrev pub after_bytes : List ℕ → Option (List ℕ) → Option (List ℕ)
 after_bytes first known = option_map (λ xs. first ++ xs) known
 
 -- a device that took a prefix of a text, and nothing else
-pub record TakesFront (old new : Option (List ℕ)) (text : List ℕ) : Type 0 where
-  pub front : List ℕ
+pub record TakesPrefix (old new : Option (List ℕ)) (text : List ℕ) : Type 0 where
+  pub prefix : List ℕ
   pub rest : List ℕ
-  pub whole : text ≡ front ++ rest
-  pub taken : new ≡ then_bytes old front
+  pub whole : text ≡ prefix ++ rest
+  pub taken : new ≡ then_bytes old prefix
 
 -- a text that was sent: taken whole, or a prefix of it where that failed
 abbrev pub Sent : {T E : Type 0} → Result T E → Option (List ℕ) → Option (List ℕ) → List ℕ → Type 0
-Sent r old new text = MatchResult r (λ _. new ≡ then_bytes old text) (λ _. TakesFront old new text)
+Sent r old new text = MatchResult r (λ _. new ≡ then_bytes old text) (λ _. TakesPrefix old new text)
 
 -- the count of failures after a call with this result: one more where it failed
 abbrev pub failures_after : {T E : Type 0} → Result T E → ℕ → ℕ

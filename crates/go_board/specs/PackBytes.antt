@@ -18,4 +18,4 @@ are_zero bytes = list_all (λ b. nat_eq b 0) bytes
 
 -- the pack with these first bytes, and 0 after them
 abbrev pub pack_of_front : List ℕ → Packed
-pack_of_front front = record { bytes = front ++ replicate (PACK_BYTES - length front) 0 }
+pack_of_front prefix = record { bytes = prefix ++ replicate (PACK_BYTES - length prefix) 0 }

@@ -2,12 +2,12 @@
 use Rattle.std.specs.Prelude.{◌≡◌, ◌+◌, ◌++◌, ℕ, Bool, true, false, if◌then◌else◌, List, Option}
 use Rattle.go_board.specs.declared.device.Sink.{Ghosts}
 use Rattle.go_board.specs.declared.pen.Pen.{Pen}
-use Rattle.go_board.specs.Device.{TakesFront, then_bytes}
+use Rattle.go_board.specs.Device.{TakesPrefix, then_bytes}
 
 -- what a device took of a text written so far: all of it, or a prefix of it after a fault
 abbrev pub TookSoFar : Bool → Option (List ℕ) → Option (List ℕ) → List ℕ → Type 0
 TookSoFar false start now text = now ≡ then_bytes start text
-TookSoFar true start now text = TakesFront start now text
+TookSoFar true start now text = TakesPrefix start now text
 
 -- from a start on a device was given this text, and it failed at most once since
 pub record Wrote (has_failed : Bool) (start now : Option (List ℕ))

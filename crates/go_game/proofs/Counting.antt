@@ -28,16 +28,16 @@ own_more n cells c (At p) plays next rest tail turn =
     ap (λ (l : List (List Change)). own_changes (At p) (l ++ tail)) turn.1
     ∙ sym (ap (λ (l : List (List Change)). own_changes (At p) l) turn.1)
 
-behind_is : (n : ℕ) (cells : List ℕ) (c : Colour) (v : Vertex) (plays : List (List Change)) (next : List ℕ)
+later_is : (n : ℕ) (cells : List ℕ) (c : Colour) (v : Vertex) (plays : List (List Change)) (next : List ℕ)
     (rest : List (List Change)) → IsTurn n cells c v plays next rest → plays_after v plays ≡ rest
-behind_is n cells c Pass plays next rest turn = sym turn.1
-behind_is n cells c (At p) plays next rest turn = ap (λ (l : List (List Change)). plays_after (At p) l) turn.1
+later_is n cells c Pass plays next rest turn = sym turn.1
+later_is n cells c (At p) plays next rest turn = ap (λ (l : List (List Change)). plays_after (At p) l) turn.1
 
-behind_more : (n : ℕ) (cells : List ℕ) (c : Colour) (v : Vertex) (plays : List (List Change)) (next : List ℕ)
+after_more : (n : ℕ) (cells : List ℕ) (c : Colour) (v : Vertex) (plays : List (List Change)) (next : List ℕ)
     (rest tail : List (List Change)) → IsTurn n cells c v plays next rest → plays_after v (plays ++ tail) ≡ rest
     ++ tail
-behind_more n cells c Pass plays next rest tail turn = ap (λ (l : List (List Change)). l ++ tail) (sym turn.1)
-behind_more n cells c (At p) plays next rest tail turn =
+after_more n cells c Pass plays next rest tail turn = ap (λ (l : List (List Change)). l ++ tail) (sym turn.1)
+after_more n cells c (At p) plays next rest tail turn =
     ap (λ (l : List (List Change)). plays_after (At p) (l ++ tail)) turn.1
 
 -- one move more has its changes behind those of the earlier ones
@@ -51,10 +51,10 @@ changes_push n first (x ∷ moves) plays last m tail went =
     let own : List Change = own_changes x.vertex plays in
     ap₂ (λ (mine : List Change) (l : List (List Change)). mine ∷ changes_of (moves ++ m ∷ []) l)
     (own_more n first x.colour x.vertex plays went.0 went.1 tail went.2)
-    (behind_more n first x.colour x.vertex plays went.0 went.1 tail went.2)
+    (after_more n first x.colour x.vertex plays went.0 went.1 tail went.2)
     ∙ ap (λ (l : List (List Change)). own ∷ l) (changes_push n went.0 moves went.1 last m tail went.3)
     ∙ ap (λ (l : List (List Change)). own ∷ changes_of moves l ++ own_changes m.vertex tail ∷ [])
-    (sym (behind_is n first x.colour x.vertex plays went.0 went.1 went.2))
+    (sym (later_is n first x.colour x.vertex plays went.0 went.1 went.2))
 
 -- each move has its changes
 pub as_many : (moves : List Move) (plays : List (List Change)) → length (changes_of moves plays) ≡ length moves

@@ -138,8 +138,8 @@ module _ (test : ℕ → Bool) (c : Option Colour) (g : Colouring) where
         ap (λ (h : Colouring). colour_at h j) (painted_more m)
         ∙ other_step m j (test m) refl (λ e x. omega (arith, before, x))
         ∙ painted_same m j (omega (arith, few)) before on
-    | inr behind ↦
-        let is : j ≡ m = omega (arith, low, behind) in
+    | inr after ↦
+        let is : j ≡ m = omega (arith, low, after) in
         let room : m < length (painted m) =
         rw (set_length c (filter test (range_with_len 0 m)) g) (omega (arith, few)) in
         ap (λ (h : Colouring). colour_at h j) (painted_more m)

@@ -73,9 +73,9 @@ set_bad n c g values value later new h e =
 
 -- ---- row by row
 
-front_of : {X : Type 0} (P : X → Type 0) (xs ys : List X) → All P (xs ++ ys) → All P xs
-front_of P xs ys h = let front : All P (take (length xs) (xs ++ ys)) = All-take P (length xs) (xs ++ ys) h in
-    rw take-append_seam at front
+prefix_of : {X : Type 0} (P : X → Type 0) (xs ys : List X) → All P (xs ++ ys) → All P xs
+prefix_of P xs ys h = let prefix : All P (take (length xs) (xs ++ ys)) = All-take P (length xs) (xs ++ ys) h in
+    rw take-append_seam at prefix
 
 back_of : {X : Type 0} (P : X → Type 0) (xs ys : List X) → All P (xs ++ ys) → All P ys
 back_of P xs ys h = let back : All P (drop (length xs) (xs ++ ys)) = All-drop P (length xs) (xs ++ ys) h in
@@ -87,7 +87,7 @@ pub all_in_row : {X : Type 0} (P : X → Type 0) (row : ℕ → List X) (a m k :
 all_in_row P row a zero k low h = absurd (let e : ⊥ = omega (arith, low) in e)
 all_in_row P row a (suc m) zero low h =
     subst (λ (j : ℕ). All P (row j)) (let e : a ≡ a + 0 = omega arith in e)
-    (front_of P (row a) (flat_map row (range_with_len (a + 1) m)) h)
+    (prefix_of P (row a) (flat_map row (range_with_len (a + 1) m)) h)
 all_in_row P row a (suc m) (suc k) low h =
     subst (λ (j : ℕ). All P (row j)) (let e : a + 1 + k ≡ a + suc k = omega arith in e)
     (all_in_row P row (a + 1) m k (omega (arith, low)) (back_of P (row a) (flat_map row (range_with_len (a + 1) m)) h))

@@ -19,7 +19,7 @@ use Rattle.go_game.specs.declared.superko.Superko.TheVariants.{Positional}
 use Rattle.go_board.specs.Komi.{IsKomi}
 use Rattle.go_game.specs.Standings.{IsLegal, IsSound, Standing, with_move}
 use Rattle.go_sgf.specs.BoardValues.{vertex_in, points_by_values}
-use Rattle.go_sgf.specs.Numbers.{behind_sign, has_minus, hundredths_in, hundredths_by, is_decimal, size_by, size_of_number, trimmed, with_sign, whole_part, decimals_in}
+use Rattle.go_sgf.specs.Numbers.{after_sign, has_minus, hundredths_in, hundredths_by, is_decimal, size_by, size_of_number, trimmed, with_sign, whole_part, decimals_in}
 use Rattle.go_sgf.specs.Record.{Trees}
 use Rattle.go_board.specs.declared.decimals.TheConstants.{MAX_KOMI}
 use Rattle.go_record.specs.declared.error.RecordError.{RecordError}
@@ -113,8 +113,8 @@ komi_range value k h = elim (cases_Bool (is_blank_value value)) [
   | inr some ↦
       let word = trimmed value in
       let told : hundredths_by value ≡ Some k = rw some at h in
-      mapped_range (has_minus word) (size_of_number (behind_sign word)) k
-      (λ n e. size_few (whole_part (behind_sign word)) (decimals_in (behind_sign word)) n e) told
+      mapped_range (has_minus word) (size_of_number (after_sign word)) k
+      (λ n e. size_few (whole_part (after_sign word)) (decimals_in (after_sign word)) n e) told
 ]
 
 -- ---- what holds of each start that a record gives, and stays with each legal move, holds of what the record comes to

@@ -14,7 +14,7 @@ use Rattle.std.proofs.lemmas.List.{append-nil, drop_all, length-append, take_all
 use Rattle.std.proofs.lemmas.List.Sums.{fold-append}
 use Rattle.go_game.specs.Scores.{decimals_of, hundredths_word, size_text}
 use Rattle.go_board.specs.Decimals.{int_of, is_empty, digits_value}
-use Rattle.go_sgf.specs.Numbers.{behind_plus, decimals_in, hundredths_in, hundredths_by, komi_of, number_in, point_place, size_by, size_of_number, trimmed, whole_part, with_sign}
+use Rattle.go_sgf.specs.Numbers.{after_plus, decimals_in, hundredths_in, hundredths_by, komi_of, number_in, point_place, size_by, size_of_number, trimmed, whole_part, with_sign}
 use Rattle.go_board.specs.declared.decimals.TheConstants.{MAX_INT, MAX_KOMI}
 use Rattle.go_sgf.specs.Record.{is_inside}
 use Rattle.go_sgf.specs.Spelling.{without_space, is_space}
@@ -102,9 +102,9 @@ low_inside (x ∷ xs) h = rw (unequal x 93 h.0.0, unequal x 92 h.0.1) (low_insid
 
 -- ---- numbers
 
-behind_digits : (ds : List ℕ) → AllByRecursion IsDigit ds → behind_plus ds ≡ ds
-behind_digits [] h = refl
-behind_digits (d ∷ ds) h = rw (unequal d 43 (λ e. omega (arith, e, h.0.0))) refl
+after_digits : (ds : List ℕ) → AllByRecursion IsDigit ds → after_plus ds ≡ ds
+after_digits [] h = refl
+after_digits (d ∷ ds) h = rw (unequal d 43 (λ e. omega (arith, e, h.0.0))) refl
 
 pub digits_no_space : (ds : List ℕ) → AllByRecursion IsDigit ds → AllByRecursion NoSpace ds
 digits_no_space ds h = all_weaker {P = IsDigit} {Q = NoSpace}
@@ -112,8 +112,8 @@ digits_no_space ds h = all_weaker {P = IsDigit} {Q = NoSpace}
 
 pub number_read : (n : ℕ) (ds : List ℕ) → IsDecimal n ds → n ≤ MAX_INT → number_in ds ≡ Some n
 number_read n ds is few =
-    ap (λ v. int_of (behind_plus v)) (trimmed_same ds (digits_no_space ds is.digits))
-    ∙ ap int_of (behind_digits ds is.digits)
+    ap (λ v. int_of (after_plus v)) (trimmed_same ds (digits_no_space ds is.digits))
+    ∙ ap int_of (after_digits ds is.digits)
     ∙ rw (is.some, digits_test ds is.digits, is.value, le-leb n MAX_INT few) refl
 
 -- ---- komi
@@ -136,8 +136,8 @@ no_point ds h =
     ∙ (let z : length ds + 0 ≡ length ds = omega arith in z) in
     rw (e, not_less (length ds)) refl
 
-point_behind : (ds es : List ℕ) → AllByRecursion IsDigit ds → position is_point (ds ++ 46 ∷ es) ≡ Some (length ds)
-point_behind ds es h =
+point_after : (ds es : List ℕ) → AllByRecursion IsDigit ds → position is_point (ds ++ 46 ∷ es) ≡ Some (length ds)
+point_after ds es h =
     let e : prefix_len (λ c. not (is_point c)) (ds ++ 46 ∷ es) ≡ length ds =
     before_point ds (46 ∷ es) h ∙ (let z : length ds + 0 ≡ length ds = omega arith in z) in
     let low : nat_lt (length ds) (length (ds ++ 46 ∷ es)) ≡ true =
@@ -160,7 +160,7 @@ parts_alone w h =
 parts_point : (w d : List ℕ) → AllByRecursion IsDigit w → HasParts (w ++ 46 ∷ d) w d
 parts_point w d h =
     let at : point_place (w ++ 46 ∷ d) ≡ length w =
-    ap (λ (o : Option ℕ). unwrap_or o (length (w ++ 46 ∷ d))) (point_behind w d h) in
+    ap (λ (o : Option ℕ). unwrap_or o (length (w ++ 46 ∷ d))) (point_after w d h) in
     record {
       whole = rw at (take-append_seam w (46 ∷ d));
       decimals = rw at (ap (drop 1) (drop-append_seam w (46 ∷ d)));

@@ -38,9 +38,9 @@ named_push name n (j ∷ ks) k =
     ∙ ap (λ xs. name ++ xs) (ap (λ xs. flat_map (point_text n) (j ∷ ks) ++ xs) (sym (append-nil (point_text n k)))
     ∙ sym (flat_map-append (point_text n) (j ∷ ks) (k ∷ [])))
 
-front_push : (name : List ℕ) (ks : List ℕ) (k : ℕ) → [] ≡ in_front name (ks ++ k ∷ [])
-front_push name [] k = refl
-front_push name (j ∷ ks) k = refl
+prefix_push : (name : List ℕ) (ks : List ℕ) (k : ℕ) → [] ≡ in_front name (ks ++ k ∷ [])
+prefix_push name [] k = refl
+prefix_push name (j ∷ ks) k = refl
 
 by_test : (name : List ℕ) (n : ℕ) (ks : List ℕ) (k : ℕ) (b : Bool) →
     named_stones name n ks ++ (if b then in_front name ks ++ point_text n k else []) ≡ named_stones name n
@@ -48,10 +48,10 @@ by_test : (name : List ℕ) (n : ℕ) (ks : List ℕ) (k : ℕ) (b : Bool) →
 by_test name n ks k true = named_push name n ks k
 by_test name n ks k false = append-nil (named_stones name n ks) ∙ ap (named_stones name n) (sym (append-nil ks))
 
-front_by_test : (name : List ℕ) (ks : List ℕ) (k : ℕ) (b : Bool) →
+prefix_by_test : (name : List ℕ) (ks : List ℕ) (k : ℕ) (b : Bool) →
     (if b then [] else in_front name ks) ≡ in_front name (ks ++ (if b then k ∷ [] else []))
-front_by_test name ks k true = front_push name ks k
-front_by_test name ks k false = ap (in_front name) (sym (append-nil ks))
+prefix_by_test name ks k true = prefix_push name ks k
+prefix_by_test name ks k false = ap (in_front name) (sym (append-nil ks))
 
 -- one more point of the board, with what is written of it
 pub stones_more : (name : List ℕ) (n : ℕ) (g : Colouring) (c : Colour) (k : ℕ) →
@@ -62,11 +62,11 @@ stones_more name n g c k =
     by_test name n (coloured_within g c k) k (has_colour g k (Some c))
     ∙ ap (named_stones name n) (sym (chosen_more (λ j. has_colour g j (Some c)) k))
 
-pub front_more : (name : List ℕ) (g : Colouring) (c : Colour) (k : ℕ) →
+pub prefix_more : (name : List ℕ) (g : Colouring) (c : Colour) (k : ℕ) →
     (if has_colour g k (Some c) then [] else in_front name (coloured_within g c k)) ≡ in_front name
     (coloured_within g c (k + 1))
-front_more name g c k =
-    front_by_test name (coloured_within g c k) k (has_colour g k (Some c))
+prefix_more name g c k =
+    prefix_by_test name (coloured_within g c k) k (has_colour g k (Some c))
     ∙ ap (in_front name) (sym (chosen_more (λ j. has_colour g j (Some c)) k))
 
 got_more : {X : Type 0} (xs : List X) (i : ℕ) → take i xs ++ option_to_list (slice_get xs i) ≡ take (suc i) xs
@@ -147,7 +147,7 @@ tail_text-is s =
     let black_text : List ℕ = stones_text s (codes "AB") Black in
     let white_text : List ℕ = stones_text s (codes "AW") White in
     let end : List ℕ = flat_map (move_text s.lines) s.moves ++ codes ")" in
-    let front : text_of_parts stones ≡ black_text ++ white_text =
+    let prefix : text_of_parts stones ≡ black_text ++ white_text =
     properties_append blacks whites
     ∙ ap (λ xs. xs ++ properties_text whites)
     (stones_text-is (codes "AB") refl s.lines (points_coloured s.lines s.start Black))
@@ -155,18 +155,18 @@ tail_text-is s =
     let back : text_of_parts (moves ++ (closing ∷ [])) ≡ end =
     joined-append moves (closing ∷ []) ∙ ap (λ xs. xs ++ codes ")") (moves_text-is s.lines s.moves) in
     ap text_of_parts (append_assoc stones moves (closing ∷ [])) ∙ joined-append stones (moves ++ (closing ∷ []))
-    ∙ ap (λ xs. xs ++ text_of_parts (moves ++ (closing ∷ []))) front ∙ ap (λ xs. (black_text ++ white_text) ++ xs) back
+    ∙ ap (λ xs. xs ++ text_of_parts (moves ++ (closing ∷ []))) prefix ∙ ap (λ xs. (black_text ++ white_text) ++ xs) back
     ∙ append_assoc black_text white_text end
 
-front_text-is : (lines komi first tail : List ℕ) →
+prefix_text-is : (lines komi first tail : List ℕ) →
     (codes "(;GM[1]FF[4]SZ[" ++ (lines ++ (codes "]KM[" ++ komi))) ++ ((codes "]PL[" ++ (first ++ codes "]")) ++ tail)
     ≡ codes "(;GM[1]FF[4]SZ" ++ ((91 ∷ (lines ++ 93 ∷ []))
     ++ (codes "KM" ++ ((91 ∷ (komi ++ 93 ∷ [])) ++ (codes "PL" ++ ((91 ∷ (first ++ 93 ∷ [])) ++ tail)))))
-front_text-is lines komi first tail = simp append_assoc refl
+prefix_text-is lines komi first tail = simp append_assoc refl
 
 pub record_text-is : (s : Standing) → opening_text s ++ (first_turn_text s ++ tail_text s) ≡ record_body s
 record_text-is s =
-    front_text-is (decimal s.lines) (hundredths_word s.komi) (colour_letter s.first) (tail_text s)
+    prefix_text-is (decimal s.lines) (hundredths_word s.komi) (colour_letter s.first) (tail_text s)
     ∙ ap (λ tail. codes "(;GM[1]FF[4]SZ"
     ++ ((91 ∷ (decimal s.lines ++ 93 ∷ [])) ++ (codes "KM" ++ ((91 ∷ (hundredths_word s.komi ++ 93 ∷ []))
     ++ (codes "PL" ++ ((91 ∷ (colour_letter s.first ++ 93 ∷ [])) ++ tail)))))) (sym (tail_text-is s))

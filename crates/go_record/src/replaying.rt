@@ -13,7 +13,7 @@ ghost use Rattle.go_sgf.specs.Spelling.{OfRecord, Spells};
 use crate::error::RecordError;
 use crate::root::{Root, root_of, root_values};
 use crate::state::{Left, Walk};
-use crate::walk::next;
+use crate::walk::next_number;
 use go_board::Grid;
 use go_game::Game;
 use go_sgf::laws::one_record;
@@ -82,7 +82,7 @@ pub fn replay_source_on<A: Allocator + Copy>(
         (λ e. e ≢ Memory → IsGameOf c number (Err e))) }
     ensures vacant { OnErr result (is_vacant_standing game.new.standing ≡ true) }
 {
-    match bring(game, source, number) {
+    match replay_into(game, source, number) {
         Ok(()) => Ok(()),
         Err(why) => {
             game.clear();
@@ -92,7 +92,7 @@ pub fn replay_source_on<A: Allocator + Copy>(
 }
 
 /// As [`replay_source_on`], but after a refusal the game is as the walk left it.
-fn bring<A: Allocator + Copy>(
+fn replay_into<A: Allocator + Copy>(
     game: &mut Game<A>,
     source: &Checked<'_>,
     number: Option<u32>,
@@ -157,7 +157,7 @@ fn visit_line<A: Allocator + Copy>(
         if walk.is_over() {
             return Ok(());
         }
-        count = next(count)?;
+        count = next_number(count)?;
     }
     Ok(())
 }

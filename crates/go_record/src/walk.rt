@@ -42,7 +42,7 @@ impl Walk {
         let mut again = line.fork();
         match self.set_up(line, number)? {
             MovesMet::NoMove => Ok(()),
-            MovesMet::OneMove(colour, value) => self.take_turn(game, colour, value, number),
+            MovesMet::OneMove(colour, value) => self.play_unless_over(game, colour, value, number),
             MovesMet::MoreMoves => self.play_moves(game, &mut again, number),
         }
     }
@@ -135,7 +135,7 @@ impl Walk {
         ensures onward { length line.new ≤ length line.old }
     {
         match kind {
-            Kind::Move(colour) => self.take_turn(game, colour, first_value(line), node),
+            Kind::Move(colour) => self.play_unless_over(game, colour, first_value(line), node),
             Kind::Stones(_) | Kind::Turn | Kind::Other => Ok(()),
         }
     }
@@ -192,7 +192,7 @@ impl Walk {
     }
 
     /// Plays the move of a value, unless the walk ends before it.
-    fn take_turn<A: Allocator + Copy>(
+    fn play_unless_over<A: Allocator + Copy>(
         &mut self,
         game: &mut Game<A>,
         colour: Colour,
@@ -299,7 +299,7 @@ fn refusal(count: usize, why: PlayError) -> RecordError
     ensures { result ≢ Memory
         → (result ≡ RecordError.Illegal (count + 1) why) × (why ≢ PlayError.Memory) }
 {
-    match (why, next(count)) {
+    match (why, next_number(count)) {
         (PlayError::Memory, _) => RecordError::Memory,
         (_, Ok(number)) => RecordError::Illegal(number, why),
         (_, Err(error)) => error,
@@ -308,7 +308,7 @@ fn refusal(count: usize, why: PlayError) -> RecordError
 
 /// The number after this one, of a node or a move. The greatest number has none, but no record has that
 /// number of nodes.
-pub(crate) fn next(number: usize) -> Result<usize, RecordError>
+pub(crate) fn next_number(number: usize) -> Result<usize, RecordError>
     ensures ok { IfOk result (λ after. after ≡ number + 1) }
     ensures err { IfErr result (λ e. e ≡ Memory) }
 {

@@ -176,12 +176,12 @@ canonical-again (tree nodes children later) =
 canonical_parts : (c : Trees) → AreTrees (plain c) → SpellsParts (canonical c) (parts (plain c)) []
 canonical_parts none h = refl
 canonical_parts (tree nodes children later) h =
-    let front : List Part = flat_map node_parts (map (map plain_property) nodes) in
-    let first : List Part = opening ∷ (front ++ (parts (plain children) ++ (closing ∷ []))) in
+    let prefix : List Part = flat_map node_parts (map (map plain_property) nodes) in
+    let first : List Part = opening ∷ (prefix ++ (parts (plain children) ++ (closing ∷ []))) in
     let rest : List ℕ = 10 ∷ canonical later in
     let begins : AllByRecursion Begins first = (
       tt,
-      AllByRecursion-append Begins front (parts (plain children) ++ (closing ∷ []))
+      AllByRecursion-append Begins prefix (parts (plain children) ++ (closing ∷ []))
           (nodes_begin (map (map plain_property) nodes) h.1)
           (AllByRecursion-append Begins (parts (plain children)) (closing ∷ []) (trees_begin (plain children) h.2)
           (tt, tt)),
@@ -191,8 +191,8 @@ canonical_parts (tree nodes children later) h =
     (canonical_parts later h.3) in
     let whole : first ++ parts (plain later) ≡ parts (plain (tree nodes children later)) =
     ap (λ ps. opening ∷ ps)
-    (append_assoc front (parts (plain children) ++ (closing ∷ [])) (parts (plain later))
-    ∙ ap (λ ps. front ++ ps) (append_assoc (parts (plain children)) (closing ∷ []) (parts (plain later)))) in
+    (append_assoc prefix (parts (plain children) ++ (closing ∷ [])) (parts (plain later))
+    ∙ ap (λ ps. prefix ++ ps) (append_assoc (parts (plain children)) (closing ∷ []) (parts (plain later)))) in
     let P : List Part → Type 0 = λ ps. SpellsParts (canonical (tree nodes children later)) ps [] in
     subst P whole
     (SpellsParts-append first (parts (plain later)) (text_of_parts first ++ rest) (without_space rest) []

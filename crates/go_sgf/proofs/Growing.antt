@@ -79,18 +79,18 @@ module _ (limit : ℕ) where
   close_stops d ps b rest h e f = machine.closed_stops limit d rest (no_space_after ps b rest h) e f
 
   -- past the `)` of the tree itself
-  pub closes : (d : ℕ) → IsWithin limit d → (b behind : List ℕ) → b ≡ 41 ∷ behind →
-      outcome limit closed d b ≡ outcome_after limit d (without_space behind)
-  closes zero h b behind e = absurd (omega arith)
-  closes (suc zero) h b behind e =
+  pub closes : (d : ℕ) → IsWithin limit d → (b after : List ℕ) → b ≡ 41 ∷ after →
+      outcome limit closed d b ≡ outcome_after limit d (without_space after)
+  closes zero h b after e = absurd (omega arith)
+  closes (suc zero) h b after e =
       let shallow : (0 == suc limit) ≡ false = grind (arith, nat_tests) in
-      ap (outcome limit closed 1) e ∙ machine.outcome_more limit closed 1 41 behind ∙ rw shallow refl
-  closes (suc (suc d)) h b behind e =
+      ap (outcome limit closed 1) e ∙ machine.outcome_more limit closed 1 41 after ∙ rw shallow refl
+  closes (suc (suc d)) h b after e =
       let other : (suc (suc d) == 1) ≡ false = grind (arith, nat_tests) in
       let same : suc (suc d) - 1 ≡ suc d = omega arith in
       ap (outcome limit closed (suc (suc d))) e
-      ∙ machine.goes_on limit closed (suc (suc d)) 41 behind closed (suc d) refl (omega arith, omega arith)
-      ∙ machine.closed_white limit (suc d) (omega arith, omega arith) behind
+      ∙ machine.goes_on limit closed (suc (suc d)) 41 after closed (suc d) refl (omega arith, omega arith)
+      ∙ machine.closed_white limit (suc d) (omega arith, omega arith) after
       ∙ rw (other, same) refl
 
 pub tree_le : (d : ℕ) (b : List ℕ) (t : TreeValue) (rest : List ℕ) → ReadsTree d b t rest → length rest ≤ length b
@@ -152,20 +152,20 @@ tree_more d h less b ns ts ts' rest inside t more far e f r place =
     })
 
 -- behind the last child
-pub tree_whole : (d : ℕ) (b : List ℕ) (ns : List (List Property)) (ts : List TreeValue) (at rest behind : List ℕ) →
+pub tree_whole : (d : ℕ) (b : List ℕ) (ns : List (List Property)) (ts : List TreeValue) (at rest after : List ℕ) →
     ReadsNodes b ns at → TreeSoFar d b ns ts rest →
-    rest ≡ 41 ∷ behind → ReadsToEnd d b (ns, chain ts) behind
-tree_whole d b ns ts at rest behind r far e = record {
+    rest ≡ 41 ∷ after → ReadsToEnd d b (ns, chain ts) after
+tree_whole d b ns ts at rest after r far e = record {
   tree = record {
     some = r.some;
     nodes = r.fit;
     children = far.fit;
     nesting = far.nesting;
     spelling =
-        let P : List Part → Type 0 = λ ps. SpellsParts b ps (without_space behind) in
+        let P : List Part → Type 0 = λ ps. SpellsParts b ps (without_space after) in
         subst P (append_assoc (flat_map node_parts ns) (parts (chain ts)) (closing ∷ []))
-        (SpellsParts-append (flat_map node_parts ns ++ parts (chain ts)) (closing ∷ []) b rest (without_space behind)
-        far.spelling (behind, ap without_space e, refl));
+        (SpellsParts-append (flat_map node_parts ns ++ parts (chain ts)) (closing ∷ []) b rest (without_space after)
+        far.spelling (after, ap without_space e, refl));
   };
   closed =
       let Q : List ℕ → Type 0 = λ xs. SpellsParts b (flat_map node_parts ns ++ parts (chain ts)) xs in

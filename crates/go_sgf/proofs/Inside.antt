@@ -29,30 +29,30 @@ pub ordinary_on : (v w : List ℕ) → IsValue v → list_all is_ordinary w ≡ 
 ordinary_on v w h k = is_inside-append false v w h ∙ ordinary_inside w k
 
 -- a place further on, over what stands there
-pub split_further : (n : ℕ) (b front rest : List ℕ) → n ≤ length b → drop n b ≡ front ++ rest →
-    (take (n + length front) b ≡ take n b ++ front) × (b ≡ take (n + length front) b ++ rest)
-split_further n b front rest h e =
-    let whole : b ≡ (take n b ++ front) ++ rest =
-    sym (take-append-drop n b) ∙ ap (λ xs. take n b ++ xs) e ∙ sym (append_assoc (take n b) front rest) in
-    let long : length (take n b ++ front) ≡ n + length front =
-    length-append (take n b) front ∙ ap (λ k. k + length front) (length-take-le n b h) in
-    let front_is : take (n + length front) b ≡ take n b ++ front =
-    ap (take (n + length front)) whole ∙ take_at (take n b ++ front) rest (n + length front) long in
-    (front_is, whole ∙ ap (λ xs. xs ++ rest) (sym front_is))
+pub split_further : (n : ℕ) (b prefix rest : List ℕ) → n ≤ length b → drop n b ≡ prefix ++ rest →
+    (take (n + length prefix) b ≡ take n b ++ prefix) × (b ≡ take (n + length prefix) b ++ rest)
+split_further n b prefix rest h e =
+    let whole : b ≡ (take n b ++ prefix) ++ rest =
+    sym (take-append-drop n b) ∙ ap (λ xs. take n b ++ xs) e ∙ sym (append_assoc (take n b) prefix rest) in
+    let long : length (take n b ++ prefix) ≡ n + length prefix =
+    length-append (take n b) prefix ∙ ap (λ k. k + length prefix) (length-take-le n b h) in
+    let prefix_is : take (n + length prefix) b ≡ take n b ++ prefix =
+    ap (take (n + length prefix)) whole ∙ take_at (take n b ++ prefix) rest (n + length prefix) long in
+    (prefix_is, whole ∙ ap (λ xs. xs ++ rest) (sym prefix_is))
 
 -- the byte behind what stands there
-pub byte_at : (n : ℕ) (b front : List ℕ) (c : ℕ) (more : List ℕ) → n ≤ length b → drop n b ≡ front ++ (c ∷ more) →
-    (n + length front < length b) × (get_or b (n + length front) 0 ≡ c)
-byte_at n b front c more h e =
-    let split = split_further n b front (c ∷ more) h e in
-    let long : length (take (n + length front) b) ≡ n + length front =
-    ap length split.0 ∙ length-append (take n b) front ∙ ap (λ k. k + length front) (length-take-le n b h) in
-    let less : n + length front < length b =
-    omega (arith, ap length split.1, length-append (take (n + length front) b) (c ∷ more), long) in
-    let front_is : List ℕ = take (n + length front) b in (
+pub byte_at : (n : ℕ) (b prefix : List ℕ) (c : ℕ) (more : List ℕ) → n ≤ length b → drop n b ≡ prefix ++ (c ∷ more) →
+    (n + length prefix < length b) × (get_or b (n + length prefix) 0 ≡ c)
+byte_at n b prefix c more h e =
+    let split = split_further n b prefix (c ∷ more) h e in
+    let long : length (take (n + length prefix) b) ≡ n + length prefix =
+    ap length split.0 ∙ length-append (take n b) prefix ∙ ap (λ k. k + length prefix) (length-take-le n b h) in
+    let less : n + length prefix < length b =
+    omega (arith, ap length split.1, length-append (take (n + length prefix) b) (c ∷ more), long) in
+    let prefix_is : List ℕ = take (n + length prefix) b in (
       less,
-      ap (λ xs. get_or xs (n + length front) 0) split.1 ∙ ap (λ k. get_or (front_is ++ (c ∷ more)) k 0) (sym long)
-          ∙ get_or-append_seam front_is c more 0,
+      ap (λ xs. get_or xs (n + length prefix) 0) split.1 ∙ ap (λ k. get_or (prefix_is ++ (c ∷ more)) k 0) (sym long)
+          ∙ get_or-append_seam prefix_is c more 0,
     )
 
 -- the byte where a search for `]` and `\` stops
@@ -63,44 +63,44 @@ stop_is_escape c h ne = elim (or_cases (c == 93) (c == 92) (not-false _ h)) [
 ]
 
 -- a value up to a `]`
-pub value_up_to : (n : ℕ) (b front rest : List ℕ) → n ≤ length b → IsValue (take n b) →
-    list_all is_ordinary front ≡ true →
-    drop n b ≡ front ++ rest → IsValue (take (n + length front) b)
-value_up_to n b front rest h v o e =
+pub value_up_to : (n : ℕ) (b prefix rest : List ℕ) → n ≤ length b → IsValue (take n b) →
+    list_all is_ordinary prefix ≡ true →
+    drop n b ≡ prefix ++ rest → IsValue (take (n + length prefix) b)
+value_up_to n b prefix rest h v o e =
     let P : List ℕ → Type 0 = λ xs. IsValue xs in
-    subst P (sym (split_further n b front rest h e).0) (ordinary_on (take n b) front v o)
+    subst P (sym (split_further n b prefix rest h e).0) (ordinary_on (take n b) prefix v o)
 
-escape_inside : (front : List ℕ) (x : ℕ) → list_all is_ordinary front ≡ true → IsValue (front ++ (92 ∷ x ∷ []))
-escape_inside front x o = is_inside-append false front (92 ∷ x ∷ []) (ordinary_inside front o)
+escape_inside : (prefix : List ℕ) (x : ℕ) → list_all is_ordinary prefix ≡ true → IsValue (prefix ++ (92 ∷ x ∷ []))
+escape_inside prefix x o = is_inside-append false prefix (92 ∷ x ∷ []) (ordinary_inside prefix o)
 
-past_escape : (n : ℕ) (b front : List ℕ) (x : ℕ) (rest : List ℕ) → n ≤ length b → IsValue (take n b) →
-    list_all is_ordinary front ≡ true → drop n b ≡ front ++ (92 ∷ x ∷ rest) →
-    (n + length front + 2 ≤ length b) × IsValue (take (n + length front + 2) b)
-past_escape n b front x rest h v o e =
-    let both : List ℕ = front ++ (92 ∷ x ∷ []) in
-    let split = split_further n b both rest h (e ∙ sym (append_assoc front (92 ∷ x ∷ []) rest)) in
-    let long : n + length both ≡ n + length front + 2 = omega (arith, length-append front (92 ∷ x ∷ [])) in
-    let within : n + length front + 2 ≤ length b =
+past_escape : (n : ℕ) (b prefix : List ℕ) (x : ℕ) (rest : List ℕ) → n ≤ length b → IsValue (take n b) →
+    list_all is_ordinary prefix ≡ true → drop n b ≡ prefix ++ (92 ∷ x ∷ rest) →
+    (n + length prefix + 2 ≤ length b) × IsValue (take (n + length prefix + 2) b)
+past_escape n b prefix x rest h v o e =
+    let both : List ℕ = prefix ++ (92 ∷ x ∷ []) in
+    let split = split_further n b both rest h (e ∙ sym (append_assoc prefix (92 ∷ x ∷ []) rest)) in
+    let long : n + length both ≡ n + length prefix + 2 = omega (arith, length-append prefix (92 ∷ x ∷ [])) in
+    let within : n + length prefix + 2 ≤ length b =
     omega (
       arith,
       ap length split.1,
       length-append (take (n + length both) b) rest,
-      length-append front (92 ∷ x ∷ []),
+      length-append prefix (92 ∷ x ∷ []),
       length-append (take n b) both,
       ap length split.0,
       length-take-le n b h,
     ) in
     let inside : IsValue (take (n + length both) b) =
-    rw split.0 (is_inside-append false (take n b) both v ∙ escape_inside front x o) in
+    rw split.0 (is_inside-append false (take n b) both v ∙ escape_inside prefix x o) in
     let P : ℕ → Type 0 = λ k. IsValue (take k b) in
     (within, subst P long inside)
 
 -- a value past a `\` and the byte after it
-pub value_past_escape : (n : ℕ) (b front more : List ℕ) → n ≤ length b → IsValue (take n b) →
-    list_all is_ordinary front ≡ true → drop n b ≡ front ++ (92 ∷ more) → (length more == 0) ≡ false →
-    (n + length front + 2 ≤ length b) × IsValue (take (n + length front + 2) b)
-value_past_escape n b front [] h v o e some = cc
-value_past_escape n b front (x ∷ rest) h v o e some = past_escape n b front x rest h v o e
+pub value_past_escape : (n : ℕ) (b prefix more : List ℕ) → n ≤ length b → IsValue (take n b) →
+    list_all is_ordinary prefix ≡ true → drop n b ≡ prefix ++ (92 ∷ more) → (length more == 0) ≡ false →
+    (n + length prefix + 2 ≤ length b) × IsValue (take (n + length prefix + 2) b)
+value_past_escape n b prefix [] h v o e some = cc
+value_past_escape n b prefix (x ∷ rest) h v o e some = past_escape n b prefix x rest h v o e
 
 -- ---- no end
 

@@ -78,10 +78,10 @@ none_from p xs i found room is empty before k low high passes = elim (cases_lt k
 ]
 
 -- the place of the first byte that passes, from that among the bytes behind a place up to which none passes
-pub first_behind : (p : ℕ → Bool) (xs : List ℕ) (i k : ℕ) → i ≤ length xs → Nowhere (Passes p xs) 0 i →
+pub first_after : (p : ℕ → Bool) (xs : List ℕ) (i k : ℕ) → i ≤ length xs → Nowhere (Passes p xs) 0 i →
     NoneBefore (Passes p (drop i xs)) 0 (length (drop i xs)) k × Passes p (drop i xs) k →
     NoneBefore (Passes p xs) 0 (length xs) (i + k) × Passes p xs (i + k)
-first_behind p xs i k within before found = (
+first_after p xs i k within before found = (
   record {
     low = omega arith;
     high = omega (arith, found.0.high, length-drop i xs);

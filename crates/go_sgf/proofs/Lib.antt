@@ -15,8 +15,8 @@ pub mod Tidied
 pub mod Canonical
 pub mod Unambiguous
 pub mod LineWalks
-pub mod Fronts
+pub mod Prefixes
 pub mod Walking
-pub mod Fronted
+pub mod Prefixed
 pub mod Rectangles
 pub mod Listing

@@ -42,9 +42,9 @@ begins_no_value (p ∷ ps) own children later b rest i s =
     rw s.1 (letter_no_bracket (p.name ++ s.0) (name_letter p.name s.0 i.0.named))
 
 -- white space before what is left is no matter
-behind_space : (b : List ℕ) (vs : List (List ℕ)) (ps : List Property) (ns : List (List Property)) → IsLeft b vs ps ns →
+after_more_space : (b : List ℕ) (vs : List (List ℕ)) (ps : List Property) (ns : List (List Property)) → IsLeft b vs ps ns →
     IsLeft (without_space b) vs ps ns
-behind_space b vs ps ns l = record {
+after_more_space b vs ps ns l = record {
   own = l.own;
   children = l.children;
   later = l.later;
@@ -71,7 +71,7 @@ pub value_none : (b : List ℕ) (vs : List (List ℕ)) (ps : List Property) (ns 
     (vs ≡ []) × IsLeft (without_space b) [] ps ns
 value_none b vs ps ns l e =
     let none_is = no_value vs (property_rest ps l.own l.children l.later) b l.rest l.spelling e in
-    (none_is, subst (λ (ws : List (List ℕ)). IsLeft (without_space b) ws ps ns) none_is (behind_space b vs ps ns l))
+    (none_is, subst (λ (ws : List (List ℕ)). IsLeft (without_space b) ws ps ns) none_is (after_more_space b vs ps ns l))
 
 no_endless : (vs : List (List ℕ)) (ps : List Property) (own : List (List Property)) (children : Trees)
     (later : List Part) (b rest inside : List ℕ) →
@@ -150,7 +150,7 @@ pub name_none : (b : List ℕ) (ps : List Property) (ns : List (List Property)) 
     (ps ≡ []) × IsLeft (without_space b) [] [] ns
 name_none b ps ns l e =
     let none_is = no_name ps (node_rest l.own l.children l.later) b l.rest l.named l.spelling e in
-    (none_is, subst (λ (qs : List Property). IsLeft (without_space b) [] qs ns) none_is (behind_space b [] ps ns l))
+    (none_is, subst (λ (qs : List Property). IsLeft (without_space b) [] qs ns) none_is (after_more_space b [] ps ns l))
 
 no_letter : (vs : List (List ℕ)) (qs : List Part) (b r : List ℕ) → vs ≢ [] → SpellsParts b (map value_part vs ++ qs) r →
     is_letter_first b ≡ false
@@ -158,20 +158,20 @@ no_letter [] qs b r some s = absurd (some refl)
 no_letter (v ∷ vs) qs b r some s = bracket_no_letter b ((v ++ (93 ∷ [])) ++ s.0) s.1
 
 first_name : (ps : List Property) (own : List (List Property)) (children : Trees) (later : List Part)
-    (b rest name behind : List ℕ) →
+    (b rest name after : List ℕ) →
     AllByRecursion IsProperty ps → SpellsParts b (property_rest ps own children later) rest →
-    without_space b ≡ name ++ behind → list_all is_letter_byte name ≡ true → is_letter_first behind ≡ false →
+    without_space b ≡ name ++ after → list_all is_letter_byte name ≡ true → is_letter_first after ≡ false →
     is_letter_first (without_space b) ≡ true →
     (p : Property) × (qs : List Property) × (ps ≡ p ∷ qs) × (name ≡ p.name) × IsProperty p
     × AllByRecursion IsProperty qs
-    × SpellsParts behind (map value_part p.values ++ property_rest qs own children later) rest
-first_name [] own children later b rest name behind i s e f g letter =
+    × SpellsParts after (map value_part p.values ++ property_rest qs own children later) rest
+first_name [] own children later b rest name after i s e f g letter =
     absurd (true≢false (sym letter ∙ (begins_other own children later b rest s).letter))
-first_name (p ∷ ps) own children later b rest name behind i s e f g letter =
+first_name (p ∷ ps) own children later b rest name after i s e f g letter =
     let values : SpellsParts s.0 (map value_part p.values ++ property_rest ps own children later) rest =
     subst (λ (qs : List Part). SpellsParts s.0 qs rest)
     (append_assoc (map value_part p.values) (flat_map property_parts ps) (node_rest own children later)) s.2 in
-    let same = letters_same p.name name s.0 behind i.0.named.0 f (sym s.1 ∙ e)
+    let same = letters_same p.name name s.0 after i.0.named.0 f (sym s.1 ∙ e)
     (no_letter p.values (property_rest ps own children later) s.0 rest i.0.some values) g in (
       p,
       ps,
@@ -184,12 +184,12 @@ first_name (p ∷ ps) own children later b rest name behind i s e f g letter =
     )
 
 -- a name is that of the next property
-pub name_next : (b name behind : List ℕ) (ps : List Property) (ns : List (List Property)) → IsLeft b [] ps ns →
-    without_space b ≡ name ++ behind → list_all is_letter_byte name ≡ true → is_letter_first behind ≡ false →
+pub name_next : (b name after : List ℕ) (ps : List Property) (ns : List (List Property)) → IsLeft b [] ps ns →
+    without_space b ≡ name ++ after → list_all is_letter_byte name ≡ true → is_letter_first after ≡ false →
     is_letter_first (without_space b) ≡ true →
-    (p : Property) × (qs : List Property) × (ps ≡ p ∷ qs) × (name ≡ p.name) × IsLeft behind p.values qs ns
-name_next b name behind ps ns l e f g letter =
-    let next = first_name ps l.own l.children l.later b l.rest name behind l.named l.spelling e f g letter in (
+    (p : Property) × (qs : List Property) × (ps ≡ p ∷ qs) × (name ≡ p.name) × IsLeft after p.values qs ns
+name_next b name after ps ns l e f g letter =
+    let next = first_name ps l.own l.children l.later b l.rest name after l.named l.spelling e f g letter in (
       next.0,
       next.1,
       next.2,
@@ -384,10 +384,10 @@ node_missing None b e h = λ ns l. node_none b ns l e h
 node_missing (Some x) b e h = tt
 
 -- a name has a letter
-pub name_some : (name behind : List ℕ) → is_letter_first (name ++ behind) ≡ true → is_letter_first behind ≡ false →
+pub name_some : (name after : List ℕ) → is_letter_first (name ++ after) ≡ true → is_letter_first after ≡ false →
     1 ≤ length name
-name_some [] behind e f = absurd (true≢false (sym e ∙ f))
-name_some (c ∷ cs) behind e f = omega arith
+name_some [] after e f = absurd (true≢false (sym e ∙ f))
+name_some (c ∷ cs) after e f = omega arith
 
 -- what is left after white space begins with none
 pub none_again : (r : Option (Bor (List ℕ))) (b here : List ℕ) → IfNone r (here ≡ without_space b) →

@@ -274,8 +274,8 @@ module _ (limit : ℕ) where
       (ap (outcome limit in_value d) (sym (append-nil (drop n b)))
       ∙ value_outcome d h false (drop n b) [] (ordinary_inside (drop n b) o))
 
-  pub escape_ends : (d : ℕ) → IsWithin limit d → (n : ℕ) (b front : List ℕ) → is_inside false (take n b) ≡ true →
-      list_all is_ordinary front ≡ true → drop n b ≡ front ++ (92 ∷ []) → outcome limit in_value d b ≡ Err End
-  escape_ends d h n b front v o e = value_ends d h n b true v
-      (ap (outcome limit in_value d) e ∙ value_outcome d h false front (92 ∷ []) (ordinary_inside front o)
+  pub escape_ends : (d : ℕ) → IsWithin limit d → (n : ℕ) (b prefix : List ℕ) → is_inside false (take n b) ≡ true →
+      list_all is_ordinary prefix ≡ true → drop n b ≡ prefix ++ (92 ∷ []) → outcome limit in_value d b ≡ Err End
+  escape_ends d h n b prefix v o e = value_ends d h n b true v
+      (ap (outcome limit in_value d) e ∙ value_outcome d h false prefix (92 ∷ []) (ordinary_inside prefix o)
       ∙ goes_on in_value d 92 [] escape d refl h)

@@ -14,18 +14,18 @@ use Rattle.go_sgf.proofs.Passing.{values_begin, value_passed}
 
 -- how far a tree is read: behind a child, behind a property's values, or before a node's first property
 data Stage : Type 0 where
-  BehindChild : Stage
-  BehindValues : Stage
+  AfterChild : Stage
+  AfterValues : Stage
   BeforeFirst : Stage
 
 abbrev state_of : Stage → State
-state_of BehindChild = closed
-state_of BehindValues = after
+state_of AfterChild = closed
+state_of AfterValues = after
 state_of BeforeFirst = in_node
 
 -- not behind a child
 abbrev IsInNode : Stage → Type 0
-IsInNode BehindChild = ⊥
+IsInNode AfterChild = ⊥
 IsInNode _ = Unit {0}
 
 module _ (limit : ℕ) where
@@ -33,8 +33,8 @@ module _ (limit : ℕ) where
 
   state_white : (o : Stage) (d : ℕ) → IsWithin limit d → (b : List ℕ) →
       outcome limit (state_of o) d b ≡ outcome limit (state_of o) d (without_space b)
-  state_white BehindChild = machine.closed_white limit
-  state_white BehindValues = machine.after_value_white limit
+  state_white AfterChild = machine.closed_white limit
+  state_white AfterValues = machine.after_value_white limit
   state_white BeforeFirst = machine.in_node_white limit
 
   values_outcome : (d : ℕ) → IsWithin limit d → (vs : List (List ℕ)) (b r : List ℕ) → AllByRecursion IsValue vs →
@@ -58,10 +58,10 @@ module _ (limit : ℕ) where
 
   letter_in_node : (d : ℕ) (o : Stage) → IsInNode o → (b : List ℕ) → is_letter_first b ≡ true →
       outcome limit (state_of o) d b ≡ outcome limit in_node d b
-  letter_in_node d BehindChild k b e = absurd k
+  letter_in_node d AfterChild k b e = absurd k
   letter_in_node d BeforeFirst k b e = refl
-  letter_in_node d BehindValues k [] e = cc
-  letter_in_node d BehindValues k (c ∷ cs) e =
+  letter_in_node d AfterValues k [] e = cc
+  letter_in_node d AfterValues k (c ∷ cs) e =
       machine.one_step limit after in_node d c cs (elim (or_cases (is_upper_byte c) (is_lower c) e) [
         | inl u ↦ machine.outside_upper after d c u ∙ sym (machine.outside_upper in_node d c u)
         | inr l ↦ machine.outside_lower after d c l ∙ sym (machine.outside_lower in_node d c l)
@@ -84,16 +84,16 @@ module _ (limit : ℕ) where
   properties_outcome d h o k [] b r i s = (o, k, state_white o d h b ∙ ap (outcome limit (state_of o) d) s)
   properties_outcome d h o k (p ∷ ps) b r i s =
       let split = SpellsParts-split (property_parts p) (flat_map property_parts ps) b r s in
-      let later = properties_outcome d h BehindValues tt ps split.0 r i.1 split.2 in
+      let later = properties_outcome d h AfterValues tt ps split.0 r i.1 split.2 in
       (later.0, later.1, property_outcome d h o k p b split.0 i.0 split.1 ∙ later.2)
 
   -- past a `;`
   semicolon_outcome : (d : ℕ) → IsWithin limit d → (o : Stage) → IsInNode o → (b more : List ℕ) →
       without_space b ≡ 59 ∷ more →
       outcome limit (state_of o) d b ≡ outcome limit in_node d more
-  semicolon_outcome d h BehindChild k b more e = absurd k
-  semicolon_outcome d h BehindValues k b more e =
-      state_white BehindValues d h b ∙ ap (outcome limit after d) e
+  semicolon_outcome d h AfterChild k b more e = absurd k
+  semicolon_outcome d h AfterValues k b more e =
+      state_white AfterValues d h b ∙ ap (outcome limit after d) e
       ∙ machine.goes_on limit after d 59 more in_node d refl h
   semicolon_outcome d h BeforeFirst k b more e =
       state_white BeforeFirst d h b ∙ ap (outcome limit in_node d) e
@@ -135,15 +135,15 @@ module _ (limit : ℕ) where
       state_white o d h b ∙ ap (outcome limit (state_of o) d) e ∙ opens o
     where
       opens : (o : Stage) → outcome limit (state_of o) d (40 ∷ more) ≡ outcome limit opened (suc d) more
-      opens BehindChild = machine.goes_on limit closed d 40 more opened (suc d) refl (omega arith, omega arith)
-      opens BehindValues = machine.goes_on limit after d 40 more opened (suc d) refl (omega arith, omega arith)
+      opens AfterChild = machine.goes_on limit closed d 40 more opened (suc d) refl (omega arith, omega arith)
+      opens AfterValues = machine.goes_on limit after d 40 more opened (suc d) refl (omega arith, omega arith)
       opens BeforeFirst = machine.goes_on limit in_node d 40 more opened (suc d) refl (omega arith, omega arith)
 
   -- before a `)` all states of a tree are one
   closing_same : (d : ℕ) (o : Stage) (b more : List ℕ) → b ≡ 41 ∷ more →
       outcome limit (state_of o) d b ≡ outcome limit closed d b
-  closing_same d BehindChild b more e = refl
-  closing_same d BehindValues b more e = rw e (machine.one_step limit after closed d 41 more refl)
+  closing_same d AfterChild b more e = refl
+  closing_same d AfterValues b more e = rw e (machine.one_step limit after closed d 41 more refl)
   closing_same d BeforeFirst b more e = rw e (machine.one_step limit in_node closed d 41 more refl)
 
   closing_outcome : (d : ℕ) → IsWithin limit d → (o : Stage) (b r : List ℕ) → SpellsParts b (closing ∷ []) r →
@@ -171,7 +171,7 @@ module _ (limit : ℕ) where
       let more : suc d ≡ d + 1 = omega arith in
       ap (λ k. outcome_after limit k (without_space behind.0)) more
       ∙ out_of_child limit d h.0 (without_space behind.0) in
-      let others = children_outcome later d h BehindChild behind.0 r i.3 (omega arith) behind.2 in (
+      let others = children_outcome later d h AfterChild behind.0 r i.3 (omega arith) behind.2 in (
         others.0,
         opening_outcome d h (omega arith) o b s.0 s.1 ∙ heads.1 ∙ inner.1 ∙ closed_is ∙ after_is
             ∙ sym (machine.closed_white limit d h behind.0) ∙ others.1,

@@ -7,7 +7,7 @@ use Rattle.std.specs.List.{filter, flat_map, list_all, AllByRecursion}
 use Rattle.go_sgf.specs.Record.{Property, Trees, none, tree, AreTrees, IsProperty, IsValue, TreeValue, is_inside, is_letter_byte, is_lower, is_upper_byte, plain, plain_property}
 use Rattle.go_sgf.specs.Spelling.{Part, closing, value_part, text, text_of_parts, property_parts, node_parts, parts, tree_text, without_space, is_space, SpellsParts}
 use Rattle.go_sgf.specs.inner.Reads.{IsBracketAt, ReadsTree}
-use Rattle.go_sgf.specs.inner.Tidied.{Escaped, Inside, NeverEnds, Outside, Spot, StaysTo, behind_from, is_left_out_byte, open_after, spot_after, tidied_from, written}
+use Rattle.go_sgf.specs.inner.Tidied.{Escaped, Inside, NeverEnds, Outside, Spot, StaysTo, rest_from, is_left_out_byte, open_after, spot_after, tidied_from, written}
 use Rattle.go_sgf.proofs.Parts.{SpellsParts-split}
 use Rattle.go_sgf.proofs.Scanning.{after_space_more, after_space_stop}
 use Rattle.go_sgf.proofs.Written.{joined-append, tree_then}
@@ -17,16 +17,16 @@ use Rattle.go_sgf.proofs.Written.{joined-append, tree_then}
 -- From a text to a later one: this is written, and what follows the trees stays the same.
 pub record Gives (p : Spot) (d : ℕ) (b : List ℕ) (q : Spot) (e : ℕ) (rest x : List ℕ) : Type 0 where
   pub text : tidied_from p d b ≡ x ++ tidied_from q e rest
-  pub behind : behind_from p d b ≡ behind_from q e rest
+  pub after : rest_from p d b ≡ rest_from q e rest
 
 pub nothing_given : (p : Spot) (d : ℕ) (b : List ℕ) → Gives p d b p d b []
-nothing_given p d b = record { text = refl; behind = refl }
+nothing_given p d b = record { text = refl; after = refl }
 
 pub given_then : {p q r : Spot} {d e f : ℕ} {b mid rest : List ℕ} (x y : List ℕ) → Gives p d b q e mid x →
     Gives q e mid r f rest y → Gives p d b r f rest (x ++ y)
 given_then {r} {f} {rest} x y g h = record {
   text = g.text ∙ ap (λ zs. x ++ zs) h.text ∙ sym (append_assoc x y (tidied_from r f rest));
-  behind = g.behind ∙ h.behind;
+  after = g.after ∙ h.after;
 }
 
 tidied_byte : (p : Spot) (d c : ℕ) (cs : List ℕ) → tidied_from p (suc d) (c ∷ cs) ≡ written p c
@@ -34,14 +34,14 @@ tidied_byte : (p : Spot) (d c : ℕ) (cs : List ℕ) → tidied_from p (suc d) (
 unfolding tidied_from
 tidied_byte p d c cs = refl
 
-behind_byte : (p : Spot) (d c : ℕ) (cs : List ℕ) →
-    behind_from p (suc d) (c ∷ cs) ≡ behind_from (spot_after p c) (open_after p (suc d) c) cs
-unfolding behind_from
-behind_byte p d c cs = refl
+after_byte : (p : Spot) (d c : ℕ) (cs : List ℕ) →
+    rest_from p (suc d) (c ∷ cs) ≡ rest_from (spot_after p c) (open_after p (suc d) c) cs
+unfolding rest_from
+after_byte p d c cs = refl
 
 given_byte : (p : Spot) (d c : ℕ) (cs : List ℕ) →
     Gives p (suc d) (c ∷ cs) (spot_after p c) (open_after p (suc d) c) cs (written p c)
-given_byte p d c cs = record { text = tidied_byte p d c cs; behind = behind_byte p d c cs }
+given_byte p d c cs = record { text = tidied_byte p d c cs; after = after_byte p d c cs }
 
 -- ---- no tree is some
 
@@ -50,18 +50,18 @@ unfolding tidied_from
 tidied_closed [] = refl
 tidied_closed (c ∷ cs) = refl
 
-pub behind_closed : (b : List ℕ) → behind_from Outside 0 b ≡ b
-unfolding behind_from
-behind_closed [] = refl
-behind_closed (c ∷ cs) = refl
+pub after_closed : (b : List ℕ) → rest_from Outside 0 b ≡ b
+unfolding rest_from
+after_closed [] = refl
+after_closed (c ∷ cs) = refl
 
 pub tidied_end : (p : Spot) (d : ℕ) → tidied_from p d [] ≡ []
 unfolding tidied_from
 tidied_end p d = refl
 
-pub behind_end : (p : Spot) (d : ℕ) → behind_from p d [] ≡ []
-unfolding behind_from
-behind_end p d = refl
+pub after_end : (p : Spot) (d : ℕ) → rest_from p d [] ≡ []
+unfolding rest_from
+after_end p d = refl
 
 -- ---- bytes outside of values
 
@@ -154,29 +154,29 @@ never_ends v h d =
     let g = subst (λ (b : List ℕ). Gives Inside (suc d) b Inside (suc d) [] v) (append-nil v)
     (inside_given d false v [] h) in (
       g.text ∙ ap (λ xs. v ++ xs) (tidied_end Inside (suc d)) ∙ append-nil v,
-      g.behind ∙ behind_end Inside (suc d),
+      g.after ∙ after_end Inside (suc d),
     )
 
 pub never_ends_escape : (v : List ℕ) → IsValue v → NeverEnds (v ++ (92 ∷ []))
 never_ends_escape v h d =
     let g = given_then v (92 ∷ []) (inside_given d false v (92 ∷ []) h) (given_byte Inside d 92 []) in (
       g.text ∙ ap (λ xs. (v ++ (92 ∷ [])) ++ xs) (tidied_end Escaped (suc d)) ∙ append-nil (v ++ (92 ∷ [])),
-      g.behind ∙ behind_end Escaped (suc d),
+      g.after ∙ after_end Escaped (suc d),
     )
 
 -- ---- what stays as it stands
 
-pub stays : (p : Spot) (d e : ℕ) (b rest front : List ℕ) → b ≡ front ++ rest → Gives p d b Outside e rest front →
+pub stays : (p : Spot) (d e : ℕ) (b rest prefix : List ℕ) → b ≡ prefix ++ rest → Gives p d b Outside e rest prefix →
     StaysTo p d b e rest
-stays p d e b rest front whole g = record { front = front; whole = whole; text = g.text; behind = g.behind }
+stays p d e b rest prefix whole g = record { prefix = prefix; whole = whole; text = g.text; after = g.after }
 
 pub stays_on : {p : Spot} {d e f : ℕ} {b mid rest : List ℕ} → StaysTo p d b e mid → StaysTo Outside e mid f rest →
     StaysTo p d b f rest
 stays_on {rest} s t = record {
-  front = s.front ++ t.front;
-  whole = s.whole ∙ ap (λ xs. s.front ++ xs) t.whole ∙ sym (append_assoc s.front t.front rest);
-  text = s.text ∙ ap (λ xs. s.front ++ xs) t.text ∙ sym (append_assoc s.front t.front _);
-  behind = s.behind ∙ t.behind;
+  prefix = s.prefix ++ t.prefix;
+  whole = s.whole ∙ ap (λ xs. s.prefix ++ xs) t.whole ∙ sym (append_assoc s.prefix t.prefix rest);
+  text = s.text ∙ ap (λ xs. s.prefix ++ xs) t.text ∙ sym (append_assoc s.prefix t.prefix _);
+  after = s.after ∙ t.after;
 }
 
 pub value_stays : (b v more : List ℕ) → b ≡ v ++ (93 ∷ more) → IsValue v → (d : ℕ) → d ≢ 0 → StaysTo Inside d b d more
@@ -189,10 +189,10 @@ value_stays b v more e h (suc d) some =
 pub all_stays : (b : List ℕ) → NeverEnds b → (d : ℕ) → d ≢ 0 → StaysTo Inside d b d []
 all_stays b h zero some = absurd (some refl)
 all_stays b h (suc d) some = record {
-  front = b;
+  prefix = b;
   whole = sym (append-nil b);
   text = (h d).0 ∙ sym (append-nil b) ∙ ap (λ xs. b ++ xs) (sym (tidied_end Outside (suc d)));
-  behind = (h d).1 ∙ sym (behind_end Outside (suc d));
+  after = (h d).1 ∙ sym (after_end Outside (suc d));
 }
 
 pub bracket_stays : (d c : ℕ) (more rest : List ℕ) → d ≢ 0 → c ≡ 91 → ((e : ℕ) → e ≢ 0 → StaysTo Inside e more e rest) →
@@ -202,10 +202,10 @@ bracket_stays (suc d) c more rest some e s =
     let t = s (suc d) some in
     let g = given_byte Outside d 91 more in
     rw e (record {
-      front = 91 ∷ t.front;
+      prefix = 91 ∷ t.prefix;
       whole = ap (λ xs. 91 ∷ xs) t.whole;
       text = g.text ∙ ap (λ xs. 91 ∷ xs) t.text;
-      behind = g.behind ∙ t.behind;
+      after = g.after ∙ t.after;
     })
 
 -- a byte that is written
@@ -288,8 +288,8 @@ stays_to_end {d} {n} {b} le s = subst (λ (xs : List ℕ). StaysTo Outside d b d
 -- what no shorter text follows is the text itself
 pub stays_whole : {p : Spot} {d e : ℕ} {b rest : List ℕ} → StaysTo p d b e rest → length b ≤ length rest → rest ≡ b
 stays_whole {rest} s le =
-    let none : length s.front ≡ 0 = omega (arith, le, ap length s.whole, length-append s.front rest) in
-    sym (s.whole ∙ ap (λ xs. xs ++ rest) (nil_from_length s.front none))
+    let none : length s.prefix ≡ 0 = omega (arith, le, ap length s.whole, length-append s.prefix rest) in
+    sym (s.whole ∙ ap (λ xs. xs ++ rest) (nil_from_length s.prefix none))
 
 -- ---- what is left out
 
@@ -298,17 +298,17 @@ pub left_out_tidied : (c : ℕ) (cs : List ℕ) → is_left_out_byte c ≡ true 
 left_out_tidied c cs e zero some = absurd (some refl)
 left_out_tidied c cs e (suc d) some = (left_out_given d c cs e).text
 
-pub left_out_behind : (c : ℕ) (cs : List ℕ) → is_left_out_byte c ≡ true → (d : ℕ) → d ≢ 0 →
-    behind_from Outside d (c ∷ cs) ≡ behind_from Outside d cs
-left_out_behind c cs e zero some = absurd (some refl)
-left_out_behind c cs e (suc d) some = (left_out_given d c cs e).behind
+pub left_out_after : (c : ℕ) (cs : List ℕ) → is_left_out_byte c ≡ true → (d : ℕ) → d ≢ 0 →
+    rest_from Outside d (c ∷ cs) ≡ rest_from Outside d cs
+left_out_after c cs e zero some = absurd (some refl)
+left_out_after c cs e (suc d) some = (left_out_given d c cs e).after
 
 -- ---- parts
 
 -- a part behind white space
-spaced : (d e : ℕ) (b front more x : List ℕ) → without_space b ≡ front ++ more →
-    Gives Outside (suc d) (front ++ more) Outside e more x → Gives Outside (suc d) b Outside e more x
-spaced d e b front more x same g =
+spaced : (d e : ℕ) (b prefix more x : List ℕ) → without_space b ≡ prefix ++ more →
+    Gives Outside (suc d) (prefix ++ more) Outside e more x → Gives Outside (suc d) b Outside e more x
+spaced d e b prefix more x same g =
     given_then [] x (subst (λ (xs : List ℕ). Gives Outside (suc d) b Outside (suc d) xs []) same (space_given d b)) g
 
 ended : (d : ℕ) (b rest : List ℕ) → without_space b ≡ rest → Gives Outside (suc d) b Outside (suc d) rest []
@@ -396,30 +396,30 @@ tree_text-is : (nodes : List (List Property)) (children : Trees) →
     (text_of_parts (flat_map node_parts (map (map plain_property) nodes))
     ++ (text_of_parts (parts (plain children)) ++ (41 ∷ [])))
 tree_text-is nodes children =
-    let front = flat_map node_parts (map (map plain_property) nodes) in
+    let prefix = flat_map node_parts (map (map plain_property) nodes) in
     ap (λ xs. 40 ∷ xs)
-    (joined-append front (parts (plain children) ++ (closing ∷ []))
-    ∙ ap (λ xs. text_of_parts front ++ xs) (joined-append (parts (plain children)) (closing ∷ [])))
+    (joined-append prefix (parts (plain children) ++ (closing ∷ []))
+    ∙ ap (λ xs. text_of_parts prefix ++ xs) (joined-append (parts (plain children)) (closing ∷ [])))
 
 trees_given : (c : Trees) (d : ℕ) (b rest : List ℕ) → AreTrees c → SpellsParts b (parts c) rest →
     Gives Outside (suc d) b Outside (suc d) rest (text_of_parts (parts (plain c)))
 trees_given none d b rest h s = ended d b rest s
 trees_given (tree nodes children later) d b rest h s =
     let inside = text_of_parts (parts (plain children)) in
-    let behind = text_of_parts (parts (plain later)) in
+    let after = text_of_parts (parts (plain later)) in
     let body = body_given (suc d) nodes (parts children) (parts later) s.0 rest inside h.1
     (λ m r. trees_given children (suc d) m r h.2) s.2 in
     let own = text_of_parts (flat_map node_parts (map (map plain_property) nodes)) ++ (inside ++ (41 ∷ [])) in
     subst (λ (xs : List ℕ). Gives Outside (suc d) b Outside (suc d) rest xs)
-    (sym (tree_then nodes children (parts (plain later)) ∙ ap (λ ys. ys ++ behind) (tree_text-is nodes children)))
-    (given_then (40 ∷ own) behind
+    (sym (tree_then nodes children (parts (plain later)) ∙ ap (λ ys. ys ++ after) (tree_text-is nodes children)))
+    (given_then (40 ∷ own) after
     (given_then (40 ∷ []) own (spaced d (suc (suc d)) b (40 ∷ []) s.0 (40 ∷ []) s.1 (given_byte Outside d 40 s.0))
     body.1)
     (trees_given later d body.0 rest h.3 body.2))
 
 -- a tree from behind its `(` on
 pub tree_given : (b rest : List ℕ) (t : TreeValue) → ReadsTree 1 b t rest →
-    (tree_text t.0 t.1 ≡ 40 ∷ tidied_from Outside 1 b) × (rest ≡ without_space (behind_from Outside 1 b))
+    (tree_text t.0 t.1 ≡ 40 ∷ tidied_from Outside 1 b) × (rest ≡ without_space (rest_from Outside 1 b))
 tree_given b rest t r =
     let inside = text_of_parts (parts (plain t.1)) in
     let own = text_of_parts (flat_map node_parts (map (map plain_property) t.0)) ++ (inside ++ (41 ∷ [])) in
@@ -427,5 +427,5 @@ tree_given b rest t r =
     r.spelling in (
       tree_text-is t.0 t.1 ∙ ap (λ xs. 40 ∷ xs)
           (sym (body.1.text ∙ ap (λ xs. own ++ xs) (tidied_closed body.0) ∙ append-nil own)),
-      sym (ap without_space (body.1.behind ∙ behind_closed body.0) ∙ body.2),
+      sym (ap without_space (body.1.after ∙ after_closed body.0) ∙ body.2),
     )

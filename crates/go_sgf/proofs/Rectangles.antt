@@ -61,7 +61,7 @@ joined_within : {X : Type 0} (f g : ℕ → List X) (low count n : ℕ) → low 
     ((k : ℕ) → k < low → f k ≡ []) → ((k : ℕ) → k < count → f (low + k) ≡ g (0 + k)) →
     ((k : ℕ) → low + count ≤ k → k < n → f k ≡ []) →
     flat_map f (range_with_len 0 n) ≡ flat_map g (range_with_len 0 count)
-joined_within f g low count n fits before within behind =
+joined_within f g low count n fits before within after =
     let rest : ℕ = n - (low + count) in
     let whole : n ≡ low + (count + rest) = omega arith in
     let split : range_with_len 0 n ≡ range_with_len 0 low
@@ -76,7 +76,7 @@ joined_within f g low count n fits before within behind =
     (flat_map-append f (range_with_len low count) (range_with_len (low + count) rest)
     ∙ ap₂ (λ xs ys. xs ++ ys)
     (joined_moved f g low 0 count within)
-    (joined_none f (low + count) rest (λ k from below. behind k from (omega (arith, below)))))
+    (joined_none f (low + count) rest (λ k from below. after k from (omega (arith, below)))))
     ∙ append-nil (flat_map g (range_with_len 0 count))
 
 -- ---- the board, row by row
@@ -88,15 +88,15 @@ by_rows : {X : Type 0} (keep : X → Bool) (f : ℕ → X) (n m : ℕ) →
 by_rows keep f n zero = ap (λ j. filter keep (map f (range_with_len 0 j))) (let e : 0 * n ≡ 0 = omega arith in e)
 by_rows keep f n (suc m) =
     let row = λ (r : ℕ). filter keep (map f (range_with_len (r * n) n)) in
-    let front : List ℕ = range_with_len 0 (m * n) in
+    let prefix : List ℕ = range_with_len 0 (m * n) in
     let back : List ℕ = range_with_len (m * n) n in
-    let split : range_with_len 0 (suc m * n) ≡ front ++ back =
+    let split : range_with_len 0 (suc m * n) ≡ prefix ++ back =
     ap (range_with_len 0) (let e : suc m * n ≡ m * n + n = omega arith in e) ∙ range_append 0 (m * n) n
-    ∙ ap (λ j. front ++ range_with_len j n) (let e : 0 + m * n ≡ m * n = omega arith in e) in
+    ∙ ap (λ j. prefix ++ range_with_len j n) (let e : 0 + m * n ≡ m * n = omega arith in e) in
     let more : range_with_len 0 (suc m) ≡ range_with_len 0 m ++ m ∷ [] =
     ap (range_with_len 0) (let e : suc m ≡ m + 1 = omega arith in e) ∙ range_more m in
-    ap (λ xs. filter keep (map f xs)) split ∙ ap (filter keep) (map-append f front back)
-    ∙ filter-append keep (map f front) (map f back)
+    ap (λ xs. filter keep (map f xs)) split ∙ ap (filter keep) (map-append f prefix back)
+    ∙ filter-append keep (map f prefix) (map f back)
     ∙ ap₂ (λ xs ys. xs ++ ys) (by_rows keep f n m) (sym (append-nil (row m)))
     ∙ sym (ap (flat_map row) more ∙ flat_map-append row (range_with_len 0 m) (m ∷ []))
 
@@ -128,14 +128,14 @@ kept_within : {X : Type 0} (keep : X → Bool) (f : ℕ → X) (low count n : �
     ((k : ℕ) → k < low → keep (f k) ≡ false) → ((k : ℕ) → k < count → keep (f (low + k)) ≡ true) →
     ((k : ℕ) → low + count ≤ k → k < n → keep (f k) ≡ false) →
     filter keep (map f (range_with_len 0 n)) ≡ map f (range_with_len low count)
-kept_within keep f low count n fits before within behind =
+kept_within keep f low count n fits before within after =
     let one = λ (k : ℕ). cond (keep (f k)) (f k ∷ []) [] in
     kept_joined keep f (range_with_len 0 n)
     ∙ joined_within one (λ k. f (low + k) ∷ []) low count n fits
     (λ k h. ap (λ (t : Bool). cond t (f k ∷ []) []) (before k h))
     (λ k h. ap (λ (t : Bool). cond t (f (low + k) ∷ []) []) (within k h)
     ∙ ap (λ j. f (low + j) ∷ []) (let e : k ≡ 0 + k = omega arith in e))
-    (λ k h i. ap (λ (t : Bool). cond t (f k ∷ []) []) (behind k h i))
+    (λ k h i. ap (λ (t : Bool). cond t (f k ∷ []) []) (after k h i))
     ∙ single_joined (λ k. f (low + k)) (range_with_len 0 count)
     ∙ map_moved (λ k. f (low + k)) f 0 low count (λ k h. ap (λ j. f (low + j)) (let e : 0 + k ≡ k = omega arith in e))
 
@@ -147,8 +147,8 @@ between_within a b x low high = grind (arith, nat_tests)
 between_before : (a b x : ℕ) → x < min a b → is_between a b x ≡ false
 between_before a b x h = grind (arith, nat_tests)
 
-between_behind : (a b x : ℕ) → max a b < x → is_between a b x ≡ false
-between_behind a b x h = grind (arith, nat_tests)
+between_after : (a b x : ℕ) → max a b < x → is_between a b x ≡ false
+between_after a b x h = grind (arith, nat_tests)
 
 both_true : (a b : Bool) → a ≡ true → b ≡ true → (a && b) ≡ true
 both_true a b e f = cc
@@ -182,7 +182,7 @@ module _ (n : ℕ) (p q : Point) (p-on : IsOn n p) (q-on : IsOn n q) where
       (λ k h. both_true (is_between p.col q.col (min p.col q.col + k)) (is_between p.row q.row r)
       (between_within p.col q.col (min p.col q.col + k) (omega arith) (omega (arith, h))) e)
       (λ k h i. first_false (is_between p.col q.col k) (is_between p.row q.row r)
-      (between_behind p.col q.col k (omega (arith, h))))
+      (between_after p.col q.col k (omega (arith, h))))
 
   row_lost : (r : ℕ) → is_between p.row q.row r ≡ false →
       filter (is_in p q) (map (point_at n) (range_with_len (r * n) n)) ≡ []
@@ -206,7 +206,7 @@ module _ (n : ℕ) (p q : Point) (p-on : IsOn n p) (q-on : IsOn n q) where
       row_kept (r.row + k) (between_within p.row q.row (r.row + k) (omega arith) (omega (arith, h)))
       ∙ ap₂ (row_from (r.row + k)) (sym column) (sym columns)
       ∙ ap (λ j. row_from (r.row + j) r.column r.columns) (let e : k ≡ 0 + k = omega arith in e))
-      (λ k h i. row_lost k (between_behind p.row q.row k (omega (arith, h)))))
+      (λ k h i. row_lost k (between_after p.row q.row k (omega (arith, h)))))
 
 numbers_below : (m : ℕ) → All (λ k. k < m) (range_with_len 0 m)
 numbers_below m =

@@ -49,18 +49,18 @@ first_tree : (nodes : List (List Property)) (children later : Trees) (b r : List
     AllByRecursion (AllByRecursion IsProperty) nodes →
     AreTrees children → suc (depth children) ≤ MAX_DEPTH →
     SpellsParts b (flat_map node_parts nodes ++ (parts children ++ (closing ∷ parts later))) r →
-    (behind : List ℕ) × (outcome MAX_DEPTH opened 1 b ≡ Ok behind) × SpellsParts behind (parts later) r
+    (after : List ℕ) × (outcome MAX_DEPTH opened 1 b ≡ Ok after) × SpellsParts after (parts later) r
 first_tree nodes children later b r some fit below deep s =
     let heads = SpellsParts-split (flat_map node_parts nodes) (parts children ++ (closing ∷ parts later)) b r s in
     let inner = SpellsParts-split (parts children) (closing ∷ parts later) heads.0 r heads.2 in
     let close = inner.2 in
-    let behind : List ℕ = without_space close.0 in
-    let whole : SpellsParts b (flat_map node_parts nodes ++ (parts children ++ (closing ∷ []))) behind =
-    SpellsParts-append (flat_map node_parts nodes) (parts children ++ (closing ∷ [])) b heads.0 behind heads.1
-    (SpellsParts-append (parts children) (closing ∷ []) heads.0 inner.0 behind inner.1 (close.0, close.1, refl)) in (
-      behind,
-      tree_outcome MAX_DEPTH 1 (omega arith, omega arith) nodes children b behind some fit below (omega arith) whole,
-      SpellsParts-same (parts later) close.0 behind r (sym (after_space-again close.0)) close.2,
+    let after : List ℕ = without_space close.0 in
+    let whole : SpellsParts b (flat_map node_parts nodes ++ (parts children ++ (closing ∷ []))) after =
+    SpellsParts-append (flat_map node_parts nodes) (parts children ++ (closing ∷ [])) b heads.0 after heads.1
+    (SpellsParts-append (parts children) (closing ∷ []) heads.0 inner.0 after inner.1 (close.0, close.1, refl)) in (
+      after,
+      tree_outcome MAX_DEPTH 1 (omega arith, omega arith) nodes children b after some fit below (omega arith) whole,
+      SpellsParts-same (parts later) close.0 after r (sym (after_space-again close.0)) close.2,
     )
 
 pub tree_begins : (nodes : List (List Property)) (ps : List Part) (b r : List ℕ) → nodes ≢ [] →
@@ -93,10 +93,10 @@ two_ways (tree nodes children later) (tree nodes' children' later') b at rest in
     let same : 40 ∷ s.0 ≡ 40 ∷ s'.0 = sym s.1 ∙ s'.1 in
     let inner : s.0 ≡ s'.0 = cc in
     let both : Ok first.0 ≡ Ok first'.0 = sym first.1 ∙ ap (outcome MAX_DEPTH opened 1) inner ∙ first'.1 in
-    let behind : first.0 ≡ first'.0 = cc in
+    let after : first.0 ≡ first'.0 = cc in
     let P : List ℕ → Type 0 = λ xs. SpellsParts xs (parts later') rest in
     two_ways later later' first.0 at rest inside f w.3 (omega arith) w'.3 (omega arith) first.2
-    (subst P (sym behind) first'.2) ended begins is e
+    (subst P (sym after) first'.2) ended begins is e
 
 -- ---- a collection read so far
 
@@ -198,7 +198,7 @@ stops_at source ts inside f place far begins e placed =
           far.spelling s.spelling s.ended begins refl e;
       before = chain ts;
       text = 40 ∷ inside;
-      behind = record { whole = far.fit; nesting = far.nesting; spelling = far.spelling; begins = begins };
+      after = record { whole = far.fit; nesting = far.nesting; spelling = far.spelling; begins = begins };
       count = suc i.at;
       reading = read_up_to inside f i;
       placed = let h = i.left in omega arith;

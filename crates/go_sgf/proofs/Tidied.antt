@@ -5,7 +5,7 @@ use Rattle.std.specs.List.{flat_map}
 use Rattle.go_sgf.specs.Record.{Property, Trees, none, tree, AreTrees, depth}
 use Rattle.go_sgf.specs.Spelling.{Part, closing, node_parts, parts, tree_text, canonical, without_space, is_tree_first, tree_in, Spells, SpellsParts}
 use Rattle.go_sgf.specs.inner.Reads.{ReadsTree, begins_space}
-use Rattle.go_sgf.specs.inner.Tidied.{Outside, behind_from, tidied_from}
+use Rattle.go_sgf.specs.inner.Tidied.{Outside, rest_from, tidied_from}
 use Rattle.go_sgf.specs.declared.limits.TheConstants.{MAX_DEPTH}
 use Rattle.go_sgf.proofs.Parts.{SpellsParts-split, after_space-same, no_space_after, no_space_first}
 use Rattle.go_sgf.proofs.Passed.{tree_given}
@@ -61,7 +61,7 @@ tree_more : (later c : Trees) (written rest inside new left end : List ℕ) → 
     SpellsParts rest (parts later) end →
     is_tree_first end ≡ false → canonical c ≡ written ++ canonical later → is_tree_first rest ≡ true →
     rest ≡ 40 ∷ inside →
-    new ≡ tidied_from Outside 1 inside → left ≡ without_space (behind_from Outside 1 inside) →
+    new ≡ tidied_from Outside 1 inside → left ≡ without_space (rest_from Outside 1 inside) →
     TreesLeft c (written ++ ((40 ∷ new) ++ (10 ∷ []))) left
 tree_more none c written rest inside new left end fit deep s ended text begins e w l =
     let same : rest ≡ end = e ∙ sym (ap without_space e) ∙ s in
@@ -103,7 +103,7 @@ tree_more (tree nodes children later) c written rest inside new left end fit dee
 -- one tree more was written, and LF
 pub one_written : (c : Trees) (written rest inside new left : List ℕ) → TreesLeft c written rest →
     is_tree_first rest ≡ true → rest ≡ 40 ∷ inside →
-    new ≡ tidied_from Outside 1 inside → left ≡ without_space (behind_from Outside 1 inside) →
+    new ≡ tidied_from Outside 1 inside → left ≡ without_space (rest_from Outside 1 inside) →
     TreesLeft c (written ++ ((40 ∷ new) ++ (10 ∷ []))) left
 one_written c written rest inside new left t begins e w l =
     tree_more t.later c written rest inside new left t.end t.fit t.nesting t.spelling t.ended t.text begins e w l

@@ -18,7 +18,7 @@ use Rattle.go_sgf.specs.declared.error.Fault.TheVariants.{Memory, End, Unexpecte
 use Rattle.go_sgf.specs.declared.error.SgfError.TheVariants as error
 use Rattle.go_sgf.specs.declared.game_trees.TreeSpan.{TreeSpan}
 use Rattle.go_sgf.specs.declared.limits.TheConstants.{MAX_DEPTH}
-use Rattle.go_sgf.proofs.Fronts.{tree_closed}
+use Rattle.go_sgf.proofs.Prefixes.{tree_closed}
 use Rattle.go_sgf.proofs.Parts.{SpellsParts-same, SpellsParts-split, after_space-again, after_space-same, no_space_after, no_space_first, rest_le}
 use Rattle.go_sgf.proofs.Scanning.{after_space_more, after_space_stop, from_tree_here, from_tree_more}
 use Rattle.go_sgf.proofs.Standing.{FaultIs, fault_is}
@@ -27,7 +27,7 @@ use Rattle.go_sgf.proofs.Stops.{WhyIn, begins_no_space, from_tree_begins, length
 -- ---- what stands before a text
 
 -- the text up to where it is left after white space
-pub space_before : (b : List ℕ) → (front : List ℕ) × (b ≡ front ++ without_space b) × (without_space front ≡ [])
+pub space_before : (b : List ℕ) → (prefix : List ℕ) × (b ≡ prefix ++ without_space b) × (without_space prefix ≡ [])
 space_before [] = ([], refl, refl)
 space_before (c ∷ cs) = elim (cases_Bool (is_space c)) [
   | inl e ↦
@@ -36,42 +36,42 @@ space_before (c ∷ cs) = elim (cases_Bool (is_space c)) [
   | inr e ↦ ([], sym (after_space_stop c cs e), refl)
 ]
 
-space_then : (front b : List ℕ) → without_space front ≡ [] → begins_space b ≡ false → without_space (front ++ b) ≡ b
+space_then : (prefix b : List ℕ) → without_space prefix ≡ [] → begins_space b ≡ false → without_space (prefix ++ b) ≡ b
 space_then [] b e f = after_space-same b f
 space_then (c ∷ cs) b e f = elim (cases_Bool (is_space c)) [
   | inl w ↦ after_space_more c (cs ++ b) w ∙ space_then cs b (sym (after_space_more c cs w) ∙ e) f
   | inr w ↦ let no : c ∷ cs ≡ [] = sym (after_space_stop c cs w) ∙ e in cc
 ]
 
-front_no_space : (xs ys : List ℕ) → begins_space (xs ++ ys) ≡ false → begins_space xs ≡ false
-front_no_space [] ys e = refl
-front_no_space (c ∷ cs) ys e = e
+prefix_no_space : (xs ys : List ℕ) → begins_space (xs ++ ys) ≡ false → begins_space xs ≡ false
+prefix_no_space [] ys e = refl
+prefix_no_space (c ∷ cs) ys e = e
 
 -- what spells parts up to a rest is a front of the text, which spells them alone
-pub spelled_front : (ps : List Part) (b r : List ℕ) → SpellsParts b ps r → (front : List ℕ) × (b ≡ front ++ r)
-    × SpellsParts front ps []
-spelled_front [] b r s =
+pub spelled_prefix : (ps : List Part) (b r : List ℕ) → SpellsParts b ps r → (prefix : List ℕ) × (b ≡ prefix ++ r)
+    × SpellsParts prefix ps []
+spelled_prefix [] b r s =
     let before = space_before b in
     (before.0, before.1 ∙ ap (λ xs. before.0 ++ xs) s, before.2)
-spelled_front (p ∷ ps) b r s =
+spelled_prefix (p ∷ ps) b r s =
     let before = space_before b in
-    let later = spelled_front ps s.0 r s.2 in
+    let later = spelled_prefix ps s.0 r s.2 in
     let own : List ℕ = text p ++ later.0 in
     let whole : without_space b ≡ own ++ r =
     s.1 ∙ ap (λ xs. text p ++ xs) later.1 ∙ sym (append_assoc (text p) later.0 r) in
-    let trimmed : begins_space own ≡ false = front_no_space own r (rw (← whole) (no_space_first b)) in (
+    let trimmed : begins_space own ≡ false = prefix_no_space own r (rw (← whole) (no_space_first b)) in (
       before.0 ++ own,
       before.1 ∙ ap (λ xs. before.0 ++ xs) whole ∙ sym (append_assoc before.0 own r),
       (later.0, space_then before.0 own before.2 trimmed, later.2),
     )
 
 -- the text up to its first tree
-pub tree_front : (b : List ℕ) → (front : List ℕ) × (b ≡ front ++ tree_in b)
-tree_front [] = ([], refl)
-tree_front (c ∷ cs) = elim (cases_Bool (is_tree_first (c ∷ cs))) [
+pub tree_prefix : (b : List ℕ) → (prefix : List ℕ) × (b ≡ prefix ++ tree_in b)
+tree_prefix [] = ([], refl)
+tree_prefix (c ∷ cs) = elim (cases_Bool (is_tree_first (c ∷ cs))) [
   | inl e ↦ ([], sym (from_tree_here c cs e))
   | inr e ↦
-      let later = tree_front cs in
+      let later = tree_prefix cs in
       (c ∷ later.0, rw (from_tree_more c cs e) (ap (λ xs. c ∷ xs) later.1))
 ]
 
@@ -109,14 +109,14 @@ pub begins_by : (source : List ℕ) (from begin : ℕ) → begin + length (tree_
     length (tree_in (drop from source)) ≢ 0 → BeginsAt source from begin
 begins_by source from begin left some =
     let within : from ≤ length source = some_left source from some in
-    let front = tree_front (drop from source) in
-    let before : ℕ = length front.0 in
+    let prefix = tree_prefix (drop from source) in
+    let before : ℕ = length prefix.0 in
     let whole : length (drop from source) ≡ before + length (tree_in (drop from source)) =
-    ap length front.1 ∙ length-append front.0 (tree_in (drop from source)) in
+    ap length prefix.1 ∙ length-append prefix.0 (tree_in (drop from source)) in
     let sized : length (drop from source) ≡ length source - from = length-drop from source in
     let is : from + before ≡ begin = omega arith in
     let rest : drop before (drop from source) ≡ tree_in (drop from source) =
-    ap (drop before) front.1 ∙ drop-append_seam front.0 (tree_in (drop from source)) in
+    ap (drop before) prefix.1 ∙ drop-append_seam prefix.0 (tree_in (drop from source)) in
     let first : tree_in (drop from source) ≡ drop begin source =
     sym rest ∙ drop-drop before from source ∙ ap (λ n. drop n source) is in
     record { later = omega arith; within = omega arith; first = first }
@@ -172,22 +172,22 @@ spells_alone t nodes children fit s =
 
 -- it is read from its `(` to its `)`
 pub stands_there : (source : List ℕ) (span : TreeSpan) (nodes : List (List Property)) (children : Trees)
-    (inside behind : List ℕ) →
-    span.begin < length source → drop span.begin source ≡ 40 ∷ inside → span.end + length behind ≡ length source →
-    IsFit (tree nodes children none) → SpellsParts inside (flat_map node_parts nodes ++ parts children) (41 ∷ behind) →
-    IsTreeAt source span nodes children × (drop span.end source ≡ behind)
-stands_there source span nodes children inside behind within opens ends fit s =
-    let front = spelled_front (flat_map node_parts nodes ++ parts children) inside (41 ∷ behind) s in
-    let own : List ℕ = 40 ∷ (front.0 ++ (41 ∷ [])) in
-    let whole : drop span.begin source ≡ own ++ behind =
-    opens ∙ ap (λ xs. 40 ∷ xs) (front.1 ∙ sym (append_assoc front.0 (41 ∷ []) behind)) in
-    let sized : length source - span.begin ≡ length own + length behind =
-    sym (length-drop span.begin source) ∙ ap length whole ∙ length-append own behind in
-    let long : length own ≡ suc (length front.0 + 1) = ap suc (length-append front.0 (41 ∷ [])) in
+    (inside after : List ℕ) →
+    span.begin < length source → drop span.begin source ≡ 40 ∷ inside → span.end + length after ≡ length source →
+    IsFit (tree nodes children none) → SpellsParts inside (flat_map node_parts nodes ++ parts children) (41 ∷ after) →
+    IsTreeAt source span nodes children × (drop span.end source ≡ after)
+stands_there source span nodes children inside after within opens ends fit s =
+    let prefix = spelled_prefix (flat_map node_parts nodes ++ parts children) inside (41 ∷ after) s in
+    let own : List ℕ = 40 ∷ (prefix.0 ++ (41 ∷ [])) in
+    let whole : drop span.begin source ≡ own ++ after =
+    opens ∙ ap (λ xs. 40 ∷ xs) (prefix.1 ∙ sym (append_assoc prefix.0 (41 ∷ []) after)) in
+    let sized : length source - span.begin ≡ length own + length after =
+    sym (length-drop span.begin source) ∙ ap length whole ∙ length-append own after in
+    let long : length own ≡ suc (length prefix.0 + 1) = ap suc (length-append prefix.0 (41 ∷ [])) in
     let size : span.end - span.begin ≡ length own = omega arith in
     let is : span_text source span ≡ own =
-    ap (λ n. take n (drop span.begin source)) size ∙ ap (take (length own)) whole ∙ take-append_seam own behind in
-    let bracketed : SpellsTree (span_text source span) nodes children = (front.0, is, front.2) in
+    ap (λ n. take n (drop span.begin source)) size ∙ ap (take (length own)) whole ∙ take-append_seam own after in
+    let bracketed : SpellsTree (span_text source span) nodes children = (prefix.0, is, prefix.2) in
     let past : span.begin + length own ≡ span.end = omega arith in (
       record {
         ordered = omega arith;
@@ -195,22 +195,22 @@ stands_there source span nodes children inside behind within opens ends fit s =
         alone = spells_alone (span_text source span) nodes children fit bracketed;
         text = bracketed;
       },
-      sym (sym (drop-append_seam own behind) ∙ ap (drop (length own)) (sym whole)
+      sym (sym (drop-append_seam own after) ∙ ap (drop (length own)) (sym whole)
           ∙ drop-drop (length own) span.begin source ∙ ap (λ n. drop n source) past),
     )
 
 -- it is read up to what follows it
-pub read_there : (source : List ℕ) (from begin : ℕ) (inside behind : List ℕ) (t : TreeValue) →
+pub read_there : (source : List ℕ) (from begin : ℕ) (inside after : List ℕ) (t : TreeValue) →
     BeginsAt source from begin → inside ≡ drop (begin + 1) source →
-    ReadsToEnd 1 inside t behind →
-    (length behind ≤ length source)
-    × IsTreeAt source (record { begin = begin; end = length source - length behind }) t.0 t.1
-read_there source from begin inside behind t b e r =
+    ReadsToEnd 1 inside t after →
+    (length after ≤ length source)
+    × IsTreeAt source (record { begin = begin; end = length source - length after }) t.0 t.1
+read_there source from begin inside after t b e r =
     let own : List Part = flat_map node_parts t.0 ++ parts t.1 in
     let opens : drop begin source ≡ 40 ∷ inside = text_from source from begin b ∙ ap (λ xs. 40 ∷ xs) (sym e) in
-    let less : length (41 ∷ behind) ≤ length inside = rest_le own inside (41 ∷ behind) r.closed in
+    let less : length (41 ∷ after) ≤ length inside = rest_le own inside (41 ∷ after) r.closed in
     let sized : length source - begin ≡ suc (length inside) = sym (length-drop begin source) ∙ ap length opens in
-    let within : length behind ≤ length source = omega arith in
+    let within : length after ≤ length source = omega arith in
     let fit : IsFit (tree t.0 t.1 none) =
     record {
       some = λ e. cc;
@@ -218,8 +218,8 @@ read_there source from begin inside behind t b e r =
       nesting = let h =
           r.tree.nesting in omega arith;
     } in
-    let span : TreeSpan = record { begin = begin; end = length source - length behind } in
-    (within, (stands_there source span t.0 t.1 inside behind b.within opens (omega arith) fit r.closed).0)
+    let span : TreeSpan = record { begin = begin; end = length source - length after } in
+    (within, (stands_there source span t.0 t.1 inside after b.within opens (omega arith) fit r.closed).0)
 
 -- ---- a tree that stops
 
@@ -294,7 +294,7 @@ stops_alike source from place Reason s =
         spells_none = s.spells_none;
         before = none;
         text = drop s.begin source;
-        behind = record {
+        after = record {
           whole = tt;
           nesting = omega arith;
           spelling = ap without_space b.first ∙ begins_no_space (drop s.begin source) begins;
@@ -340,26 +340,26 @@ first_stands source from inside nodes children later rest is fit deep s =
     let own : List Part = flat_map node_parts nodes ++ parts children in
     let split = SpellsParts-split own (closing ∷ parts later) inside rest
     (subst P (sym (append_assoc (flat_map node_parts nodes) (parts children) (closing ∷ parts later))) s) in
-    let behind : List ℕ = split.2.0 in
-    let closes : split.0 ≡ 41 ∷ behind = sym (after_space-same split.0 (no_space_after own inside split.0 split.1))
+    let after : List ℕ = split.2.0 in
+    let closes : split.0 ≡ 41 ∷ after = sym (after_space-same split.0 (no_space_after own inside split.0 split.1))
     ∙ split.2.1 in
     let Q : List ℕ → Type 0 = λ xs. SpellsParts inside own xs in
-    let to_end : SpellsParts inside own (41 ∷ behind) = subst Q closes split.1 in
-    let front = spelled_front own inside (41 ∷ behind) to_end in
-    let sizes : length inside ≡ length front.0 + suc (length behind) = ap length front.1
-    ∙ length-append front.0 (41 ∷ behind) in
-    let before = tree_front (drop from source) in
+    let to_end : SpellsParts inside own (41 ∷ after) = subst Q closes split.1 in
+    let prefix = spelled_prefix own inside (41 ∷ after) to_end in
+    let sizes : length inside ≡ length prefix.0 + suc (length after) = ap length prefix.1
+    ∙ length-append prefix.0 (41 ∷ after) in
+    let before = tree_prefix (drop from source) in
     let whole : length (drop from source) ≡ length before.0 + suc (length inside) =
     ap length before.1 ∙ length-append before.0 (tree_in (drop from source))
     ∙ ap (λ xs. length before.0 + length xs) is in
     let sized : length (drop from source) ≡ length source - from = length-drop from source in
     let left : length (tree_in (drop from source)) ≡ suc (length inside) = ap length is in
-    let span : TreeSpan = record { begin = length source - suc (length inside); end = length source - length behind } in
+    let span : TreeSpan = record { begin = length source - suc (length inside); end = length source - length after } in
     let begins : BeginsAt source from span.begin =
     begins_by source from span.begin (omega arith) (λ none. omega arith) in
     let fits : IsFit (tree nodes children none) =
     record { some = λ e. cc; trees = (fit.0, fit.1, fit.2, tt); nesting = omega arith } in
-    let there = stands_there source span nodes children inside behind begins.within (sym begins.first ∙ is)
+    let there = stands_there source span nodes children inside after begins.within (sym begins.first ∙ is)
     (omega arith) fits to_end in
     let R : List ℕ → Type 0 = λ xs. SpellsParts xs (parts later) rest in
     (span, record { begins = begins; stands = there.0 }, subst R (sym there.1) split.2.2)
@@ -407,23 +407,23 @@ one_before : (source : List ℕ) (from : ℕ) (span : TreeSpan) (nodes : List (L
 one_before source from span nodes children later next g =
     let t = next.stands.text in
     let fit = next.stands.alone.fit in
-    let behind : List ℕ = drop span.end source in
+    let after : List ℕ = drop span.end source in
     let ordered = next.stands.ordered in
     let past : span.begin + (span.end - span.begin) ≡ span.end = omega arith in
-    let whole : drop span.begin source ≡ span_text source span ++ behind =
+    let whole : drop span.begin source ≡ span_text source span ++ after =
     sym (take-append-drop (span.end - span.begin) (drop span.begin source))
     ∙ ap (λ xs. span_text source span ++ xs)
     (drop-drop (span.end - span.begin) span.begin source ∙ ap (λ n. drop n source) past) in
-    let is : tree_in (drop from source) ≡ 40 ∷ (t.0 ++ (41 ∷ behind)) =
-    next.begins.first ∙ whole ∙ ap (λ xs. xs ++ behind) t.1 ∙ ap (λ xs. 40 ∷ xs) (append_assoc t.0 (41 ∷ []) behind) in
+    let is : tree_in (drop from source) ≡ 40 ∷ (t.0 ++ (41 ∷ after)) =
+    next.begins.first ∙ whole ∙ ap (λ xs. xs ++ after) t.1 ∙ ap (λ xs. 40 ∷ xs) (append_assoc t.0 (41 ∷ []) after) in
     record {
       trees = (fit.trees.0, fit.trees.1, fit.trees.2, g.trees);
       nesting = let h = fit.nesting in let k = g.nesting in omega arith;
       rest = g.rest;
       spelling = (
-        t.0 ++ (41 ∷ behind),
+        t.0 ++ (41 ∷ after),
         ap without_space is,
-        tree_closed nodes children (parts later) t.0 behind g.rest t.2 g.spelling,
+        tree_closed nodes children (parts later) t.0 after g.rest t.2 g.spelling,
       );
       ended = g.ended;
     }

@@ -16,10 +16,10 @@ pub tree_then : (nodes : List (List Property)) (children : Trees) (ps : List Par
     ++ (parts (plain children) ++ (closing ∷ ps))))
     ≡ tree_text nodes children ++ text_of_parts ps
 tree_then nodes children ps =
-    let front : List Part = flat_map node_parts (map (map plain_property) nodes) in
-    let inner : front ++ (parts (plain children) ++ (closing ∷ ps)) ≡
-    (front ++ (parts (plain children) ++ (closing ∷ []))) ++ ps =
-    ap (λ qs. front ++ qs) (sym (append_assoc (parts (plain children)) (closing ∷ []) ps))
-    ∙ sym (append_assoc front (parts (plain children) ++ (closing ∷ [])) ps) in
+    let prefix : List Part = flat_map node_parts (map (map plain_property) nodes) in
+    let inner : prefix ++ (parts (plain children) ++ (closing ∷ ps)) ≡
+    (prefix ++ (parts (plain children) ++ (closing ∷ []))) ++ ps =
+    ap (λ qs. prefix ++ qs) (sym (append_assoc (parts (plain children)) (closing ∷ []) ps))
+    ∙ sym (append_assoc prefix (parts (plain children) ++ (closing ∷ [])) ps) in
     ap (λ qs. text_of_parts (opening ∷ qs)) inner
-    ∙ joined-append (opening ∷ (front ++ (parts (plain children) ++ (closing ∷ [])))) ps
+    ∙ joined-append (opening ∷ (prefix ++ (parts (plain children) ++ (closing ∷ [])))) ps

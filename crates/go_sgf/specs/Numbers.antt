@@ -14,13 +14,13 @@ trimmed_end v = reverse (without_space (reverse v))
 abbrev pub trimmed : List ℕ → List ℕ
 trimmed v = trimmed_end (without_space v)
 
-abbrev pub behind_plus : List ℕ → List ℕ
-behind_plus [] = []
-behind_plus (c ∷ cs) = if c == 43 then cs else c ∷ cs
+abbrev pub after_plus : List ℕ → List ℕ
+after_plus [] = []
+after_plus (c ∷ cs) = if c == 43 then cs else c ∷ cs
 
 -- an optional `+` and digits
 abbrev pub number_in : List ℕ → Option ℕ
-number_in v = int_of (behind_plus (trimmed v))
+number_in v = int_of (after_plus (trimmed v))
 
 -- a number begins with a minus sign
 abbrev pub has_minus : List ℕ → Bool
@@ -28,9 +28,9 @@ has_minus [] = false
 has_minus (c ∷ cs) = c == 45
 
 -- a number without its sign
-abbrev pub behind_sign : List ℕ → List ℕ
-behind_sign [] = []
-behind_sign (c ∷ cs) = if c == 43 || c == 45 then cs else c ∷ cs
+abbrev pub after_sign : List ℕ → List ℕ
+after_sign [] = []
+after_sign (c ∷ cs) = if c == 43 || c == 45 then cs else c ∷ cs
 
 -- the place of the point, or of the number's end
 abbrev pub point_place : List ℕ → ℕ
@@ -68,7 +68,7 @@ with_sign minus size = if minus then pos 0 -ℤ pos size else pos size
 
 -- the komi that a word spells, in hundredths: an optional sign, digits, and an optional point among or after them
 abbrev pub komi_of : List ℕ → Option ℤ
-komi_of word = option_map (with_sign (has_minus word)) (size_of_number (behind_sign word))
+komi_of word = option_map (with_sign (has_minus word)) (size_of_number (after_sign word))
 
 abbrev pub hundredths_by : List ℕ → Option ℤ
 hundredths_by v = komi_of (trimmed v)

@@ -10,7 +10,7 @@ use Rattle.go_sgf.specs.declared.limits.TheConstants.{MAX_DEPTH, MAX_RECORD}
 
 -- After these trees, which are whole and not nested deeper than is allowed, the source goes on with this
 -- text. The text begins with a tree's `(` and its `;`.
-pub record IsBehind (source : List ℕ) (before : Trees) (text : List ℕ) : Type 0 where
+pub record IsAfter (source : List ℕ) (before : Trees) (text : List ℕ) : Type 0 where
   pub whole : AreTrees before
   pub nesting : depth before ≤ MAX_DEPTH
   pub spelling : SpellsParts (tree_in source) (parts before) text
@@ -29,7 +29,7 @@ pub record StopsAt (source : List ℕ) (place : ℕ) (Reason : List ℕ → ℕ 
   pub spells_none : (c : Trees) → Spells source c → ⊥
   pub before : Trees
   pub text : List ℕ
-  pub behind : IsBehind source before text
+  pub after : IsAfter source before text
   pub count : ℕ
   pub reading : IsReadUpTo text count Reason
   pub placed : place + length text ≡ length source + count

@@ -56,9 +56,9 @@ pub fn next_tree(source: &[u8], from: usize) -> Result<Option<TreeSpan>, SgfErro
     };
     let (_, inside) = source.split_at(begin + 1);
     match tree(Nothing, &mut None, inside, 1) {
-        Ok(behind) => Ok(Some(TreeSpan {
+        Ok(after) => Ok(Some(TreeSpan {
             begin,
-            end: source.len() - behind.len(),
+            end: source.len() - after.len(),
         })),
         Err(fault) => Err(placed(fault, source.len())),
     }

@@ -92,10 +92,10 @@ fn are_decimal(whole: &[u8], decimals: &[u8]) -> bool
     are_digits(whole)
         && are_digits(decimals)
         && (!whole.is_empty() || !decimals.is_empty())
-        && are_zeros_behind_two(decimals)
+        && are_zeros_after_two(decimals)
 }
 
-fn are_zeros_behind_two(decimals: &[u8]) -> bool
+fn are_zeros_after_two(decimals: &[u8]) -> bool
     ensures { result ≡ list_all (λ b. b == 48) (drop 2 decimals.now) }
 {
     decimals.iter().skip(2).all(|byte| *byte == b'0')

@@ -53,7 +53,7 @@ impl<'a> MainLine<'a> {
         ensures shorter { IsTrue result → length self.new < length self.old }
         ensures onward { length self.new ≤ length self.old }
     {
-        self.pass_properties();
+        self.skip_properties();
         match to_node(self.rest) {
             Some(inside) => {
                 self.rest = inside;
@@ -73,7 +73,7 @@ impl<'a> MainLine<'a> {
         ensures none { IfNone result (self.new ≡ without_space self.new) }
         ensures onward { length self.new ≤ length self.old }
     {
-        self.pass_values();
+        self.skip_values();
         self.name_here()
     }
 
@@ -87,16 +87,16 @@ impl<'a> MainLine<'a> {
         ensures none { IfNone result (self.new ≡ without_space self.old) }
         ensures onward { length self.new ≤ length self.old }
     {
-        let front = after_space(self.rest);
-        self.rest = front;
-        let inside = strip(front, b'[')?;
-        let (value, behind) = value(inside)?;
-        self.rest = behind;
+        let start = after_space(self.rest);
+        self.rest = start;
+        let inside = strip(start, b'[')?;
+        let (value, after) = value(inside)?;
+        self.rest = after;
         Some(value)
     }
 
     /// Skips the values of the property that are left.
-    fn pass_values(&mut self)
+    fn skip_values(&mut self)
         ensures line { (values : List (List ℕ)) (properties : List Property)
             (nodes : List (List Property)) → IsLeft self.old values properties nodes
             → IsLeft self.new [] properties nodes }
@@ -106,7 +106,7 @@ impl<'a> MainLine<'a> {
     }
 
     /// Skips the properties of the node that are left.
-    fn pass_properties(&mut self)
+    fn skip_properties(&mut self)
         ensures line { (values : List (List ℕ)) (properties : List Property)
             (nodes : List (List Property)) → IsLeft self.old values properties nodes
             → IsLeft self.new [] [] nodes }
@@ -128,8 +128,8 @@ impl<'a> MainLine<'a> {
             self.rest = here;
             return None;
         }
-        let (name, behind, _) = name_at(here);
-        self.rest = behind;
+        let (name, after, _) = name_at(here);
+        self.rest = after;
         Some(name)
     }
 }

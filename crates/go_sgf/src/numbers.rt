@@ -29,11 +29,11 @@ fn trim_end(bytes: &[u8]) -> &[u8]
     ensures { result.now ≡ trimmed_end bytes.now }
 {
     let mut rest = bytes;
-    while let Some((last, front)) = rest.split_last() {
+    while let Some((last, prefix)) = rest.split_last() {
         if !is_white(*last) {
             return rest;
         }
-        rest = front;
+        rest = prefix;
     }
     rest
 }

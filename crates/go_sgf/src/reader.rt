@@ -85,12 +85,12 @@ fn property<'a, K: Keep>(
         (outcome MAX_DEPTH in_node d bytes.now) (λ rest. outcome MAX_DEPTH in_node d rest.now) }
     ensures memory { IsErrOf result Fault.Memory → K.keeps }
 {
-    let (name, behind, is_name) = name_at(bytes);
+    let (name, after, is_name) = name_at(bytes);
     if !is_name {
-        return Err(unexpected(behind));
+        return Err(unexpected(after));
     }
     let mut own = Few::new();
-    let rest = values(keep, &mut own, behind)?;
+    let rest = values(keep, &mut own, after)?;
     add_property(keep, list, name, own)?;
     Ok(rest)
 }
@@ -242,12 +242,12 @@ pub(crate) fn tree<'a, K: Keep>(
 ) -> Result<&'a [u8], Fault>
     requires depth { IsWithin MAX_DEPTH depth }
     requires kept { is_some trees.old ≡ true → K.keeps }
-    ensures read { IfOk result (λ behind. (t : TreeValue)
+    ensures read { IfOk result (λ after. (t : TreeValue)
         × (K.keeps → trees_in trees.new ≡ option_map (λ ts. ts ++ t ∷ []) (trees_in trees.old))
-        × ReadsToEnd depth bytes.now t behind.now) }
+        × ReadsToEnd depth bytes.now t after.now) }
     ensures kept { OnOk result (is_some trees.new ≡ is_some trees.old) }
     ensures place { Meets result (outcome MAX_DEPTH opened depth bytes.now)
-        (λ behind. outcome_after MAX_DEPTH depth (without_space behind.now)) }
+        (λ after. outcome_after MAX_DEPTH depth (without_space after.now)) }
     ensures memory { IsErrOf result Fault.Memory → K.keeps }
 {
     let mut own = Few::new();
@@ -257,14 +257,14 @@ pub(crate) fn tree<'a, K: Keep>(
         if depth == MAX_DEPTH {
             return Err(Fault::TooDeep(rest.len()));
         }
-        let behind = tree(keep, &mut children, inside, depth + 1)?;
-        rest = after_space(behind);
+        let after = tree(keep, &mut children, inside, depth + 1)?;
+        rest = after_space(after);
     }
-    let Some(behind) = strip(rest, b')') else {
+    let Some(after) = strip(rest, b')') else {
         return Err(unexpected(rest));
     };
     add_tree(trees, own, children)?;
-    Ok(behind)
+    Ok(after)
 }
 
 /// The error that callers get for a fault in a source of this length.
@@ -302,7 +302,7 @@ fn trees<'a, K: Keep>(
     let mut trees = no_trees(keep);
     while let Some(inside) = strip_tree(rest) {
         rest = match tree(keep, &mut trees, inside, 1) {
-            Ok(behind) => after_space(behind),
+            Ok(after) => after_space(after),
             Err(fault) => return Err(placed(fault, source.len())),
         };
     }

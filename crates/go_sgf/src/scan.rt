@@ -5,7 +5,7 @@ ghost use Rattle.std.specs.List.{list_all, list_any};
 ghost use Rattle.std.specs.Simd.Lanes.{mask_l};
 ghost use Rattle.memchr.specs.Find.{IsFirst, IsFirstByte, Nowhere, Passes, is_byte2};
 ghost use Rattle.go_sgf.specs.inner.Reads.{IsBracketAt, is_letter_first, is_ordinary};
-ghost use Rattle.go_sgf.specs.inner.Tidied.{Outside, behind_from, is_left_out_byte, is_left_out_first, tidied_from};
+ghost use Rattle.go_sgf.specs.inner.Tidied.{Outside, rest_from, is_left_out_byte, is_left_out_first, tidied_from};
 ghost use Rattle.go_sgf.specs.Record.{is_letter_byte, is_upper_byte};
 ghost use Rattle.go_sgf.specs.Spelling.{without_space, is_tree_first, is_first, tree_in, is_space};
 
@@ -48,11 +48,11 @@ pub(crate) fn is_left_out(byte: u8) -> bool
 }
 
 /// Skips the bytes that the canonical spelling leaves out, and returns the rest.
-pub(crate) fn behind_left_out(bytes: &[u8]) -> &[u8]
+pub(crate) fn after_left_out(bytes: &[u8]) -> &[u8]
     ensures written { (d : ℕ) → d ≢ 0
         → tidied_from Outside d bytes.now ≡ tidied_from Outside d result.now }
-    ensures behind { (d : ℕ) → d ≢ 0
-        → behind_from Outside d bytes.now ≡ behind_from Outside d result.now }
+    ensures after { (d : ℕ) → d ≢ 0
+        → rest_from Outside d bytes.now ≡ rest_from Outside d result.now }
     ensures stopped { is_left_out_first result.now ≡ false }
     ensures shorter { length result.now ≤ length bytes.now }
 {
@@ -73,14 +73,14 @@ pub(crate) fn after_space(bytes: &[u8]) -> &[u8]
     ensures { result.now ≡ without_space bytes.now }
 {
     match bytes.split_first() {
-        Some((first, more)) if is_white(*first) => behind_space(more),
+        Some((first, more)) if is_white(*first) => after_more_space(more),
         _ => bytes,
     }
 }
 
 /// The bytes after white space of any length.
 #[tactic(auto, using(crate::proofs::Scanning::space_steps))]
-fn behind_space(bytes: &[u8]) -> &[u8]
+fn after_more_space(bytes: &[u8]) -> &[u8]
     ensures { result.now ≡ without_space bytes.now }
 {
     let mut rest = bytes;
@@ -147,13 +147,13 @@ pub(crate) fn name_at(bytes: &[u8]) -> (&[u8], &[u8], bool)
     ensures stopped { is_letter_first result.1.now ≡ false }
 {
     // Most names have one letter.
-    if let Some((first, behind)) = bytes.split_first() {
-        if is_upper(*first) && begins_with(behind, b'[') {
-            return (bytes.split_at(1).0, behind, true);
+    if let Some((first, after)) = bytes.split_first() {
+        if is_upper(*first) && begins_with(after, b'[') {
+            return (bytes.split_at(1).0, after, true);
         }
     }
-    let (name, behind) = letters(bytes);
-    (name, behind, has_upper(name))
+    let (name, after) = letters(bytes);
+    (name, after, has_upper(name))
 }
 
 /// Whether a tree begins here: `(`, and then `;`, with white space between them or none.
@@ -254,7 +254,7 @@ fn last_stop(bytes: &[u8], from: usize) -> Option<usize>
 #[inline]
 pub(crate) fn near_bracket(bytes: &[u8]) -> Option<usize>
     ensures bracket { IfSome result (λ place. IsBracketAt bytes.now place) }
-    ensures front { IfSome result
+    ensures prefix { IfSome result
         (λ place. list_all is_ordinary (take place bytes.now) ≡ true) }
 {
     let place = near_stop(bytes, 1)?;
@@ -280,14 +280,14 @@ fn first_stop(bytes: &[u8]) -> Option<usize>
 /// The bytes before the first `]` or `\`, that byte, and the bytes after it.
 pub(crate) fn ordinary(bytes: &[u8]) -> Option<(&[u8], u8, &[u8])>
     ensures whole { IfSome result (λ r. bytes.now ≡ r.0.now ++ (r.1 ∷ r.2.now)) }
-    ensures front { IfSome result (λ r. list_all is_ordinary r.0.now ≡ true) }
+    ensures prefix { IfSome result (λ r. list_all is_ordinary r.0.now ≡ true) }
     ensures stopped { IfSome result (λ r. is_ordinary r.1 ≡ false) }
     ensures none { IfNone result (list_all is_ordinary bytes.now ≡ true) }
 {
     let place = first_stop(bytes)?;
-    let (front, rest) = bytes.split_at(place);
+    let (prefix, rest) = bytes.split_at(place);
     match rest.split_first() {
-        Some((byte, more)) => Some((front, *byte, more)),
+        Some((byte, more)) => Some((prefix, *byte, more)),
         None => None,
     }
 }

@@ -54,8 +54,8 @@ fn far_end(bytes: &[u8]) -> Option<usize>
     ensures no_end { IfNone result (HasNoEnd bytes.now) }
 {
     let mut read = 0;
-    while let Some((front, byte, more)) = ordinary(bytes.split_at(read).1) {
-        let place = read + front.len();
+    while let Some((prefix, byte, more)) = ordinary(bytes.split_at(read).1) {
+        let place = read + prefix.len();
         if byte == b']' {
             return Some(place);
         }

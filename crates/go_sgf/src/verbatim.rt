@@ -1,7 +1,7 @@
 //! A prefix of a tree's text that the canonical spelling has unchanged. `writer.rt` writes it in one piece.
 ghost use Rattle.std.specs.Prelude.{◌≡◌, ◌≢◌, ◌≤◌, ◌<◌, ◌+◌, ◌^◌, ◌++◌, ℕ, [], IfNone, IfSome, false, length};
 ghost use Rattle.go_sgf.specs.Spelling.{is_first};
-ghost use Rattle.go_sgf.specs.inner.Tidied.{Outside, StaysTo, behind_from, is_left_out_first, open_after, tidied_from};
+ghost use Rattle.go_sgf.specs.inner.Tidied.{Outside, StaysTo, rest_from, is_left_out_first, open_after, tidied_from};
 
 use crate::scan::{is_left_out, is_upper};
 use crate::values::value_end;
@@ -14,8 +14,8 @@ pub(crate) fn verbatim(text: &[u8], depth: usize) -> Option<(&[u8], &[u8], usize
     ensures whole { IfSome result (λ r. text.now ≡ r.0.now ++ r.1.now) }
     ensures written { IfSome result
         (λ r. tidied_from Outside depth text.now ≡ r.0.now ++ tidied_from Outside r.2 r.1.now) }
-    ensures behind { IfSome result
-        (λ r. behind_from Outside depth text.now ≡ behind_from Outside r.2 r.1.now) }
+    ensures after { IfSome result
+        (λ r. rest_from Outside depth text.now ≡ rest_from Outside r.2 r.1.now) }
     ensures bound { IfSome result (λ r. r.2 + length r.1.now ≤ depth + length text.now) }
     ensures shorter { IfSome result (λ r. length r.1.now < length text.now) }
     ensures none { IfNone result
@@ -24,23 +24,23 @@ pub(crate) fn verbatim(text: &[u8], depth: usize) -> Option<(&[u8], &[u8], usize
     if depth == 0 {
         return None;
     }
-    let mut rest = behind_properties(text);
+    let mut rest = after_properties(text);
     let mut there = depth;
-    while let Some((more, now)) = behind_next(rest, there) {
+    while let Some((more, now)) = after_next(rest, there) {
         rest = more;
         there = now;
     }
-    let (front, _) = text.split_at(text.len() - rest.len());
-    if front.is_empty() {
+    let (prefix, _) = text.split_at(text.len() - rest.len());
+    if prefix.is_empty() {
         return None;
     }
-    Some((front, rest, there))
+    Some((prefix, rest, there))
 }
 
 /// Skips a byte that is written, and in an open tree the properties after it. Returns the rest and the number
 /// of open trees there.
 #[inline]
-fn behind_next(text: &[u8], depth: usize) -> Option<(&[u8], usize)>
+fn after_next(text: &[u8], depth: usize) -> Option<(&[u8], usize)>
     requires bound { depth + length text.now ≤ 2 ^ 63 }
     requires outside { depth ≢ 0 → is_first 91 text.now ≡ false }
     ensures stays { IfSome result (λ r. StaysTo Outside depth text.now r.1 r.0.now) }
@@ -57,15 +57,15 @@ fn behind_next(text: &[u8], depth: usize) -> Option<(&[u8], usize)>
     if is_left_out(*byte) {
         return None;
     }
-    let now = open_behind(*byte, depth);
+    let now = depth_after(*byte, depth);
     if now == 0 {
         return Some((more, now));
     }
-    Some((behind_properties(more), now))
+    Some((after_properties(more), now))
 }
 
 /// The number of trees that are open after a byte outside of values.
-fn open_behind(byte: u8, depth: usize) -> usize
+fn depth_after(byte: u8, depth: usize) -> usize
     requires some { depth ≢ 0 }
     requires bound { depth < 2 ^ 63 }
     ensures open { result ≡ open_after Outside depth byte }
@@ -82,7 +82,7 @@ fn open_behind(byte: u8, depth: usize) -> usize
 /// an index, which is faster than a slice for each byte. It isn't inlined, so text and index stay in
 /// registers.
 #[inline(never)]
-fn behind_properties(text: &[u8]) -> &[u8]
+fn after_properties(text: &[u8]) -> &[u8]
     ensures stays { (d : ℕ) → d ≢ 0 → StaysTo Outside d text.now d result.now }
     ensures stopped { is_first 91 result.now ≡ false }
     ensures shorter { length result.now ≤ length text.now }

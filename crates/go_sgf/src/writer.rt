@@ -3,14 +3,14 @@
 ghost use Rattle.std.specs.Prelude.{◌≡◌, ◌≤◌, ℕ, List, length};
 ghost use Rattle.go_board.specs.Device.{Sent, failures_after};
 ghost use Rattle.go_board.specs.Pens.{Writes};
-ghost use Rattle.go_sgf.specs.inner.Tidied.{Outside, behind_from, tidied_from};
+ghost use Rattle.go_sgf.specs.inner.Tidied.{Outside, rest_from, tidied_from};
 ghost use Rattle.go_sgf.specs.Record.{Trees};
 ghost use Rattle.go_sgf.specs.Spelling.{OfRecord, Spells, canonical, without_space};
 
 use crate::checked::Checked;
 use crate::laws::one_record;
 use crate::record::Collection;
-use crate::scan::{after_space, behind_left_out, from_tree, strip_tree};
+use crate::scan::{after_left_out, after_space, from_tree, strip_tree};
 use crate::verbatim::verbatim;
 use go_board::{Pen, Sink, WriteFault};
 use std::alloc::Allocator;
@@ -59,16 +59,16 @@ fn put_trees<W: Sink>(source: &[u8], pen: &mut Pen<'_, W>)
 /// run of unchanged bytes in one piece. In a checked source each tree ends, so it never returns early.
 fn put_tree<'a, W: Sink>(text: &'a [u8], pen: &mut Pen<'_, W>) -> &'a [u8]
     ensures written { Writes W.Sink pen.old pen.new (tidied_from Outside 1 text.now) }
-    ensures rest { result.now ≡ without_space (behind_from Outside 1 text.now) }
+    ensures rest { result.now ≡ without_space (rest_from Outside 1 text.now) }
     ensures shorter { length result.now ≤ length text.now }
 {
     let mut rest = text;
     let mut depth = 1;
     while depth != 0 {
-        let Some((front, more, now)) = verbatim(behind_left_out(rest), depth) else {
+        let Some((prefix, more, now)) = verbatim(after_left_out(rest), depth) else {
             return &[];
         };
-        pen.put(front);
+        pen.put(prefix);
         rest = more;
         depth = now;
     }

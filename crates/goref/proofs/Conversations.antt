@@ -164,12 +164,12 @@ cut_breaks_off {s} {now} {lines} {given} {given'} {taken} {taken'} law w =
     record {
       asked = p.asked ++ r.asked;
       later = c.0;
-      text = p.text ++ t.front;
+      text = p.text ++ t.prefix;
       rest = t.rest ++ c.1;
       is = retold (sym w.whole) (sym (append_assoc p.asked r.asked c.0))
-          (ap (λ x. p.text ++ (x ++ c.1)) t.whole ∙ ap (λ x. p.text ++ x) (append_assoc t.front t.rest c.1)
-          ∙ sym (append_assoc p.text t.front (t.rest ++ c.1)))
+          (ap (λ x. p.text ++ (x ++ c.1)) t.whole ∙ ap (λ x. p.text ++ x) (append_assoc t.prefix t.rest c.1)
+          ∙ sym (append_assoc p.text t.prefix (t.rest ++ c.1)))
           (p.reaches.on (w.line ∷ w.after) (r.asked ++ c.0) (r.answered.reply.text ++ c.1) c.2);
       tells = pairs_on given p.asked r.asked p.tells r.tells;
-      took = bytes_on taken p.text t.front p.took t.taken;
+      took = bytes_on taken p.text t.prefix p.took t.taken;
     }

@@ -142,9 +142,9 @@ pub first_cut : (rest : List ℕ) (end : ℕ) → IsFirstByte (is_byte 10) rest 
     × (rest ≡ take end rest ++ (10 ∷ drop 1 (drop end rest)))
 first_cut rest end h = first_line rest end (λ k l. h.0.before k (omega arith) l) h.0.high h.1
 
-pub chunk_cut : (chunk front rest part after : List ℕ) (end : ℕ) → chunk ≡ front ++ rest → part ≡ take end rest →
+pub chunk_cut : (chunk prefix rest part after : List ℕ) (end : ℕ) → chunk ≡ prefix ++ rest → part ≡ take end rest →
     after ≡ drop 1 (drop end rest) → IsFirstByte (is_byte 10) rest (Some end) →
-    chunk ≡ front ++ ((part ++ 10 ∷ []) ++ after)
-chunk_cut chunk front rest part after end whole p a h =
-    whole ∙ ap (λ xs. front ++ xs) ((first_cut rest end h).1 ∙ ap (λ xs. xs ++ (10 ∷ drop 1 (drop end rest))) (sym p)
+    chunk ≡ prefix ++ ((part ++ 10 ∷ []) ++ after)
+chunk_cut chunk prefix rest part after end whole p a h =
+    whole ∙ ap (λ xs. prefix ++ xs) ((first_cut rest end h).1 ∙ ap (λ xs. xs ++ (10 ∷ drop 1 (drop end rest))) (sym p)
     ∙ ap (λ xs. part ++ (10 ∷ xs)) (sym a) ∙ sym (append_assoc part (10 ∷ []) after))

@@ -35,16 +35,16 @@ line_and_later read part more n h =
     ∙ append_assoc (complete_lines read) ((unfinished_line read ++ part) ∷ []) h.0)
 
 -- what was settled in the midst of a chunk stays so whatever is read
-cut_again : (read front line rest chunk more : List ℕ) → chunk ≡ front ++ (line ++ rest) → ((read ++ front) ++ line)
+cut_again : (read prefix line rest chunk more : List ℕ) → chunk ≡ prefix ++ (line ++ rest) → ((read ++ prefix) ++ line)
     ++ (rest ++ more) ≡ (read ++ chunk) ++ more
-cut_again read front line rest chunk more e =
-    sym (append_assoc ((read ++ front) ++ line) rest more)
-    ∙ ap (λ xs. xs ++ more) (append_assoc (read ++ front) line rest ∙ append_assoc read front (line ++ rest)
+cut_again read prefix line rest chunk more e =
+    sym (append_assoc ((read ++ prefix) ++ line) rest more)
+    ∙ ap (λ xs. xs ++ more) (append_assoc (read ++ prefix) line rest ∙ append_assoc read prefix (line ++ rest)
     ∙ ap (λ xs. read ++ xs) (sym e))
 
-pub settled : (P : List ℕ → Type 0) (read front line rest chunk : List ℕ) → chunk ≡ front ++ (line ++ rest) →
-    ((more : List ℕ) → P (((read ++ front) ++ line) ++ more)) → (more : List ℕ) → P ((read ++ chunk) ++ more)
-settled P read front line rest chunk e h more = subst P (cut_again read front line rest chunk more e) (h (rest ++ more))
+pub settled : (P : List ℕ → Type 0) (read prefix line rest chunk : List ℕ) → chunk ≡ prefix ++ (line ++ rest) →
+    ((more : List ℕ) → P (((read ++ prefix) ++ line) ++ more)) → (more : List ℕ) → P ((read ++ chunk) ++ more)
+settled P read prefix line rest chunk e h more = subst P (cut_again read prefix line rest chunk more e) (h (rest ++ more))
 
 -- the end of the input: a last line, or none
 silent_reply : (s : Standing) (content : Content) (reply : Said) → Reply s (kept []) content reply → reply ≡ silent s

@@ -9,7 +9,7 @@ use Rattle.goref.specs.Lines.{lines}
 use Rattle.goref.specs.Shelves.{Pair}
 use Rattle.goref.specs.Conversation.{BreaksOff}
 use Rattle.goref.specs.inner.Progress.{Progress}
-use Rattle.goref.specs.Runs.{AnswersComplete, AnswersFront}
+use Rattle.goref.specs.Runs.{AnswersComplete, AnswersPrefix}
 use Rattle.goref.specs.lemmas.Conversations.{so_far}
 
 -- the complete lines of what was read are answered
@@ -23,11 +23,11 @@ answers_complete {s} {now} {read} e p = record {
   converses = so_far p.goes_on;
 }
 
-pub answers_front : {s : Standing} {left left' : Option (List ℕ)} {given given' : Option (List Pair)}
+pub answers_prefix : {s : Standing} {left left' : Option (List ℕ)} {given given' : Option (List Pair)}
     {taken taken' : Option (List ℕ)} (read : List ℕ) →
     left ≡ after_bytes read left' → BreaksOff s (lines read) given given' taken taken' →
-    AnswersFront s left left' given given' taken taken'
-answers_front read e b = record { read = read; has_read = e; breaks_off = b }
+    AnswersPrefix s left left' given given' taken taken'
+answers_prefix read e b = record { read = read; has_read = e; breaks_off = b }
 
 -- what holds of what was read holds of the input, where that has ended
 pub of_ended : (P : List ℕ → Type 0) (read : List ℕ) {left : Option (List ℕ)} (left' : Option (List ℕ)) →

@@ -18,7 +18,7 @@ pub record AnswersComplete (s : Standing) (left left' : Option (List ℕ)) (give
   pub converses : Converses s (complete_lines read) given given' taken taken'
 
 -- what was read, and a prefix of the answers to the lines in it was written
-pub record AnswersFront (s : Standing) (left left' : Option (List ℕ)) (given given' : Option (List Pair))
+pub record AnswersPrefix (s : Standing) (left left' : Option (List ℕ)) (given given' : Option (List Pair))
     (taken taken' : Option (List ℕ)) : Type 0 where
   pub read : List ℕ
   pub has_read : left ≡ after_bytes read left'
@@ -68,7 +68,7 @@ pub record Runs {T R W : Type 0} (limit : ℕ) (start : Standing) (input : sourc
         (λ bytes. Converses start (lines bytes) given given' (output.taken writer) (output.taken writer')))
     pub ended : IsErrOf result Read ⊎ IsErrOf result Endless → AnswersComplete start (input.left reader)
         (input.left reader') given given' (output.taken writer) (output.taken writer')
-    pub write : IsErrOf result Write → AnswersFront start (input.left reader) (input.left reader') given given'
+    pub write : IsErrOf result Write → AnswersPrefix start (input.left reader) (input.left reader') given given'
         (output.taken writer) (output.taken writer')
     pub devices : RunsOn limit input output result reader reader' writer writer'
 

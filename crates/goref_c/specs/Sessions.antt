@@ -76,9 +76,9 @@ line_goes_on true b line = []
 line_goes_on false b line = b ∷ line
 
 -- the bytes before the first line end
-abbrev pub line_at_front : List ℕ → List ℕ
-line_at_front [] = []
-line_at_front (b ∷ text) = line_goes_on (is_line_end b) b (line_at_front text)
+abbrev pub line_at_start : List ℕ → List ℕ
+line_at_start [] = []
+line_at_start (b ∷ text) = line_goes_on (is_line_end b) b (line_at_start text)
 
 -- the room has the name of the file that a line asks for, where it asks for one
 abbrev pub ShowsName : ℕ → Option (List ℕ) → List ℕ → List ℕ → ℕ → Type 0
@@ -87,4 +87,4 @@ ShowsName status (Some name) room room' count = (status ≡ 0) × IsText name ro
 
 -- the same of the first line of a text
 abbrev pub ShowsWanted : ℕ → List ℕ → List ℕ → List ℕ → ℕ → Type 0
-ShowsWanted status text = ShowsName status (wanted (kept (line_at_front text)))
+ShowsWanted status text = ShowsName status (wanted (kept (line_at_start text)))

@@ -3,7 +3,7 @@ ghost use Rattle.std.specs.Prelude.{◌≡◌, ◌≢◌, ◌⊎◌, ◌<◌, �
 ghost use Rattle.go_board.specs.declared.size.TheConstants.{MAX_LINES};
 ghost use Rattle.goref_c.specs.Ends.{IsText};
 ghost use Rattle.goref_c.specs.Files.{bytes_of};
-ghost use Rattle.goref_c.specs.Sessions.{ComesTo, ShowsAnswered, ShowsWanted, fresh, line_at_front};
+ghost use Rattle.goref_c.specs.Sessions.{ComesTo, ShowsAnswered, ShowsWanted, fresh, line_at_start};
 
 use crate::handle::Handle;
 use crate::held::Held;
@@ -91,7 +91,7 @@ pub(crate) fn wanted(text: &[u8], room: &mut [u8], length: &mut usize) -> u8
 
 /// The bytes of a text before its first line end.
 fn first_line(text: &[u8]) -> &[u8]
-    ensures { result.now ≡ line_at_front text.now }
+    ensures { result.now ≡ line_at_start text.now }
 {
     match memchr(b'\n', text) {
         Some(end) => text.split_at(end).0,

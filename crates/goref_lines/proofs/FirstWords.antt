@@ -13,11 +13,11 @@ word_len text = prefix_len (λ b. not (is_plain_space b)) text
 abbrev pub first_word : List ℕ → List ℕ
 first_word text = take (word_len text) text
 
-abbrev pub behind_word : List ℕ → List ℕ
-behind_word text = drop (word_len text) text
+abbrev pub rest_after_word : List ℕ → List ℕ
+rest_after_word text = drop (word_len text) text
 
-abbrev pub behind_spaces : List ℕ → List ℕ
-behind_spaces text = drop (prefix_len is_plain_space text) text
+abbrev pub after_spaces : List ℕ → List ℕ
+after_spaces text = drop (prefix_len is_plain_space text) text
 
 one_more : (n : ℕ) → 1 + n ≡ suc n
 one_more n = omega arith
@@ -25,21 +25,21 @@ one_more n = omega arith
 words_space : (b : ℕ) (text : List ℕ) → is_plain_space b ≡ true → words (b ∷ text) ≡ words text
 words_space b text e = ap (filter has_bytes) (slice_split-cons_yes is_plain_space b text e)
 
-behind_spaces-cons : (s : Bool) (b : ℕ) (text : List ℕ) (n : ℕ) →
+after_spaces-cons : (s : Bool) (b : ℕ) (text : List ℕ) (n : ℕ) →
     drop (cond s (1 + n) 0) (b ∷ text) ≡ cond s (drop n text) (b ∷ text)
-behind_spaces-cons true b text n = ap (λ m. drop m (b ∷ text)) (one_more n)
-behind_spaces-cons false b text n = refl
+after_spaces-cons true b text n = ap (λ m. drop m (b ∷ text)) (one_more n)
+after_spaces-cons false b text n = refl
 
-words_behind_spaces-cons : (s : Bool) (b : ℕ) (text behind : List ℕ) → is_plain_space b ≡ s →
-    words text ≡ words behind → words (b ∷ text) ≡ words (cond s behind (b ∷ text))
-words_behind_spaces-cons true b text behind e h = words_space b text e ∙ h
-words_behind_spaces-cons false b text behind e h = refl
+words_after_spaces-cons : (s : Bool) (b : ℕ) (text after : List ℕ) → is_plain_space b ≡ s →
+    words text ≡ words after → words (b ∷ text) ≡ words (cond s after (b ∷ text))
+words_after_spaces-cons true b text after e h = words_space b text e ∙ h
+words_after_spaces-cons false b text after e h = refl
 
-words_behind_spaces : (text : List ℕ) → words text ≡ words (behind_spaces text)
-words_behind_spaces [] = refl
-words_behind_spaces (b ∷ text) =
-    words_behind_spaces-cons (is_plain_space b) b text _ refl (words_behind_spaces text)
-    ∙ ap words (sym (behind_spaces-cons (is_plain_space b) b text (prefix_len is_plain_space text)))
+words_after_spaces : (text : List ℕ) → words text ≡ words (after_spaces text)
+words_after_spaces [] = refl
+words_after_spaces (b ∷ text) =
+    words_after_spaces-cons (is_plain_space b) b text _ refl (words_after_spaces text)
+    ∙ ap words (sym (after_spaces-cons (is_plain_space b) b text (prefix_len is_plain_space text)))
 
 -- the parts of a text are its first word, and others that have the words behind it
 abbrev HasFirst : List ℕ → ℕ → List (List ℕ) → Type 0
@@ -58,18 +58,18 @@ has_first (b ∷ text) = has_first-cons (is_plain_space b) b text (word_len text
     refl (has_first text)
 
 -- no word is left only where nothing stands behind the first spaces
-blank_is_empty-cons : (s : Bool) (b : ℕ) (text behind : List ℕ) → is_plain_space b ≡ s →
-    (first_word behind ≡ [] → behind ≡ []) →
-    first_word (cond s behind (b ∷ text)) ≡ [] → cond s behind (b ∷ text) ≡ []
-blank_is_empty-cons true b text behind e h none = h none
-blank_is_empty-cons false b text behind e h none = let some = rw (e, one_more (word_len text)) at none in cc
+blank_is_empty-cons : (s : Bool) (b : ℕ) (text after : List ℕ) → is_plain_space b ≡ s →
+    (first_word after ≡ [] → after ≡ []) →
+    first_word (cond s after (b ∷ text)) ≡ [] → cond s after (b ∷ text) ≡ []
+blank_is_empty-cons true b text after e h none = h none
+blank_is_empty-cons false b text after e h none = let some = rw (e, one_more (word_len text)) at none in cc
 
-blank_is_empty : (text : List ℕ) → first_word (behind_spaces text) ≡ [] → behind_spaces text ≡ []
+blank_is_empty : (text : List ℕ) → first_word (after_spaces text) ≡ [] → after_spaces text ≡ []
 blank_is_empty [] none = refl
 blank_is_empty (b ∷ text) none =
-    let at : behind_spaces (b ∷ text) ≡ cond (is_plain_space b) (behind_spaces text) (b ∷ text) =
-    behind_spaces-cons (is_plain_space b) b text (prefix_len is_plain_space text) in
-    at ∙ blank_is_empty-cons (is_plain_space b) b text (behind_spaces text) refl (blank_is_empty text)
+    let at : after_spaces (b ∷ text) ≡ cond (is_plain_space b) (after_spaces text) (b ∷ text) =
+    after_spaces-cons (is_plain_space b) b text (prefix_len is_plain_space text) in
+    at ∙ blank_is_empty-cons (is_plain_space b) b text (after_spaces text) refl (blank_is_empty text)
     (ap first_word (sym at) ∙ none)
 
 filter_word : (word : List ℕ) (parts : List (List ℕ)) → nat_eq (length word) 0 ≡ false →
@@ -78,12 +78,12 @@ filter_word [] parts e = cc
 filter_word (b ∷ word) parts e = refl
 
 -- where the bytes before the next space are some, they are the next word
-pub word_comes : (text word rest : List ℕ) → word ≡ first_word (behind_spaces text) →
-    rest ≡ behind_word (behind_spaces text) → nat_eq (length word) 0 ≡ false →
+pub word_comes : (text word rest : List ℕ) → word ≡ first_word (after_spaces text) →
+    rest ≡ rest_after_word (after_spaces text) → nat_eq (length word) 0 ≡ false →
     words text ≡ word ∷ words rest
 word_comes text word rest is_word is_rest some =
-    let parts = has_first (behind_spaces text) in
-    words_behind_spaces text ∙ ap (filter has_bytes) parts.1
+    let parts = has_first (after_spaces text) in
+    words_after_spaces text ∙ ap (filter has_bytes) parts.1
     ∙ ap (λ w. filter has_bytes (w ∷ parts.0)) (sym is_word)
     ∙ filter_word word parts.0 some
     ∙ ap (λ ws. word ∷ ws) (parts.2 ∙ ap words (sym is_rest))
@@ -93,9 +93,9 @@ is_empty [] e = refl
 is_empty (b ∷ word) e = grind (arith, nat_tests)
 
 -- where they are none, no word is left
-pub no_word_comes : (text word rest : List ℕ) → word ≡ first_word (behind_spaces text) →
-    rest ≡ behind_word (behind_spaces text) → nat_eq (length word) 0 ≡ true →
+pub no_word_comes : (text word rest : List ℕ) → word ≡ first_word (after_spaces text) →
+    rest ≡ rest_after_word (after_spaces text) → nat_eq (length word) 0 ≡ true →
     (words text ≡ []) × (words rest ≡ [])
 no_word_comes text word rest is_word is_rest none =
-    let behind = blank_is_empty text (sym is_word ∙ is_empty word none) in
-    (words_behind_spaces text ∙ ap words behind, ap words (is_rest ∙ ap behind_word behind))
+    let after = blank_is_empty text (sym is_word ∙ is_empty word none) in
+    (words_after_spaces text ∙ ap words after, ap words (is_rest ∙ ap rest_after_word after))

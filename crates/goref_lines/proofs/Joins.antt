@@ -36,10 +36,10 @@ filter_some ((c ∷ part) ∷ []) e = (c ∷ part, [], refl)
 filter_some ([] ∷ next ∷ parts) e = filter_some (next ∷ parts) e
 filter_some ((c ∷ part) ∷ next ∷ parts) e = (c ∷ part, filter has_bytes (next ∷ parts), refl)
 
-onto_last_behind : (b : ℕ) (word : List ℕ) (ws : List (List ℕ)) → HasParts ws →
+onto_last_after : (b : ℕ) (word : List ℕ) (ws : List (List ℕ)) → HasParts ws →
     word ∷ onto_last b ws ≡ onto_last b (word ∷ ws)
-onto_last_behind b word [] h = cc h.2
-onto_last_behind b word (w ∷ ws) h = refl
+onto_last_after b word [] h = cc h.2
+onto_last_after b word (w ∷ ws) h = refl
 
 -- a byte behind another goes to the last word
 filter_last : (b : ℕ) (parts : List (List ℕ)) → ends_empty parts ≡ false →
@@ -50,7 +50,7 @@ filter_last b ((c ∷ part) ∷ []) e = refl
 filter_last b ([] ∷ next ∷ parts) e = filter_last b (next ∷ parts) e
 filter_last b ((c ∷ part) ∷ next ∷ parts) e =
     ap (λ ws. (c ∷ part) ∷ ws) (filter_last b (next ∷ parts) e)
-    ∙ onto_last_behind b (c ∷ part) (filter has_bytes (next ∷ parts)) (filter_some (next ∷ parts) e)
+    ∙ onto_last_after b (c ∷ part) (filter has_bytes (next ∷ parts)) (filter_some (next ∷ parts) e)
 
 join_new : (b : ℕ) (ws : List (List ℕ)) → join_with_byte 32 (ws ++ (b ∷ []) ∷ []) ≡ join_with_byte 32 ws
     ++ (if has_parts ws then 32 ∷ b ∷ [] else b ∷ [])
@@ -78,7 +78,7 @@ has_bytes-join ((b ∷ part) ∷ parts) = joins_some b part (filter has_bytes pa
 
 -- a text is empty, or a byte stands last
 abbrev pub SnocView : List ℕ → Type 0
-SnocView text = (front : List ℕ) × (b : ℕ) × (text ≡ front ++ b ∷ [])
+SnocView text = (prefix : List ℕ) × (b : ℕ) × (text ≡ prefix ++ b ∷ [])
 
 pub snoc_view : (b : ℕ) (text : List ℕ) → SnocView (b ∷ text)
 snoc_view b [] = ([], b, refl)
@@ -101,20 +101,20 @@ ends_empty-onto_last b ((c ∷ part) ∷ []) = refl
 ends_empty-onto_last b (part ∷ next ∷ []) = ends_empty-onto_last b (next ∷ [])
 ends_empty-onto_last b (part ∷ next ∷ other ∷ parts) = ends_empty-onto_last b (next ∷ other ∷ parts)
 
-ends_empty_is : (front : List ℕ) (b : ℕ) (s : Bool) → is_plain_space b ≡ s →
-    ends_empty (slice_split is_plain_space (front ++ b ∷ [])) ≡ s
-ends_empty_is front b true e = ap ends_empty (slice_split_push_yes is_plain_space front b e)
-    ∙ ends_empty-push (slice_split is_plain_space front)
-ends_empty_is front b false e = ap ends_empty (slice_split_push_no is_plain_space front b e)
-    ∙ ends_empty-onto_last b (slice_split is_plain_space front)
+ends_empty_is : (prefix : List ℕ) (b : ℕ) (s : Bool) → is_plain_space b ≡ s →
+    ends_empty (slice_split is_plain_space (prefix ++ b ∷ [])) ≡ s
+ends_empty_is prefix b true e = ap ends_empty (slice_split_push_yes is_plain_space prefix b e)
+    ∙ ends_empty-push (slice_split is_plain_space prefix)
+ends_empty_is prefix b false e = ap ends_empty (slice_split_push_no is_plain_space prefix b e)
+    ∙ ends_empty-onto_last b (slice_split is_plain_space prefix)
 
 -- a space stands behind a word
 abbrev pub has_trailing_space : List ℕ → Bool
 has_trailing_space text = has_bytes (single_spaced text) && ends_with_space text
 
-trailing_space_last : (front : List ℕ) (b : ℕ) →
-    ends_with_space (front ++ b ∷ []) ≡ ends_empty (slice_split is_plain_space (front ++ b ∷ []))
-trailing_space_last front b = ends_with_space-push front b ∙ sym (ends_empty_is front b (is_plain_space b) refl)
+trailing_space_last : (prefix : List ℕ) (b : ℕ) →
+    ends_with_space (prefix ++ b ∷ []) ≡ ends_empty (slice_split is_plain_space (prefix ++ b ∷ []))
+trailing_space_last prefix b = ends_with_space-push prefix b ∙ sym (ends_empty_is prefix b (is_plain_space b) refl)
 
 pub has_trailing_space_is : (text : List ℕ) →
     has_trailing_space text ≡ (has_parts (words text) && ends_empty (slice_split is_plain_space text))

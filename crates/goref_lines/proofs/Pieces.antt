@@ -85,10 +85,10 @@ joined_byte b h = at (is_word_byte b) (is_plain_space b) refl refl h
     at false true e f h = subst Kept_so (sym (is_space b f)) (refl, refl, refl)
     at false false e f h = cc
 
-of_joined : (behind : Bool) (bytes : List ℕ) → goes_on_joined behind bytes ≡ true → AreOfJoined bytes
-of_joined behind [] h = refl
-of_joined behind (b ∷ bytes) h =
-    at (is_word_byte b) (is_plain_space b) behind (of_joined true bytes) (of_joined false bytes) h
+of_joined : (after : Bool) (bytes : List ℕ) → goes_on_joined after bytes ≡ true → AreOfJoined bytes
+of_joined after [] h = refl
+of_joined after (b ∷ bytes) h =
+    at (is_word_byte b) (is_plain_space b) after (of_joined true bytes) (of_joined false bytes) h
   where
     at : (w s a : Bool) → (goes_on_joined true bytes ≡ true → AreOfJoined bytes) →
         (goes_on_joined false bytes ≡ true → AreOfJoined bytes) →
@@ -135,10 +135,10 @@ before_more : (has_space : Bool) (b : ℕ) (bytes : List ℕ) → with_space has
 before_more true b bytes = refl
 before_more false b bytes = refl
 
-has_bytes_behind : (text : List ℕ) (has_space : Bool) (b : ℕ) → has_bytes (text ++ with_space has_space (b ∷ [])) ≡ true
-has_bytes_behind [] true b = refl
-has_bytes_behind [] false b = refl
-has_bytes_behind (c ∷ text) has_space b = refl
+has_bytes_after : (text : List ℕ) (has_space : Bool) (b : ℕ) → has_bytes (text ++ with_space has_space (b ∷ [])) ≡ true
+has_bytes_after [] true b = refl
+has_bytes_after [] false b = refl
+has_bytes_after (c ∷ text) has_space b = refl
 
 -- behind a text with words, which ends with a space where one is due, these bytes join as they are
 abbrev Joins : Bool → List ℕ → List ℕ → Type 0
@@ -166,17 +166,17 @@ join_space text b bytes space later = (
 
 has_words_then : (text : List ℕ) (b : ℕ) → is_word_byte b ≡ true → has_bytes (single_spaced (text ++ b ∷ [])) ≡ true
 has_words_then text b one = ap has_bytes (joined_push_byte text b (no_space b one))
-    ∙ has_bytes_behind (single_spaced text) (has_trailing_space text) b
+    ∙ has_bytes_after (single_spaced text) (has_trailing_space text) b
 
-joins : (bytes text : List ℕ) (behind : Bool) → goes_on_joined behind bytes ≡ true →
-    has_trailing_space text ≡ not behind → has_bytes (single_spaced text) ≡ true → Joins (not behind) bytes text
+joins : (bytes text : List ℕ) (after : Bool) → goes_on_joined after bytes ≡ true →
+    has_trailing_space text ≡ not after → has_bytes (single_spaced text) ≡ true → Joins (not after) bytes text
 joins [] text true h space some = (
   ap single_spaced (append-nil text) ∙ sym (append-nil (single_spaced text)),
   ap has_trailing_space (append-nil text)
       ∙ space,
 )
 joins [] text false h space some = cc
-joins (b ∷ bytes) text behind h space some = at (is_word_byte b) (is_plain_space b) behind refl refl h space
+joins (b ∷ bytes) text after h space some = at (is_word_byte b) (is_plain_space b) after refl refl h space
     (λ g one. joins bytes (text ++ b ∷ []) true g (has_trailing_space_push_byte text b (no_space b one))
     (has_words_then text b one))
     (λ g e. joins bytes (text ++ b ∷ []) false g (has_trailing_space_push_space text b e ∙ some)
@@ -251,11 +251,11 @@ kept_words line (b ∷ word) k seen text is_long none joined grows =
     ∙ sym (plain_is (line ++ b ∷ word) any')
 
 -- joined words go on where a word goes on, or another follows behind a single space
-pub joined_append : (behind : Bool) (bytes more : List ℕ) → goes_on_joined behind bytes ≡ true →
-    goes_on_joined true more ≡ true → goes_on_joined behind (bytes ++ more) ≡ true
-joined_append behind [] more h g = ap (λ a. goes_on_joined a more) h ∙ g
-joined_append behind (b ∷ bytes) more h g =
-    at (is_word_byte b) (is_plain_space b && behind) h (λ k. joined_append true bytes more k g)
+pub joined_append : (after : Bool) (bytes more : List ℕ) → goes_on_joined after bytes ≡ true →
+    goes_on_joined true more ≡ true → goes_on_joined after (bytes ++ more) ≡ true
+joined_append after [] more h g = ap (λ a. goes_on_joined a more) h ∙ g
+joined_append after (b ∷ bytes) more h g =
+    at (is_word_byte b) (is_plain_space b && after) h (λ k. joined_append true bytes more k g)
     (λ k. joined_append false bytes more k g)
   where
     at : (w s : Bool) → (if w then goes_on_joined true bytes else (s && goes_on_joined false bytes)) ≡ true →
@@ -290,36 +290,36 @@ joined_push_word bytes n b more space e h =
 pub record JoinedUpTo (bytes : List ℕ) (end place : ℕ) : Type 0 where
   pub within : end ≤ place
   pub joined : 0 < end → AreJoined (take end bytes)
-  pub behind : end < place → (0 < end) × (end + 1 ≡ place) × (get_or bytes end 0 ≡ 32)
+  pub after : end < place → (0 < end) × (end + 1 ≡ place) × (get_or bytes end 0 ≡ 32)
 
 pub joined_next : (bytes : List ℕ) (end place : ℕ) → JoinedUpTo bytes end place → place < length bytes →
     is_word_byte (get_or bytes place 0) ≡ true → JoinedUpTo bytes (place + 1) (place + 1)
 joined_next bytes end place h short word = record {
   within = omega arith;
   joined = λ _. at (nat_lt end place) refl short word;
-  behind = λ more. absurd (omega (arith, more));
+  after = λ more. absurd (omega (arith, more));
 }
   where
     Next : ℕ → Type 0
     Next p = p < length bytes → is_word_byte (get_or bytes p 0) ≡ true → AreJoined (take (p + 1) bytes)
 
-    right_behind : Next end
-    right_behind l w = joined_push bytes end (get_or bytes end 0) (take_more bytes end 0 l) w h.joined
+    right_after : Next end
+    right_after l w = joined_push bytes end (get_or bytes end 0) (take_more bytes end 0 l) w h.joined
 
-    one_behind : (0 < end) × (end + 1 ≡ place) × (get_or bytes end 0 ≡ 32) → Next (end + 1)
-    one_behind s l w =
+    one_after : (0 < end) × (end + 1 ≡ place) × (get_or bytes end 0 ≡ 32) → Next (end + 1)
+    one_after s l w =
         joined_push_word bytes end (get_or bytes (end + 1) 0) (take_more bytes (end + 1) 0 l)
         (take_more bytes end 0 (omega arith) ∙ ap (λ b. take end bytes ++ b ∷ []) s.2) w (h.joined s.0)
 
-    is_behind : nat_lt end place ≡ true → end < place
-    is_behind e = grind (arith, nat_tests)
+    is_after : nat_lt end place ≡ true → end < place
+    is_after e = grind (arith, nat_tests)
 
-    is_not_behind : nat_lt end place ≡ false → place ≤ end
-    is_not_behind e = grind (arith, nat_tests)
+    is_not_after : nat_lt end place ≡ false → place ≤ end
+    is_not_after e = grind (arith, nat_tests)
 
     at : (t : Bool) → nat_lt end place ≡ t → Next place
-    at true e = let s = h.behind (is_behind e) in subst Next s.1 (one_behind s)
-    at false e = let same : end ≡ place = omega (arith, is_not_behind e, h.within) in subst Next same right_behind
+    at true e = let s = h.after (is_after e) in subst Next s.1 (one_after s)
+    at false e = let same : end ≡ place = omega (arith, is_not_after e, h.within) in subst Next same right_after
 
 pub joined_blank : (bytes : List ℕ) (end place : ℕ) → JoinedUpTo bytes end place → get_or bytes place 0 ≡ 32 →
     place ≤ end → ¬ (end ≡ 0) → JoinedUpTo bytes end (place + 1)
@@ -328,7 +328,7 @@ joined_blank bytes end place h space near some =
     record {
       within = omega arith;
       joined = h.joined;
-      behind = λ _. (omega arith, omega arith, ap (λ p. get_or bytes p 0) (sym same) ∙ space);
+      after = λ _. (omega arith, omega arith, ap (λ p. get_or bytes p 0) (sym same) ∙ space);
     }
 
 -- the same of the place where the last word starts
@@ -365,18 +365,18 @@ words_blank bytes start place h space some =
     }
 
 -- where a byte is of no word, the first word has ended
-pub front_stops : (bytes : List ℕ) (place : ℕ) → is_word_byte (get_or bytes place 0) ≡ false →
+pub prefix_stops : (bytes : List ℕ) (place : ℕ) → is_word_byte (get_or bytes place 0) ≡ false →
     prefix_len is_word_byte bytes ≤ place
-front_stops bytes place none = elim (cases_lt place (prefix_len is_word_byte bytes)) [
+prefix_stops bytes place none = elim (cases_lt place (prefix_len is_word_byte bytes)) [
   | inl inside ↦ absurd (true≢false (sym (prefix_len_passes is_word_byte bytes place 0 inside) ∙ none))
   | inr past ↦ past
 ]
 
 -- and the words that end here have it whole
-pub front_end : (bytes : List ℕ) (start place : ℕ) → (start ≡ 0) ⊎ (prefix_len is_word_byte bytes < start) →
+pub prefix_end : (bytes : List ℕ) (start place : ℕ) → (start ≡ 0) ⊎ (prefix_len is_word_byte bytes < start) →
     prefix_len is_word_byte bytes ≤ place
     → prefix_len is_word_byte bytes ≤ end_of_words start place
-front_end bytes start place first past = at (nat_lt start place) refl
+prefix_end bytes start place first past = at (nat_lt start place) refl
   where
     at : (later : Bool) → nat_lt start place ≡ later →
         prefix_len is_word_byte bytes ≤ (if later then place else start - 1)
@@ -406,10 +406,10 @@ joined_grows text (b ∷ more) = by (is_plain_space b) refl (joined_grows (text 
               ∙ append_assoc (single_spaced text) word later.0,
         )
 
-ends_behind : (text : List ℕ) (b : ℕ) (more : List ℕ) → ends_with_space (text ++ b ∷ more) ≡ ends_with_space (b ∷ more)
-ends_behind [] b more = refl
-ends_behind (c ∷ []) b more = refl
-ends_behind (c ∷ d ∷ text) b more = ends_behind (d ∷ text) b more
+ends_later : (text : List ℕ) (b : ℕ) (more : List ℕ) → ends_with_space (text ++ b ∷ more) ≡ ends_with_space (b ∷ more)
+ends_later [] b more = refl
+ends_later (c ∷ []) b more = refl
+ends_later (c ∷ d ∷ text) b more = ends_later (d ∷ text) b more
 
 ends_by_last : (has_space : Bool) (b : ℕ) (bytes : List ℕ) →
     ends_with_space (map spaced (b ∷ bytes)) ≡ space_after has_space (last_of (b ∷ bytes))
@@ -419,7 +419,7 @@ ends_by_last has_space b (c ∷ bytes) = ends_by_last has_space c bytes
 ends_after : (text bytes : List ℕ) →
     ends_with_space (text ++ map spaced bytes) ≡ space_after (ends_with_space text) (last_of bytes)
 ends_after text [] = ap ends_with_space (append-nil text)
-ends_after text (b ∷ bytes) = ends_behind text (spaced b) (map spaced bytes)
+ends_after text (b ∷ bytes) = ends_later text (spaced b) (map spaced bytes)
     ∙ ends_by_last (ends_with_space text) b bytes
 
 has_bytes_by_length : (text : List ℕ) → 0 < length text → has_bytes text ≡ true
@@ -430,10 +430,10 @@ is_more : (limit : ℕ) (text : List ℕ) → nat_lt limit (length text) ≡ tru
 is_more limit text e = grind (arith, nat_tests)
 
 -- behind a line that is longer than a line may be no more is kept
-pub kept_behind : (line bytes : List ℕ) (k : Kept) → k ≡ kept line → k.is_long ≡ true → k.has_comment ≡ false →
+pub kept_after : (line bytes : List ℕ) (k : Kept) → k ≡ kept line → k.is_long ≡ true → k.has_comment ≡ false →
     list_any is_hash (printable bytes) ≡ false →
     record k { has_space = space_after k.has_space (last_of (printable bytes)) } ≡ kept (line ++ bytes)
-kept_behind line bytes k seen long none hash =
+kept_after line bytes k seen long none hash =
     let a = cleaned line in
     let before : k ≡ plain a = seen ∙ plain_before line (sym (ap (λ (x : Kept). x.has_comment) seen) ∙ none) in
     let any : list_any is_hash (printable line) ≡ false = sym (has_comment_is line)
@@ -598,21 +598,21 @@ kept_gap (b ∷ gap) line k seen none between =
     at false false e s or over gone = cc or
 
 -- behind a word, and with no white space yet behind that, a gap says whether there is any
-pub kept_gap_behind_word : (gap line : List ℕ) (k : Kept) → k ≡ kept line → k.has_comment ≡ false →
+pub kept_gap_after_word : (gap line : List ℕ) (k : Kept) → k ≡ kept line → k.has_comment ≡ false →
     AreBetweenWords gap →
     k.has_space ≡ false → nat_eq (length k.text) 0 ≡ false →
     record k { has_space = list_any is_blank_byte gap } ≡ kept (line ++ gap)
-kept_gap_behind_word gap line k seen none between unspaced some =
+kept_gap_after_word gap line k seen none between unspaced some =
     ap (λ s. record k { has_space = s }) (by (list_any is_blank_byte gap)) ∙ kept_gap gap line k seen none between
   where
     by : (c : Bool) → c ≡ cond c (not (nat_eq (length k.text) 0)) k.has_space
     by true = sym (ap not some)
     by false = sym unspaced
 
-spaced_behind_words : (line : List ℕ) (k : Kept) → k ≡ kept line →
+spaced_after_words : (line : List ℕ) (k : Kept) → k ≡ kept line →
     k.has_space ≡ (not (nat_eq (length k.text) 0) && ends_with_space (cleaned line))
 unfolding kept
-spaced_behind_words line k seen =
+spaced_after_words line k seen =
     ap (λ (x : Kept). x.has_space) seen
     ∙ ap (λ c. c && ends_with_space (cleaned line))
     (sym (has_bytes-take LINE_LIMIT (single_spaced (cleaned line)) (lit< tt))
@@ -623,7 +623,7 @@ pub kept_gap_same : (gap line : List ℕ) (k : Kept) → k ≡ kept line → k.h
     (k.has_space ≡ true) ⊎ (nat_eq (length k.text) 0 ≡ true) → k ≡ kept (line ++ gap)
 kept_gap_same gap line k seen none between either =
     ap (λ s. record k { has_space = s })
-    (sym (by (list_any is_blank_byte gap) (nat_eq (length k.text) 0) k.has_space (spaced_behind_words line k seen)
+    (sym (by (list_any is_blank_byte gap) (nat_eq (length k.text) 0) k.has_space (spaced_after_words line k seen)
     either))
     ∙ kept_gap gap line k seen none between
   where

@@ -281,13 +281,13 @@ module _ (line : List ℕ) (b : ℕ) (k : Kept) (seen : k ≡ kept line) where
 
 -- the front of a text that more bytes come to
 module _ (limit : ℕ) (text whole : List ℕ) (front : text ≡ take limit whole) where
-  front_short : length text < limit → text ≡ whole
-  front_short room = front ∙ take_all limit whole (omega (arith, length-take limit whole, ap length front))
+  prefix_short : length text < limit → text ≡ whole
+  prefix_short room = front ∙ take_all limit whole (omega (arith, length-take limit whole, ap length front))
 
-  pub front_room : (bytes : List ℕ) → length text + length bytes ≤ limit → text ++ bytes ≡ take limit (whole ++ bytes)
-  front_room [] room = append-nil text ∙ front ∙ sym (ap (take limit) (append-nil whole))
-  front_room (b ∷ bytes) room =
-      let same = front_short (omega arith) in
+  pub prefix_room : (bytes : List ℕ) → length text + length bytes ≤ limit → text ++ bytes ≡ take limit (whole ++ bytes)
+  prefix_room [] room = append-nil text ∙ front ∙ sym (ap (take limit) (append-nil whole))
+  prefix_room (b ∷ bytes) room =
+      let same = prefix_short (omega arith) in
       ap (λ t. t ++ b ∷ bytes) same
       ∙ sym (take_all limit (whole ++ b ∷ bytes) (simp length-append (omega (arith, room, ap length same))))
 
@@ -295,17 +295,17 @@ module _ (limit : ℕ) (text whole : List ℕ) (front : text ≡ take limit whol
       is_long ≡ nat_lt limit (length whole) → is_long ≡ nat_lt limit (length (whole ++ bytes))
   longer_room [] is_long room longer = longer ∙ sym (ap (λ t. nat_lt limit (length t)) (append-nil whole))
   longer_room (b ∷ bytes) is_long room longer =
-      let same = ap length (front_short (omega arith)) in
+      let same = ap length (prefix_short (omega arith)) in
       let short : length whole ≤ limit = omega (arith, same, room) in
       let l : length (whole ++ b ∷ bytes) ≤ limit = simp length-append (omega (arith, same, room)) in
       grind (arith, nat_tests)
 
-  pub front_cut : (bytes : List ℕ) (room : ℕ) → room + length text ≡ limit → room < length bytes → text
+  pub prefix_cut : (bytes : List ℕ) (room : ℕ) → room + length text ≡ limit → room < length bytes → text
       ++ take room bytes ≡ take limit (whole ++ bytes)
-  front_cut bytes zero full more = append-nil text ∙ front
+  prefix_cut bytes zero full more = append-nil text ∙ front
       ∙ sym (take-append-le limit whole bytes (omega (arith, length-take limit whole, ap length front)))
-  front_cut bytes (suc room) full more =
-      let same = front_short (omega arith) in
+  prefix_cut bytes (suc room) full more =
+      let same = prefix_short (omega arith) in
       let count : limit ≡ length whole + suc room = omega (arith, ap length same) in
       ap (λ t. t ++ take (suc room) bytes) same ∙ sym (take-append-add whole bytes (suc room))
       ∙ ap (λ n. take n (whole ++ bytes)) (sym count)

@@ -5,7 +5,7 @@ use Rattle.go_board.specs.declared.device.Source as source
 use Rattle.goref.specs.Conversation.{Converses}
 use Rattle.goref.specs.Judging.{BeginsToJudge, Judges}
 use Rattle.goref.specs.Lines.{lines}
-use Rattle.goref.specs.Runs.{AnswersComplete, AnswersFront}
+use Rattle.goref.specs.Runs.{AnswersComplete, AnswersPrefix}
 use Rattle.goref.specs.Shelves.{Pair}
 use Rattle.goref.specs.Starts.{begun}
 use Rattle.goref.specs.Task.{Task}
@@ -35,7 +35,7 @@ IsFaultOf _ (Tool why) = Unit {0}
 abbrev pub Breaks : Task → Fault → Option (List ℕ) → Option (List ℕ) → Option (List Pair) → Option (List Pair)
     → Option (List ℕ) → Option (List ℕ) → Type 0
 Breaks (Gtp size) (Run run_error.Write) left left' given given' taken taken' =
-    AnswersFront (begun size) left left' given given' taken taken'
+    AnswersPrefix (begun size) left left' given given' taken taken'
 Breaks (Gtp size) (Run _) left left' given given' taken taken' =
     AnswersComplete (begun size) left left' given given' taken taken'
 Breaks Judge (Tool tool_error.Write) left left' given given' taken taken' =

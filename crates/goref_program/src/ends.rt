@@ -54,7 +54,7 @@ impl From<ToolError> for Fault {
 }
 
 /// If there is a fault, writes it as one line. Returns the exit status.
-pub fn tell<E: Write>(end: Result<(), Fault>, errors: &mut E) -> u8
+pub fn report<E: Write>(end: Result<(), Fault>, errors: &mut E) -> u8
     ensures status { result ≡ end_status end }
     ensures silent { result ≡ 0 → errors.new ≡ errors.old }
 {

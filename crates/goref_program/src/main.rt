@@ -8,15 +8,15 @@ mod words;
 
 use files::NamedFiles;
 use std::process::ExitCode;
-use words::answer_words;
+use words::follow_words;
 
 fn main(rt: HostRuntime) -> ExitCode {
-    ExitCode::from(status(&rt))
+    ExitCode::from(run_program(&rt))
 }
 
 /// Does, on the standard streams, what the program's words ask, and returns the exit status.
-fn status(rt: &HostRuntime) -> u8 {
-    answer_words(
+fn run_program(rt: &HostRuntime) -> u8 {
+    follow_words(
         rt.alloc(),
         all_words(rt),
         rt.stdin(),

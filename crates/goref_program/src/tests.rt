@@ -4,7 +4,7 @@ mod streams;
 mod words;
 
 use crate::files::NamedFiles;
-use crate::words::answer_words;
+use crate::words::follow_words;
 use go_sgf::MAX_RECORD;
 use goref::{Fetched, Shelf};
 use std::alloc::{AllocError, Global};
@@ -87,7 +87,7 @@ fn comes_to(
     let mut errors = Page::new(rt.alloc(), 10_000);
     let mut files = NamedFiles::new(rt.alloc(), rt);
     let words = started_with(rt.alloc(), words).ok();
-    let end = answer_words(
+    let end = follow_words(
         rt.alloc(),
         words,
         input,
@@ -113,9 +113,9 @@ fn tidying_from_stream_to_stream(rt: HostRuntime) {
     let record = b"x(;GM[1] FF[4] ;B[aa](;W[bb])(;W[cc]C[a\\]b]))".as_slice();
     let tidy = b"(;GM[1]FF[4];B[aa](;W[bb])(;W[cc]C[a\\]b]))\n".as_slice();
     assert!(rt; comes_to(&rt, &["tidy"], record, 1_000, tidy, b"", 0));
-    let front = record.split_at(44).0;
+    let prefix = record.split_at(44).0;
     let told = b"goref: record ends inside a tree at byte 44\n".as_slice();
-    assert!(rt; comes_to(&rt, &["tidy"], front, 1_000, b"", told, 1));
+    assert!(rt; comes_to(&rt, &["tidy"], prefix, 1_000, b"", told, 1));
 }
 
 #[test]
@@ -158,7 +158,7 @@ fn explained_to(rt: &HostRuntime, words: &[&str], room: usize) -> (usize, usize,
     let mut errors = Page::new(rt.alloc(), 10_000);
     let mut files = NamedFiles::new(rt.alloc(), rt);
     let words = started_with(rt.alloc(), words).ok();
-    let status = answer_words(
+    let status = follow_words(
         rt.alloc(),
         words,
         Broken,
@@ -211,7 +211,7 @@ fn words_that_cannot_be_read(rt: HostRuntime) {
     let mut output = Page::new(rt.alloc(), 1_000);
     let mut errors = Page::new(rt.alloc(), 1_000);
     let mut files = NamedFiles::new(rt.alloc(), &rt);
-    let status = answer_words(
+    let status = follow_words(
         rt.alloc(),
         None,
         Broken,

@@ -4,15 +4,15 @@ ghost use Rattle.std.specs.String.{string_bytes};
 ghost use Rattle.goref.specs.CommandLine.{texts_of};
 ghost use Rattle.goref_program.specs.Status.{FollowsWords};
 
-use crate::ends::{REFUSED, explain, tell};
-use crate::tasks::obey;
+use crate::ends::{REFUSED, explain, report};
+use crate::tasks::perform_on_streams;
 use goref::{Shelf, task_of};
 use std::alloc::Global;
 use std::io::{Read, Write};
 
 /// Does, on these streams, what the words ask, and returns the exit status. `None` is for words that can't be
 /// read, or for which there is no memory.
-pub fn answer_words<R: Read + Drop, W: Write + Drop, E: Write, S: Shelf<Global>>(
+pub fn follow_words<R: Read + Drop, W: Write + Drop, E: Write, S: Shelf<Global>>(
     alloc: Global,
     words: Option<Vec<String>>,
     input: R,
@@ -25,15 +25,15 @@ pub fn answer_words<R: Read + Drop, W: Write + Drop, E: Write, S: Shelf<Global>>
     ensures words { IfSome words (λ list. (result ≡ 2) ⊎ FollowsWords (map string_bytes list.items) result) }
 {
     let Some(words) = words else {
-        return unreadable(errors);
+        return refuse_words(errors);
     };
     match words.iter().map(|word| word.as_str()).collect(alloc) {
-        Ok(views) => obey_words(alloc, &views, input, output, errors, shelf),
-        Err(_) => unreadable(errors),
+        Ok(views) => follow_readable(alloc, &views, input, output, errors, shelf),
+        Err(_) => refuse_words(errors),
     }
 }
 
-fn unreadable<E: Write>(errors: &mut E) -> u8
+fn refuse_words<E: Write>(errors: &mut E) -> u8
     ensures { result ≡ REFUSED }
 {
     let _ = writeln!(errors, "goref: the words cannot be read");
@@ -41,7 +41,7 @@ fn unreadable<E: Write>(errors: &mut E) -> u8
 }
 
 /// Does the task that the words name, or says why they name none.
-fn obey_words<R: Read + Drop, W: Write + Drop, E: Write, S: Shelf<Global>>(
+fn follow_readable<R: Read + Drop, W: Write + Drop, E: Write, S: Shelf<Global>>(
     alloc: Global,
     words: &Vec<&str>,
     input: R,
@@ -53,7 +53,10 @@ fn obey_words<R: Read + Drop, W: Write + Drop, E: Write, S: Shelf<Global>>(
     ensures silent { result ≡ 0 → errors.new ≡ errors.old }
 {
     match task_of(alloc, words.as_slice()) {
-        Ok(task) => tell(obey(alloc, task, input, output, shelf), errors),
+        Ok(task) => report(
+            perform_on_streams(alloc, task, input, output, shelf),
+            errors,
+        ),
         Err(error) => explain(&error, &mut output, errors),
     }
 }

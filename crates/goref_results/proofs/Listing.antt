@@ -127,9 +127,9 @@ pub spaced_points : (n : ℕ) (ps : List ℕ) → flat_map spaced_point (map (po
 spaced_points n [] = refl
 spaced_points n (p ∷ ps) = ap (λ t. spaced_vertex n p ++ t) (spaced_points n ps)
 
-text_behind : (first : List ℕ) (b : ℕ) (rest : List ℕ) → IsText (first ++ b ∷ rest)
-text_behind [] b rest = (b, rest, refl)
-text_behind (c ∷ first) b rest = (c, first ++ b ∷ rest, refl)
+text_after : (first : List ℕ) (b : ℕ) (rest : List ℕ) → IsText (first ++ b ∷ rest)
+text_after [] b rest = (b, rest, refl)
+text_after (c ∷ first) b rest = (c, first ++ b ∷ rest, refl)
 
 text_append_left : (first rest : List ℕ) → IsText rest → IsText (first ++ rest)
 text_append_left [] rest h = h
@@ -138,7 +138,7 @@ text_append_left (b ∷ first) rest h = (b, first ++ rest, refl)
 pub chain_some : (n : ℕ) (g : Colouring) (p : ℕ) → IsText (chain_line n g p)
 chain_some n g p =
     text_append_left (stone_text (colour_at g p)) _
-    (text_behind (flat_map (spaced_vertex n) (members n g p)) 32
+    (text_after (flat_map (spaced_vertex n) (members n g p)) 32
     (codes ":" ++ flat_map (spaced_vertex n) (liberties n g p)))
 
 joined_some : {X : Type 0} (f : X → List ℕ) → ((x : X) → IsText (f x)) → (x : X) (xs : List X) →

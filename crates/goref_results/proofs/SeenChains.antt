@@ -121,8 +121,8 @@ same_colour n g p q (r ∷ path) step = same_colour n g r q path step.2 ∙ step
 onward : (n : ℕ) (g : Colouring) (p q r : ℕ) (path more : List ℕ) → Leads n g p path q → Leads n g q more r →
     Joined n g p r
 onward n g p q r [] more is rest = (more, subst (λ (s : ℕ). Leads n g s more r) (sym is) rest)
-onward n g p q r (s ∷ path) more step rest = let behind = onward n g s q r path more step.2 rest in
-    (s ∷ behind.0, (step.0, step.1, behind.1))
+onward n g p q r (s ∷ path) more step rest = let after = onward n g s q r path more step.2 rest in
+    (s ∷ after.0, (step.0, step.1, after.1))
 
 some_before : (stone some : Bool) → stone ≡ true → (stone && not some) ≡ false → some ≡ true
 some_before true true e f = refl

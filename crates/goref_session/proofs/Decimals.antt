@@ -23,18 +23,18 @@ some_if : (b : Bool) (xs ys : List ℕ) → xs ≢ [] → ys ≢ [] → (if b th
 some_if true xs ys h k = h
 some_if false xs ys h k = k
 
-digits_behind : (k n d : ℕ) (ds : List ℕ) → digits_onto k 10 false n (d ∷ ds) ≢ []
-digits_behind zero n d ds = λ e. cc e
-digits_behind (suc k) n d ds =
+digits_after : (k n d : ℕ) (ds : List ℕ) → digits_onto k 10 false n (d ∷ ds) ≢ []
+digits_after zero n d ds = λ e. cc e
+digits_after (suc k) n d ds =
     let c = digit_glyph false (n % 10) in
     some_if (n / 10 == 0) (c ∷ d ∷ ds) (digits_onto k 10 false (n / 10) (c ∷ d ∷ ds)) (λ e. cc e)
-    (digits_behind k (n / 10) c (d ∷ ds))
+    (digits_after k (n / 10) c (d ∷ ds))
 
 digits_some : (k n : ℕ) → digits_onto (suc k) 10 false n [] ≢ []
 digits_some k n =
     let d = digit_glyph false (n % 10) in
     some_if (n / 10 == 0) (d ∷ []) (digits_onto k 10 false (n / 10) (d ∷ [])) (λ e. cc e)
-    (digits_behind k (n / 10) d [])
+    (digits_after k (n / 10) d [])
 
 decimal_is : (n : ℕ) → digits_onto (suc 63) 10 false n [] ≡ decimal n
 unfolding digits

@@ -43,9 +43,9 @@ end_leaves within e = cc e
 end_leaves ended e = cc e
 end_leaves broken e = cc e
 
-none_behind : (xs : List ℕ) (x : ℕ) (ys : List ℕ) → [] ≢ xs ++ x ∷ ys
-none_behind [] x ys e = cc e
-none_behind (z ∷ xs) x ys e = cc e
+none_after : (xs : List ℕ) (x : ℕ) (ys : List ℕ) → [] ≢ xs ++ x ∷ ys
+none_after [] x ys e = cc e
+none_after (z ∷ xs) x ys e = cc e
 
 no_gap : (s : LineState) (b : ℕ) (bs more : List ℕ) → after s (b ∷ bs) ≡ within → b ≡ 10 →
     slice_index (bs ++ 10 ∷ more) 0 ≡ 10 → ⊥
@@ -55,14 +55,14 @@ no_gap s b (c ∷ bs) more h e f =
     ∙ h)
 
 -- the first line end behind a line end is the last byte
-first_gap : (s : LineState) (body front back : List ℕ) → after s body ≡ within → body ++ 10 ∷ 10 ∷ [] ≡ front
+first_gap : (s : LineState) (body prefix back : List ℕ) → after s body ≡ within → body ++ 10 ∷ 10 ∷ [] ≡ prefix
     ++ 10 ∷ 10 ∷ back → back ≡ []
 first_gap s [] [] back h e = sym (ap (drop 2) e)
-first_gap s [] (a ∷ []) back h e = absurd (none_behind [] 10 back (ap (drop 2) e))
-first_gap s [] (a ∷ b ∷ front) back h e = absurd (none_behind front 10 (10 ∷ back) (ap (drop 2) e))
+first_gap s [] (a ∷ []) back h e = absurd (none_after [] 10 back (ap (drop 2) e))
+first_gap s [] (a ∷ b ∷ prefix) back h e = absurd (none_after prefix 10 (10 ∷ back) (ap (drop 2) e))
 first_gap s (b ∷ body) [] back h e =
     absurd (no_gap s b body (10 ∷ []) h (ap (λ xs. slice_index xs 0) e) (ap (λ xs. slice_index xs 1) e))
-first_gap s (b ∷ body) (a ∷ front) back h e = first_gap (step s b) body front back h (ap (drop 1) e)
+first_gap s (b ∷ body) (a ∷ prefix) back h e = first_gap (step s b) body prefix back h (ap (drop 1) e)
 
 -- ---- plain bytes
 
@@ -111,9 +111,9 @@ refusal_goes_on CannotLoad = refl
 refusal_goes_on GameInProgress = refl
 refusal_goes_on OutOfMemory = refl
 
-behind_id : (mark : ℕ) → 32 ≤ mark → (id : Option ℕ) (result : List ℕ) → GoesOn result →
+after_id : (mark : ℕ) → 32 ≤ mark → (id : Option ℕ) (result : List ℕ) → GoesOn result →
     IsAnswer (mark ∷ (id_text id ++ (result ++ codes "\n\n")))
-behind_id mark high id result h = record {
+after_id mark high id result h = record {
   begins = λ rest e. let is_end : mark ≡ 10 = ap (λ bytes. slice_index bytes 0) e in omega (arith, high, is_end);
   body = mark ∷ (id_text id ++ result);
   goes_on = append_goes_on (mark ∷ id_text id) result (line_goes_on (mark ∷ id_text id) (high, id_line id)) h;
@@ -121,20 +121,20 @@ behind_id mark high id result h = record {
 }
 
 decision_answers : (id : Option ℕ) (d : Decision) (s : Standing) → IsAnswer (decision_text id d s)
-decision_answers id Done s = behind_id 61 (omega arith) id [] refl
-decision_answers id Ends s = behind_id 61 (omega arith) id [] refl
+decision_answers id Done s = after_id 61 (omega arith) id [] refl
+decision_answers id Ends s = after_id 61 (omega arith) id [] refl
 decision_answers id (Tells fact) s =
-    behind_id 61 (omega arith) id (result_text (fact_text fact s))
+    after_id 61 (omega arith) id (result_text (fact_text fact s))
     (result_goes_on (fact_text fact s) (fact_goes_on fact s))
 decision_answers id (Refused why) s =
-    behind_id 63 (omega arith) id (codes " " ++ refusal_text why) (refusal_goes_on why)
+    after_id 63 (omega arith) id (codes " " ++ refusal_text why) (refusal_goes_on why)
 
 ends_at_empty_line : (text : List ℕ) → IsAnswer text → EndsAtEmptyLine text
 ends_at_empty_line text answer = record {
   begins = answer.begins;
   body = answer.body;
   ends = answer.ends;
-  first = λ front back e. first_gap within answer.body front back answer.goes_on (sym answer.ends ∙ e);
+  first = λ prefix back e. first_gap within answer.body prefix back answer.goes_on (sym answer.ends ∙ e);
 }
 
 plain_answer : (text : List ℕ) → IsAnswer text → AllByRecursion IsPlain text

@@ -28,15 +28,15 @@ use Rattle.goref_session.specs.declared.command.Topic.TheVariants.{Protocol, Pro
 use Rattle.goref_session.specs.declared.decision.Fact.{Fact}
 use Rattle.goref_session.specs.declared.decision.Fact.TheVariants.{About, Known, Places, Choice, Plays}
 use Rattle.goref_session.proofs.Decimals.{full_decimal, hundredths_line, score_line}
-use Rattle.goref_session.proofs.Lines.{GoesOn, IsFull, IsLine, append_full, append_goes_on, flat_map_goes_on, full_append, line_append, line_at, line_behind, line_by_test, line_flat_map, line_goes_on, line_if, line_joined, lines_go_on}
+use Rattle.goref_session.proofs.Lines.{GoesOn, IsFull, IsLine, append_full, append_goes_on, flat_map_goes_on, full_append, line_append, line_at, line_after, line_by_test, line_flat_map, line_goes_on, line_if, line_joined, lines_go_on}
 use Rattle.goref_session.proofs.RecordLine.{record_line}
 
 -- words before more of a line
-behind_words : (words more : List ℕ) → list_all (nat_le 32) words ≡ true → IsLine more → IsLine (words ++ more)
-behind_words words more h k = line_append words more (line_by_test words h) k
+after_words : (words more : List ℕ) → list_all (nat_le 32) words ≡ true → IsLine more → IsLine (words ++ more)
+after_words words more h k = line_append words more (line_by_test words h) k
 
-behind_number : (n : ℕ) (more : List ℕ) → IsLine more → IsLine (decimal n ++ more)
-behind_number n more h = line_append (decimal n) more ((full_decimal n).line) h
+after_number : (n : ℕ) (more : List ℕ) → IsLine more → IsLine (decimal n ++ more)
+after_number n more h = line_append (decimal n) more ((full_decimal n).line) h
 
 -- ---- vertices
 
@@ -75,7 +75,7 @@ full_chain n g p =
     (append_full (flat_map (spaced_vertex n) (members n g p)) (codes " :" ++ liberties_text)
     (vertices_line n (members n g p))
     (record {
-      line = behind_words (codes " :") liberties_text refl (vertices_line n (liberties n g p));
+      line = after_words (codes " :") liberties_text refl (vertices_line n (liberties n g p));
       some = λ e.
           cc e;
     }))
@@ -83,20 +83,20 @@ full_chain n g p =
 -- ---- the diagram
 
 setting_line : (s : Standing) → IsLine (setting_text s)
-setting_line s = behind_words (codes "size ") _ refl
-    (behind_number s.lines _ (behind_words (codes " komi ") _ refl (hundredths_line s.komi)))
+setting_line s = after_words (codes "size ") _ refl
+    (after_number s.lines _ (after_words (codes " komi ") _ refl (hundredths_line s.komi)))
 
 prisoners_line : (s : Standing) → IsLine (prisoners_text s)
 prisoners_line s =
-    behind_words (codes " prisoners B ") _ refl
-    (behind_number (prisoners_of s Black) _
-    (behind_words (codes " W ") _ refl ((full_decimal (prisoners_of s White)).line)))
+    after_words (codes " prisoners B ") _ refl
+    (after_number (prisoners_of s Black) _
+    (after_words (codes " W ") _ refl ((full_decimal (prisoners_of s White)).line)))
 
 turn_line : (s : Standing) → IsLine (turn_text s)
 turn_line s =
-    behind_words (codes " moves ") _ refl
-    (behind_number (length s.moves) _
-    (behind_words (codes " next ") (letter_of (mover_of s) ∷ []) refl (letter_plain (mover_of s), tt)))
+    after_words (codes " moves ") _ refl
+    (after_number (length s.moves) _
+    (after_words (codes " next ") (letter_of (mover_of s) ∷ []) refl (letter_plain (mover_of s), tt)))
 
 mark_plain : (o : Option Colour) → 32 ≤ mark_of o
 mark_plain None = omega arith
@@ -111,7 +111,7 @@ row_goes_on : (n : ℕ) (g : Colouring) (row : ℕ) → GoesOn (row_text n g row
 row_goes_on n g row =
     let marks = line_flat_map (spaced_mark n g row)
     (λ col. (omega arith, (mark_plain (colour_at g (row * n + col)), tt))) (range_with_len 0 n) in
-    line_behind (right_in_two (row + 1) ++ marks_text n g row n)
+    line_after (right_in_two (row + 1) ++ marks_text n g row n)
     (full_append (right_in_two (row + 1)) (marks_text n g row n) (full_number (row + 1)) marks)
 
 letters_line : (n : ℕ) (letters : List ℕ) → IsLine letters → IsLine (flat_map spaced_letter (take n letters))
@@ -121,9 +121,9 @@ letters_line (suc n) (letter ∷ letters) h = (omega arith, (h.0, letters_line n
 
 letters_go_on : (n : ℕ) → GoesOn (letters_text n)
 letters_go_on n =
-    line_behind (codes "  " ++ flat_map spaced_letter (take n column_letters))
+    line_after (codes "  " ++ flat_map spaced_letter (take n column_letters))
     (record {
-      line = behind_words (codes "  ") _ refl
+      line = after_words (codes "  ") _ refl
           (letters_line n column_letters (line_by_test column_letters refl));
       some = λ e. cc e;
     })

@@ -104,8 +104,8 @@ line_from s e [] full = absurd (full.some refl)
 line_from s e (x ∷ xs) full = rw (le-leb 32 x full.line.0) (ap (λ t. after t xs) e ∙ line_goes_on xs full.line.1)
 
 -- a full line behind a line end
-pub line_behind : (xs : List ℕ) → IsFull xs → GoesOn (10 ∷ xs)
-line_behind xs full = line_from ended refl xs full
+pub line_after : (xs : List ℕ) → IsFull xs → GoesOn (10 ∷ xs)
+line_after xs full = line_from ended refl xs full
 
 module _ {X : Type 0} (f : X → List ℕ) (full : (x : X) → IsFull (f x)) where
   lines_from : (s : LineState) → by_plain s ≡ within → (x : X) (xs : List X) →

@@ -15,7 +15,7 @@ use Rattle.go_sgf.specs.declared.error.SgfError.{SgfError}
 use Rattle.go_sgf.specs.declared.error.SgfError.TheVariants as sgf_error
 use Rattle.go_sgf.specs.declared.limits.TheConstants.{MAX_RECORD}
 use Rattle.goref_session.specs.Laws.{OneLoad}
-use Rattle.goref_session.specs.Record.{load_error_of}
+use Rattle.goref_session.specs.Record.{load_error_of_record}
 use Rattle.goref_session.specs.declared.commands.record.LoadError.{LoadError}
 use Rattle.goref_session.specs.declared.commands.record.LoadError.TheVariants as load_error
 
@@ -37,9 +37,9 @@ not_refused bytes c sgf_error.TooLong few spells memory refusal = omega (arith, 
 
 -- what isn't told as want of memory is none
 pub other_refusal : {T : Type 0} (r : Result T LoadError) (x : LoadError) (why : RecordError) → r ≡ Err x →
-    x ≡ load_error_of why →
+    x ≡ load_error_of_record why →
     r ≡ Err load_error.Cannot → why ≢ record_error.Memory
-other_refusal r x why e f h memory = let g : load_error_of why ≡ load_error.Memory = ap load_error_of memory in cc
+other_refusal r x why e f h memory = let g : load_error_of_record why ≡ load_error.Memory = ap load_error_of_record memory in cc
 
 same_standing : (s t : Standing) → (let r : Outcome = Ok t in r) ≡ Ok s → t ≡ s
 same_standing s t h = cc h

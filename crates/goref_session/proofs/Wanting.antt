@@ -17,7 +17,7 @@ use Rattle.goref_lines.specs.Words.{has_bytes, is_plain_space, words}
 use Rattle.goref_session.specs.Commands.{command_of}
 use Rattle.goref_session.specs.declared.command.Command.{Command}
 use Rattle.goref_session.specs.declared.command.Command.TheVariants.{Loadsgf}
-use Rattle.goref_session.specs.Record.{Load, load_asked, load_on}
+use Rattle.goref_session.specs.Record.{Load, load_of_asked, load_of_command}
 use Rattle.goref_session.specs.Replies.{wanted}
 use Rattle.goref_session.specs.inner.Wanting.{may_load}
 
@@ -57,13 +57,13 @@ by_words (b ∷ text) = at (is_plain_space b) refl (by_words text)
 digit_is_low : (b : ℕ) → is_ascii_digit b ≡ true → nat_lt 57 b ≡ false
 digit_is_low b e = grind (arith, nat_tests)
 
-behind_digits : (digits text : List ℕ) → list_all is_ascii_digit digits ≡ true →
+after_digits : (digits text : List ℕ) → list_all is_ascii_digit digits ≡ true →
     may_load (digits ++ text) ≡ may_load text
-behind_digits [] text h = refl
-behind_digits (b ∷ digits) text h =
+after_digits [] text h = refl
+after_digits (b ∷ digits) text h =
     let parts = and_parts (is_ascii_digit b) (list_all is_ascii_digit digits) h in
     ap (λ t. if t then nat_eq b 108 else may_load (digits ++ text)) (digit_is_low b parts.0)
-    ∙ behind_digits digits text parts.1
+    ∙ after_digits digits text parts.1
 
 digits_of_int : (word : List ℕ) → is_int word ≡ true → list_all is_ascii_digit word ≡ true
 digits_of_int word h =
@@ -71,16 +71,16 @@ digits_of_int word h =
     (and_parts (not (is_empty word) && list_all is_ascii_digit word) (nat_le (digits_value word) MAX_INT) h).0).1
 
 -- where a name is asked for, only an id stands before it
-named_behind : (asks : List (List ℕ)) (name : List ℕ) → (asked_by asks).name ≡ Some name → (rest : List ℕ)
+named_after : (asks : List (List ℕ)) (name : List ℕ) → (asked_by asks).name ≡ Some name → (rest : List ℕ)
     × (may_load (all_bytes asks) ≡ may_load (name ++ rest))
-named_behind [] name e = absurd (cc)
-named_behind (word ∷ []) name e = at (is_int word) e
+named_after [] name e = absurd (cc)
+named_after (word ∷ []) name e = at (is_int word) e
   where
     at : (i : Bool) → (if i then asked (Some (digits_value word)) [] else asked None (word ∷ [])).name ≡ Some name →
         (rest : List ℕ) × (may_load (all_bytes (word ∷ [])) ≡ may_load (name ++ rest))
     at true e = absurd (cc)
     at false e = let same : word ≡ name = cc in ([], ap (λ w. may_load (w ++ [])) same)
-named_behind (word ∷ next ∷ others) name e = at (is_int word) refl e
+named_after (word ∷ next ∷ others) name e = at (is_int word) refl e
   where
     at : (i : Bool) → is_int word ≡ i →
         (if i then asked (Some (digits_value word)) (next ∷ others) else asked None (word ∷ next ∷ others)).name ≡ Some
@@ -89,7 +89,7 @@ named_behind (word ∷ next ∷ others) name e = at (is_int word) refl e
     at true h e =
         let same : next ≡ name = cc in (
           all_bytes others,
-          behind_digits word (next ++ all_bytes others) (digits_of_int word h)
+          after_digits word (next ++ all_bytes others) (digits_of_int word h)
               ∙ ap (λ w. may_load (w ++ all_bytes others)) same,
         )
     at false h e = let same : word ≡ name = cc in
@@ -113,13 +113,13 @@ asks_for_another text none asks = at (asked_by (words text)).name refl asks
         option_and_then command_of name ≡ Some Loadsgf → ⊥
     at None e h = cc
     at (Some name) e h =
-        let found = named_behind (words text) name e in
+        let found = named_after (words text) name e in
         let same : may_load (name ++ found.0) ≡ may_load (codes "loadsgf" ++ found.0) =
         ap (λ n. may_load (n ++ found.0)) (name_of_load name h) in
         let bad = sym none ∙ by_words text ∙ found.1 ∙ same in cc
 
 no_load : (command : Option Command) (arguments : List (List ℕ)) → (command ≡ Some Loadsgf → ⊥) →
-    load_on command arguments ≡ None
+    load_of_command command arguments ≡ None
 no_load None arguments other = refl
 no_load (Some Loadsgf) arguments other = absurd (other refl)
 no_load (Some command) arguments other = refl
@@ -132,7 +132,7 @@ none_wanted k other = at k.is_long
     asks : Asked
     asks = asked_by (words k.text)
 
-    at : (long : Bool) → None ≡ (if long then None else option_map (λ (load : Load). load.name) (load_asked asks))
+    at : (long : Bool) → None ≡ (if long then None else option_map (λ (load : Load). load.name) (load_of_asked asks))
     at true = refl
     at false = ap (option_map (λ (load : Load). load.name))
         (sym (no_load (option_and_then command_of asks.name) asks.arguments other))

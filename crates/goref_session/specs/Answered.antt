@@ -1,6 +1,6 @@
 -- What is said to a line, and what of it was written.
 use Rattle.std.specs.Prelude.{◌≡◌, ℕ, Bool, true, false, List, Option, Result, MatchResult}
-use Rattle.go_board.specs.Device.{then_bytes, TakesFront}
+use Rattle.go_board.specs.Device.{then_bytes, TakesPrefix}
 use Rattle.go_board.specs.declared.device.WriteFault.{WriteFault}
 use Rattle.goref_session.specs.declared.flow.Flow.{Flow}
 use Rattle.goref_session.specs.declared.flow.Flow.TheVariants.{More, Quit}
@@ -22,4 +22,4 @@ pub record Answered (old new : Standing) (line : Kept) (content : Content) (resu
   pub is_reply : Reply old line content reply
   pub stands : new ≡ reply.standing
   pub sent : MatchResult result (λ flow. (flow ≡ flow_of reply.ends) × (taken' ≡ then_bytes taken reply.text))
-      (λ _. TakesFront taken taken' reply.text)
+      (λ _. TakesPrefix taken taken' reply.text)

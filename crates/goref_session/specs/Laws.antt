@@ -23,7 +23,7 @@ pub record EndsAtEmptyLine (text : List ℕ) : Type 0 where
   pub begins : (rest : List ℕ) → text ≢ codes "\n" ++ rest
   pub body : List ℕ
   pub ends : text ≡ body ++ codes "\n\n"
-  pub first : (front back : List ℕ) → text ≡ front ++ (codes "\n\n" ++ back) → back ≡ []
+  pub first : (prefix back : List ℕ) → text ≡ prefix ++ (codes "\n\n" ++ back) → back ≡ []
 
 -- nothing is said to a line without words, and what is said to any other has one empty line, at its end
 abbrev pub AnswersEnd : Type 0

@@ -43,12 +43,12 @@ abbrev pub load_of : List (List ℕ) → Option Load
 load_of arguments = load_named (slice_get arguments 0) (number_asked (slice_get arguments 1))
 
 -- what a command with these arguments asks to be loaded
-abbrev pub load_on : Option Command → List (List ℕ) → Option Load
-load_on (Some Loadsgf) arguments = load_of arguments
-load_on _ arguments = None
+abbrev pub load_of_command : Option Command → List (List ℕ) → Option Load
+load_of_command (Some Loadsgf) arguments = load_of arguments
+load_of_command _ arguments = None
 
-abbrev pub load_asked : Asked → Option Load
-load_asked asked = load_on (option_and_then command_of asked.name) asked.arguments
+abbrev pub load_of_asked : Asked → Option Load
+load_of_asked asked = load_of_command (option_and_then command_of asked.name) asked.arguments
 
 -- the bytes, no more than the longest record has, spell a record whose game is this standing
 abbrev pub Loads : List ℕ → Option ℕ → Standing → Type 0
@@ -60,13 +60,13 @@ LoadsNone source number = ((why : SgfError) × (why ≢ sgf_error.Memory) × IsR
     ⊎ ((c : Trees) × (why : RecordError) × (why ≢ record_error.Memory) × Spells source c × IsGameOf c number (Err why))
 
 -- why no game is loaded: lack of memory has a refusal of its own
-abbrev pub of_sgf : SgfError → LoadError
-of_sgf sgf_error.Memory = load_error.Memory
-of_sgf why = load_error.Cannot
+abbrev pub load_error_of_sgf : SgfError → LoadError
+load_error_of_sgf sgf_error.Memory = load_error.Memory
+load_error_of_sgf why = load_error.Cannot
 
-abbrev pub load_error_of : RecordError → LoadError
-load_error_of record_error.Memory = load_error.Memory
-load_error_of why = load_error.Cannot
+abbrev pub load_error_of_record : RecordError → LoadError
+load_error_of_record record_error.Memory = load_error.Memory
+load_error_of_record why = load_error.Cannot
 
 -- what may be decided on the bytes of a file: play goes on with the game of its record, or no game comes of
 -- them, or memory lacks

@@ -5,7 +5,7 @@ use Rattle.go_game.specs.Handicaps.{fixed}
 use Rattle.go_game.specs.Standings.{Standing}
 use Rattle.goref_session.specs.Contents.{Content}
 use Rattle.goref_session.specs.Decisions.{Decided, keeps}
-use Rattle.goref_session.specs.Record.{load_asked}
+use Rattle.goref_session.specs.Record.{load_of_asked}
 use Rattle.goref_session.specs.Table.{Decides}
 use Rattle.goref_session.specs.Telling.{topic_text, truth_text}
 use Rattle.goref_session.specs.declared.decision.Decision.{Decision}
@@ -93,4 +93,4 @@ Reply s k content reply = ((has_bytes k.text ≡ false) × (reply ≡ silent s))
 
 -- the name of the file that a line asks for
 abbrev pub wanted : Kept → Option (List ℕ)
-wanted k = if k.is_long then None else option_map (λ load. load.name) (load_asked (asked_by (words k.text)))
+wanted k = if k.is_long then None else option_map (λ load. load.name) (load_of_asked (asked_by (words k.text)))

@@ -2,7 +2,7 @@ ghost use Rattle.std.specs.Prelude.{◌≡◌, option_copied};
 ghost use Rattle.goref_session.specs.Replies.{wanted};
 ghost use Rattle.goref_session.specs.inner.Wanting.{may_load};
 
-use crate::loading::{asks_to_load, load_asked};
+use crate::loading::{asks_to_load, parse_load};
 use goref_lines::{Line, Request};
 use std::alloc::Allocator;
 
@@ -36,7 +36,7 @@ pub fn wants(line: &Line) -> Option<&[u8]>
     if !asks_to_load(&request) {
         return None;
     }
-    match load_asked(&request) {
+    match parse_load(&request) {
         Some(load) => Some(load.name),
         None => None,
     }

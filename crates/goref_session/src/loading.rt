@@ -27,7 +27,7 @@ pub fn asks_to_load(request: &Request) -> bool
 }
 
 /// What the arguments of `loadsgf` ask for.
-pub fn load_asked<'a>(request: &Request<'a>) -> Option<Load<'a>>
+pub fn parse_load<'a>(request: &Request<'a>) -> Option<Load<'a>>
     ensures { option_map (λ load. record { name = load.name.now; number = load.number }) result
         ≡ load_of request.now.arguments }
 {

@@ -5,7 +5,7 @@ ghost use Rattle.goref_session.specs.Record.{DecidesBytes};
 ghost use Rattle.goref_session.specs.inner.Refusing.{after_load};
 ghost use Rattle.goref_session.specs.inner.Played.{played_of};
 
-use crate::commands::record::{Record, load_on};
+use crate::commands::record::{Record, load_into};
 use crate::decision::Refusal;
 use go_board::Size;
 use go_game::Game;
@@ -33,18 +33,18 @@ impl<A: Allocator + Copy> Second<A> {
 
     /// Loads a record into the game that isn't played, which is then the one that is played. The other gives
     /// its memory back, but for a small hash table.
-    pub fn load(&mut self, first: &mut Game<A>, source: &Record) -> Result<(), Refusal>
+    pub fn load(&mut self, first: &mut Game<A>, to_load: &Record) -> Result<(), Refusal>
         ensures decides { (s : Standing) → s ≡ played_of first.old.standing (Some self.old) →
-            DecidesBytes s source.now.bytes.now source.now.number
+            DecidesBytes s to_load.now.bytes.now to_load.now.number
             (after_load s (played_of first.new.standing (Some self.new)) result) }
         ensures stays { OnErr result (played_of first.new.standing (Some self.new)
             ≡ played_of first.old.standing (Some self.old)) }
     {
         if self.is_played {
-            load_on(first, source)?;
+            load_into(first, to_load)?;
             self.game.clear();
         } else {
-            load_on(&mut self.game, source)?;
+            load_into(&mut self.game, to_load)?;
             first.clear();
         }
         self.is_played = !self.is_played;

@@ -19,7 +19,7 @@ ghost use Rattle.goref_lines.specs.Words.{has_bytes};
 
 use crate::answer::write_answer;
 use crate::command::{Command, command_asked};
-use crate::commands::record::{Record, record_asked};
+use crate::commands::record::{Record, record_to_load};
 use crate::commands::{handicap, play, setup, telling, time};
 use crate::decision::{Decision, Fact, Refusal};
 use crate::fetched::Fetched;
@@ -91,7 +91,7 @@ impl<A: Allocator + Copy> Session<A> {
         let text = line.text();
         if line.is_long() {
             let refused = Decision::Refused(Refusal::LineTooLong);
-            return tell(self.game(), id_of_cut(text), &refused, writer);
+            return write_decision(self.game(), id_of_cut(text), &refused, writer);
         }
         let request = Request::of(text);
         match self.answer_command(&request, writer) {
@@ -99,7 +99,7 @@ impl<A: Allocator + Copy> Session<A> {
             None => {
                 let decision = self.decide_load(&request, &fetched);
                 drop(fetched);
-                tell(self.game(), request.id(), &decision, writer)
+                write_decision(self.game(), request.id(), &decision, writer)
             }
         }
     }
@@ -133,29 +133,29 @@ impl<A: Allocator + Copy> Session<A> {
         ensures { DecidesLoad self.old (load_of request.now.arguments) (content_of fetched.now)
             (record { decision = result; standing = self.new }) }
     {
-        let source = match record_asked(request, fetched) {
-            Ok(source) => source,
+        let to_load = match record_to_load(request, fetched) {
+            Ok(to_load) => to_load,
             Err(why) => return Decision::Refused(why),
         };
-        match self.load(&source) {
+        match self.load(&to_load) {
             Ok(()) => Decision::Done,
             Err(why) => Decision::Refused(why),
         }
     }
 
     /// Loads a record, and plays on its game. A refusal leaves the session as it was.
-    fn load(&mut self, source: &Record) -> Result<(), Refusal>
-        ensures decides { DecidesBytes self.old source.now.bytes.now source.now.number
+    fn load(&mut self, to_load: &Record) -> Result<(), Refusal>
+        ensures decides { DecidesBytes self.old to_load.now.bytes.now to_load.now.number
             (after_load self.old self.new result) }
         ensures stays { OnErr result (self.new ≡ self.old) }
     {
         match &mut self.second {
-            Some(second) => second.load(&mut self.first, source),
+            Some(second) => second.load(&mut self.first, to_load),
             None => {
                 let Ok(mut second) = Second::new(self.alloc, self.first.size()) else {
                     return Err(Refusal::OutOfMemory);
                 };
-                let loaded = second.load(&mut self.first, source);
+                let loaded = second.load(&mut self.first, to_load);
                 self.second = Some(second);
                 loaded
             }
@@ -181,13 +181,13 @@ fn answer_on<A: Allocator + Copy, W: Sink>(
 {
     let decided = decide_on(game, alloc, request);
     match &decided {
-        Some(decision) => Some(tell(game, request.id(), decision, writer)),
+        Some(decision) => Some(write_decision(game, request.id(), decision, writer)),
         None => None,
     }
 }
 
 /// Writes the answer to a line with this id, and returns whether the session goes on.
-fn tell<A: Allocator + Copy, W: Sink>(
+fn write_decision<A: Allocator + Copy, W: Sink>(
     game: &Game<A>,
     id: Option<u32>,
     decision: &Decision,

@@ -12,13 +12,13 @@ pub record Reading : Type 0 where
 
 -- an output: the bytes that its stream holds, where it shows them, those kept back, and the count of failures
 pub record Writing : Type 0 where
-  pub held : Option (List ℕ)
+  pub contents : Option (List ℕ)
   pub kept : List ℕ
   pub failures : ℕ
 
 -- all bytes that an output was given
 abbrev pub given_to : Writing → Option (List ℕ)
-given_to writing = append_known writing.held writing.kept
+given_to writing = append_known writing.contents writing.kept
 
 -- the most bytes that a put takes, by the limit and the number of kept bytes; a full output is emptied first
 abbrev pub room : ℕ → ℕ → ℕ

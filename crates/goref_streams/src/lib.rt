@@ -127,7 +127,7 @@ impl<W: Write> Model for Output<W> {
     ghost Value = { Writing };
 
     ghost view = { λ output. record {
-      held = W.contents output.stream;
+      contents = W.contents output.stream;
       kept = output.kept.items;
       failures = output.failures;
     } };
@@ -136,7 +136,7 @@ impl<W: Write> Model for Output<W> {
 impl<W: Write> Output<W> {
     /// A device over this stream, which keeps nothing back so far.
     pub fn new(stream: W) -> Output<W>
-        ensures { result ≡ record { held = W.contents stream; kept = []; failures = 0 } }
+        ensures { result ≡ record { contents = W.contents stream; kept = []; failures = 0 } }
     {
         Output {
             stream,
@@ -172,7 +172,7 @@ impl<W: Write> Sink for Output<W> {
 
     fn flush(&mut self) -> Result<(), Failed>
         ensures emptied { OnOk result (self.new.kept ≡ []) }
-        ensures passed { OnOk result (Appends self.old.held self.new.held self.old.kept) }
+        ensures passed { OnOk result (Appends self.old.contents self.new.contents self.old.kept) }
         ensures failures { self.new.failures ≡ failures_after result self.old.failures }
     {
         let outcome = flush_bytes(&mut self.stream, self.kept.as_slice());

@@ -7,12 +7,12 @@ use Rattle.go_record.specs.declared.error.RecordError.TheVariants.{NotGo, BadSiz
 use Rattle.go_sgf.specs.Record.{Trees}
 use Rattle.go_sgf.specs.Spelling.{Spells}
 use Rattle.go_sgf.specs.declared.limits.TheConstants.{MAX_RECORD}
-use Rattle.goref_tools.specs.Tools.{HasNoGame, IsInput, RefusesGame, of_game}
+use Rattle.goref_tools.specs.Tools.{HasNoGame, IsInput, RefusesGame, tool_error_of_record}
 use Rattle.goref_tools.specs.declared.error.ToolError.TheVariants.{Record}
 use Rattle.goref_tools.proofs.Whole.{of_whole}
 
 -- what a tool tells of a record's game is its refusal, and not want of memory
-other_than_memory : (e why : RecordError) → of_game e ≡ Record why → (e ≢ Memory) × (e ≡ why)
+other_than_memory : (e why : RecordError) → tool_error_of_record e ≡ Record why → (e ≢ Memory) × (e ≡ why)
 other_than_memory NotGo why f = (λ e. cc, cc)
 other_than_memory BadSize why f = (λ e. cc, cc)
 other_than_memory BadKomi why f = (λ e. cc, cc)
@@ -26,7 +26,7 @@ other_than_memory Memory why f = absurd (cc)
 pub refuses_game : (bytes : List ℕ) (left left' : Option (List ℕ)) → IsInput bytes left left' →
     (MAX_RECORD < length bytes → ⊥) →
     (c : Trees) → Spells bytes c → (e : RecordError) → (e ≢ Memory → IsGameOf c None (Err e)) → (why : RecordError) →
-    of_game e ≡ Record why → RefusesGame left why
+    tool_error_of_record e ≡ Record why → RefusesGame left why
 refuses_game bytes left left' is short c spelled e refused why f =
     let other = other_than_memory e why f in
     let P : RecordError → Type 0 = λ x. RefusesGame left x in

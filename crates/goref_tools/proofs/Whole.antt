@@ -3,13 +3,13 @@ use Rattle.std.proofs.Common.{◌≡◌, ◌≢◌, ◌∙◌, ◌≤◌, ◌<�
 use Rattle.std.specs.Prelude.{IfErr, IfSome, OnOk, Result, Ok, Err}
 use Rattle.std.proofs.lemmas.List.{append-nil, length-append}
 use Rattle.std.proofs.Math.Nat.{lt_of_not-le}
-use Rattle.go_board.specs.Device.{TakesFront, after_bytes, then_bytes}
+use Rattle.go_board.specs.Device.{TakesPrefix, after_bytes, then_bytes}
 use Rattle.go_board.specs.lemmas.Reading.{has_read_more, of_input}
 use Rattle.go_sgf.specs.Refusals.{IsRefusal}
 use Rattle.go_sgf.specs.declared.error.SgfError.{SgfError}
 use Rattle.go_sgf.specs.declared.error.SgfError.TheVariants.{NoTree, EndInside, Unexpected, TooDeep, Memory, TooLong}
 use Rattle.go_sgf.specs.declared.limits.TheConstants.{MAX_RECORD}
-use Rattle.goref_tools.specs.Tools.{IsInput, Reads, Refuses, read_failures_after, tool_error_of}
+use Rattle.goref_tools.specs.Tools.{IsInput, Reads, Refuses, read_failures_after, tool_error_of_sgf}
 use Rattle.goref_tools.specs.declared.error.ToolError.{ToolError}
 use Rattle.goref_tools.specs.declared.error.ToolError.TheVariants.{Sgf, Write}
 
@@ -38,7 +38,7 @@ told : (left : Option (List ℕ)) (e why : SgfError) → e ≢ Memory → e ≡ 
 told left e why other same h =
     let P : SgfError → Type 0 = λ x. Refuses left x in subst P same (other, h)
 
-no_memory : (why : SgfError) → tool_error_of Memory ≡ Sgf why → ⊥
+no_memory : (why : SgfError) → tool_error_of_sgf Memory ≡ Sgf why → ⊥
 no_memory why e = cc
 
 -- a longer input is too long too
@@ -48,7 +48,7 @@ longer bytes more h = omega (arith, length-append bytes more)
 -- what a record is refused for, unless that is want of memory, the whole input is refused for
 pub refuses : (bytes : List ℕ) (left left' : Option (List ℕ)) → IsInput bytes left left' → (e : SgfError) →
     IsRefusal bytes e → (MAX_RECORD < length bytes → e ≡ TooLong) →
-    (why : SgfError) → tool_error_of e ≡ Sgf why → Refuses left why
+    (why : SgfError) → tool_error_of_sgf e ≡ Sgf why → Refuses left why
 refuses bytes left left' is NoTree r long why f =
     told left NoTree why (λ e. cc) (cc)
     (of_whole (λ b. IsRefusal b NoTree) bytes left' is (λ h. let e = long h in cc) r)
@@ -74,8 +74,8 @@ not_read {T} (Err error) old is =
     sym (ap (λ (e : ToolError). let r : Result T ToolError = Err e in read_failures_after r old) is)
 
 -- a text taken whole was begun too
-pub all_front : {old new : Option (List ℕ)} (text : List ℕ) → new ≡ then_bytes old text → TakesFront old new text
-all_front text e = record { front = text; rest = []; whole = sym (append-nil text); taken = e }
+pub all_prefix : {old new : Option (List ℕ)} (text : List ℕ) → new ≡ then_bytes old text → TakesPrefix old new text
+all_prefix text e = record { prefix = text; rest = []; whole = sym (append-nil text); taken = e }
 
 pub on_ok : {T E : Type 0} {P : Type 0} (r : Result T E) → P → OnOk r P
 on_ok (Ok x) p = p

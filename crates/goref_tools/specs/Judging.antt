@@ -1,6 +1,6 @@
 -- The verdict on an input, as it is written.
 use Rattle.std.specs.Prelude.{◌≡◌, ℕ, List, ◌++◌, Option, codes, decimal}
-use Rattle.go_board.specs.Device.{TakesFront, then_bytes}
+use Rattle.go_board.specs.Device.{TakesPrefix, then_bytes}
 use Rattle.go_game.specs.Scores.{score_word}
 use Rattle.go_record.specs.Verdicts.{IsVerdict}
 use Rattle.go_record.specs.declared.verdict.Stated.{Stated}
@@ -33,4 +33,4 @@ Judges input taken taken' =
 -- the writer took a prefix of them
 abbrev pub BeginsToJudge : List ℕ → Option (List ℕ) → Option (List ℕ) → Type 0
 BeginsToJudge input taken taken' =
-    (c : Trees) × Spells input c × ((v : Verdict) × IsVerdict c v × TakesFront taken taken' (verdict_text v))
+    (c : Trees) × Spells input c × ((v : Verdict) × IsVerdict c v × TakesPrefix taken taken' (verdict_text v))

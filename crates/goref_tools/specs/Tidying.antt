@@ -1,6 +1,6 @@
 -- The canonical spelling of an input.
 use Rattle.std.specs.Prelude.{◌≡◌, ◌≤◌, ℕ, List, Option, length}
-use Rattle.go_board.specs.Device.{TakesFront, then_bytes}
+use Rattle.go_board.specs.Device.{TakesPrefix, then_bytes}
 use Rattle.go_sgf.specs.Record.{Trees}
 use Rattle.go_sgf.specs.Refusals.{IsRefusal}
 use Rattle.go_sgf.specs.Spelling.{Spells, canonical}
@@ -14,7 +14,7 @@ Tidies input taken taken' = (c : Trees) × Spells input c × (taken' ≡ then_by
 
 -- the writer took a prefix of it
 abbrev pub BeginsToTidy : List ℕ → Option (List ℕ) → Option (List ℕ) → Type 0
-BeginsToTidy input taken taken' = (c : Trees) × Spells input c × TakesFront taken taken' (canonical c)
+BeginsToTidy input taken taken' = (c : Trees) × Spells input c × TakesPrefix taken taken' (canonical c)
 
 -- The canonical text of a record spells only records that have this canonical text. If it isn't too long,
 -- only lack of memory can refuse it.

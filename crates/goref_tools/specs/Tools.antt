@@ -42,14 +42,14 @@ abbrev pub RefusesGame : Option (List ℕ) → RecordError → Type 0
 RefusesGame left why = (why ≢ record_error.Memory) × IfSome left (λ input. HasNoGame input why)
 
 -- the tool's error for a refused record; lack of memory has its own
-abbrev pub tool_error_of : SgfError → ToolError
-tool_error_of Memory = tool_error.Memory
-tool_error_of why = Sgf why
+abbrev pub tool_error_of_sgf : SgfError → ToolError
+tool_error_of_sgf Memory = tool_error.Memory
+tool_error_of_sgf why = Sgf why
 
 -- the tool's error for a refused game; lack of memory has its own
-abbrev pub of_game : RecordError → ToolError
-of_game record_error.Memory = tool_error.Memory
-of_game why = Record why
+abbrev pub tool_error_of_record : RecordError → ToolError
+tool_error_of_record record_error.Memory = tool_error.Memory
+tool_error_of_record why = Record why
 
 -- the exit status: 1 for a refused record or game, 3 for a fault, lack of memory among them
 abbrev pub status_of : ToolError → ℕ

@@ -1,6 +1,6 @@
 //! The faults of the tools, with the text and the exit status of each.
 ghost use Rattle.std.specs.Prelude.{◌≡◌};
-ghost use Rattle.goref_tools.specs.Tools.{of_game, tool_error_of, status_of};
+ghost use Rattle.goref_tools.specs.Tools.{tool_error_of_record, tool_error_of_sgf, status_of};
 ghost use Rattle.goref_tools.specs.declared.error.ToolError.TheVariants.{Memory};
 
 use go_record::RecordError;
@@ -66,7 +66,7 @@ impl From<AllocError> for ToolError {
 }
 
 impl From<SgfError> for ToolError {
-    ghost from_gives = { λ why error. error ≡ tool_error_of why };
+    ghost from_gives = { λ why error. error ≡ tool_error_of_sgf why };
 
     fn from(why: SgfError) -> ToolError {
         match why {
@@ -77,7 +77,7 @@ impl From<SgfError> for ToolError {
 }
 
 impl From<RecordError> for ToolError {
-    ghost from_gives = { λ why error. error ≡ of_game why };
+    ghost from_gives = { λ why error. error ≡ tool_error_of_record why };
 
     fn from(why: RecordError) -> ToolError {
         match why {

@@ -40,7 +40,7 @@ const ENDS: &[(&[u8], Result<(), ToolError>)] = &[
 ];
 
 #[test]
-fn nothing_is_read_behind_the_end(rt: HostRuntime) {
+fn nothing_is_read_after_the_end(rt: HostRuntime) {
     for (number, (source, end)) in ENDS.iter().enumerate() {
         for most in [1, 3, 4_096] {
             assert!(rt;
@@ -68,7 +68,7 @@ fn a_longer_input_is_not(rt: HostRuntime) -> Result<(), Fail> {
 }
 
 #[test]
-fn nothing_is_read_behind_a_fault(rt: HostRuntime) {
+fn nothing_is_read_after_a_fault(rt: HostRuntime) {
     for tool in [Tool::Tidy, Tool::Judge] {
         let mut reader = Reader::new(SAMPLE).in_pieces_of(5).failing_at(3);
         let end = tool.run(rt.alloc(), &mut reader, &mut Writer::new(rt.alloc()));

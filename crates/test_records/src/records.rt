@@ -98,7 +98,7 @@ fn fault_places(rt: HostRuntime) {
 }
 
 #[test]
-fn fronts_of_a_record(rt: HostRuntime) {
+fn prefixes_of_a_record(rt: HostRuntime) {
     assert_eq!(rt; SAMPLE.len(), 45);
     for (length, _) in SAMPLE.iter().enumerate() {
         let why = if length < 3 {
@@ -516,7 +516,7 @@ fn points_of_values(rt: HostRuntime) {
 }
 
 #[test]
-fn a_point_behind_spaces(rt: HostRuntime) -> Result<(), Fail> {
+fn a_point_after_spaces(rt: HostRuntime) -> Result<(), Fail> {
     let padded = copies(rt.alloc(), b" ", 1_500, b"aa")?;
     assert!(rt; names(&rt, rt.alloc(), padded.as_slice(), &[b"a9"]));
     Ok(())

@@ -95,7 +95,7 @@ fn count_of(game: &Game<Global>, colour: Colour) -> u16 {
 
 /// Prefixes of the long record: up to which move, how many moves these are, and how many stones are then on
 /// the board, all of them black.
-const FRONTS: &[(Option<u32>, u16, u16)] = &[
+const PREFIXES: &[(Option<u32>, u16, u16)] = &[
     (Some(1), 0, 0),
     (Some(1_000), 999, 84),
     (Some(1_001), 1_000, 84),
@@ -114,7 +114,7 @@ fn has_stones(game: &Game<Global>, stones: u16) -> bool {
 #[test]
 fn a_long_record_up_to_a_move(rt: HostRuntime) -> Result<(), Fail> {
     let record = long_record(rt.alloc(), b"")?;
-    for (row, (number, moves, stones)) in FRONTS.iter().enumerate() {
+    for (row, (number, moves, stones)) in PREFIXES.iter().enumerate() {
         let game = game_of(&rt, rt.alloc(), record.as_slice(), *number);
         has_made(&rt, &game, *moves);
         assert!(rt; has_stones(&game, *stones), "row {row}");

@@ -199,14 +199,14 @@ const ENDS: &[(&[u8], u64)] = &[
 ];
 
 #[test]
-fn nothing_is_read_behind_the_end(rt: HostRuntime) {
+fn nothing_is_read_after_the_end(rt: HostRuntime) {
     for (row, (script, count)) in ENDS.iter().enumerate() {
         assert!(rt; meets_ends(&rt, rt.alloc(), script, *count), "row {row}");
     }
 }
 
 #[test]
-fn nothing_is_read_behind_a_fault(rt: HostRuntime) {
+fn nothing_is_read_after_a_fault(rt: HostRuntime) {
     let mut reader = Reader::new(b"boardsize 9\nplay b e5\nundo\n")
         .in_lines()
         .failing_at(2);

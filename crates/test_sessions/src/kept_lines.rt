@@ -68,7 +68,7 @@ fn long_lines(rt: HostRuntime) {
 }
 
 #[test]
-fn the_front_of_a_long_line(rt: HostRuntime) {
+fn the_prefix_of_a_long_line(rt: HostRuntime) {
     let with_id = filled(b"9 play ", b'a', 8_186, b"");
     assert!(rt; with_id.text().starts_with(b"9 play a"));
 }

@@ -274,7 +274,7 @@ fn loads(rt: HostRuntime) {
 }
 
 /// Loads of a part of the record, and how the answers begin.
-const FRONTS: &[(&[u8], &[u8])] = &[
+const PREFIXES: &[(&[u8], &[u8])] = &[
     (
         b"loadsgf f 0\nshowboard\n",
         b"=\n\n= size 9 komi 5.5 prisoners B 0 W 0 moves 0 next W\n",
@@ -286,8 +286,8 @@ const FRONTS: &[(&[u8], &[u8])] = &[
 ];
 
 #[test]
-fn fronts_of_a_record(rt: HostRuntime) {
-    for (row, (script, heading)) in FRONTS.iter().enumerate() {
+fn prefixes_of_a_record(rt: HostRuntime) {
+    for (row, (script, heading)) in PREFIXES.iter().enumerate() {
         assert!(rt;
             begins(&rt, rt.alloc(), HANDICAP_GAME, script, heading),
             "row {row}"
@@ -306,7 +306,7 @@ fn passes(alloc: Global) -> Result<Vec<u8>, AllocError> {
 }
 
 /// Loads of a part of that record, and how the answers begin.
-const FRONTS_OF_PASSES: &[(&[u8], &[u8])] = &[
+const PREFIXES_OF_PASSES: &[(&[u8], &[u8])] = &[
     (
         b"loadsgf f 1000\nshowboard\n",
         b"=\n\n= size 9 komi 0 prisoners B 0 W 0 moves 999 next W\n",
@@ -324,7 +324,7 @@ const FRONTS_OF_PASSES: &[(&[u8], &[u8])] = &[
 #[test]
 fn a_long_record(rt: HostRuntime) -> Result<(), Fail> {
     let record = passes(rt.alloc())?;
-    for (row, (script, heading)) in FRONTS_OF_PASSES.iter().enumerate() {
+    for (row, (script, heading)) in PREFIXES_OF_PASSES.iter().enumerate() {
         let is_said = begins(&rt, rt.alloc(), record.as_slice(), script, heading);
         assert!(rt; is_said, "row {row}");
     }

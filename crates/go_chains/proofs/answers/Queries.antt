@@ -242,8 +242,8 @@ grid_filled n cells colours i all whole done =
     (λ k below. done k (omega arith))
 
 -- a list that isn't empty has a last element
-pub last_split : {X : Type 0} → (xs : List X) → 0 < length xs → (front : List X) × (last : X)
-    × (xs ≡ front ++ last ∷ [])
+pub last_split : {X : Type 0} → (xs : List X) → 0 < length xs → (prefix : List X) × (last : X)
+    × (xs ≡ prefix ++ last ∷ [])
 last_split [] some = absurd (omega arith)
 last_split (x ∷ []) some = ([], x, refl)
 last_split (x ∷ y ∷ ys) some = let rest = last_split (y ∷ ys) (omega arith) in

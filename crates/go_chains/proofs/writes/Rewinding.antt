@@ -66,16 +66,16 @@ plays_of-append (n ∷ lengths) changes added whole =
     (ap (λ plays. take n changes ∷ plays) (plays_of-append lengths (drop n changes) added rest))
 
 -- what the last play of a log is, by the last length
-pub last_play : (lengths : List ℕ) (count : ℕ) (front tail : List Change) (earlier : List (List Change))
+pub last_play : (lengths : List ℕ) (count : ℕ) (prefix tail : List Change) (earlier : List (List Change))
     (changes : List Change)
-    → total (lengths ++ count ∷ []) ≡ length (front ++ tail) → length tail ≡ count
-    → plays_of (lengths ++ count ∷ []) (front ++ tail) ≡ earlier ++ changes ∷ []
-    → (plays_of lengths front ≡ earlier) × (tail ≡ changes)
-last_play lengths count front tail earlier changes whole as_long split =
-    let whole' : total lengths ≡ length front =
-    omega (arith, total-append lengths (count ∷ []), length-append front tail) in
-    let e : plays_of (lengths ++ count ∷ []) (front ++ tail) ≡ plays_of lengths front ++ tail ∷ [] =
-    rw (← as_long) (plays_of-append lengths front tail whole') in
+    → total (lengths ++ count ∷ []) ≡ length (prefix ++ tail) → length tail ≡ count
+    → plays_of (lengths ++ count ∷ []) (prefix ++ tail) ≡ earlier ++ changes ∷ []
+    → (plays_of lengths prefix ≡ earlier) × (tail ≡ changes)
+last_play lengths count prefix tail earlier changes whole as_long split =
+    let whole' : total lengths ≡ length prefix =
+    omega (arith, total-append lengths (count ∷ []), length-append prefix tail) in
+    let e : plays_of (lengths ++ count ∷ []) (prefix ++ tail) ≡ plays_of lengths prefix ++ tail ∷ [] =
+    rw (← as_long) (plays_of-append lengths prefix tail whole') in
     same_from_push _ _ _ _ (sym e ∙ split)
 
 -- the log gains the stretch of changes as one play
@@ -159,11 +159,11 @@ last_of lengths count changes log all split whole is =
     let n = length changes - count in
     let sums : total all ≡ total lengths + count = ap total split ∙ total-append lengths (count ∷ []) ∙ omega arith in
     let size : length (drop n changes) ≡ count = omega (arith, length-drop n changes) in
-    let front : total lengths ≡ length (take n changes) =
+    let prefix : total lengths ≡ length (take n changes) =
     omega (arith, ap length (take-append-drop n changes), length-append (take n changes) (drop n changes)) in
     sym is ∙ ap (λ l. plays_of l changes) (split ∙ ap (λ k. lengths ++ k ∷ []) (sym size))
     ∙ ap (λ l. plays_of (lengths ++ length (drop n changes) ∷ []) l) (sym (take-append-drop n changes))
-    ∙ plays_of-append lengths (take n changes) (drop n changes) front
+    ∙ plays_of-append lengths (take n changes) (drop n changes) prefix
 
 -- what is left, and what was dropped, once one more of the last changes is gone
 pub record IsPopped (all rest : List Change) (change : Change) (k : ℕ) : Type 0 where

@@ -32,9 +32,9 @@ pub record ReadsTree (d : ℕ) (b : List ℕ) (t : TreeValue) (rest : List ℕ) 
   pub spelling : SpellsParts b (flat_map node_parts t.0 ++ (parts t.1 ++ (closing ∷ []))) rest
 
 -- the same, where this follows its `)`
-pub record ReadsToEnd (d : ℕ) (b : List ℕ) (t : TreeValue) (behind : List ℕ) : Type 0 where
-  pub tree : ReadsTree d b t (without_space behind)
-  pub closed : SpellsParts b (flat_map node_parts t.0 ++ parts t.1) (41 ∷ behind)
+pub record ReadsToEnd (d : ℕ) (b : List ℕ) (t : TreeValue) (after : List ℕ) : Type 0 where
+  pub tree : ReadsTree d b t (without_space after)
+  pub closed : SpellsParts b (flat_map node_parts t.0 ++ parts t.1) (41 ∷ after)
 
 -- neither `]` nor `\`
 abbrev pub is_ordinary : ℕ → Bool

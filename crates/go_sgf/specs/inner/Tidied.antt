@@ -40,18 +40,18 @@ tidied_from spot zero (c ∷ cs) = []
 tidied_from spot (suc d) (c ∷ cs) = written spot c ++ tidied_from (spot_after spot c) (open_after spot (suc d) c) cs
 
 -- with this number of open trees: the text that is left where all of them are closed
-unfoldable pub behind_from : Spot → ℕ → List ℕ → List ℕ
-behind_from spot d [] = []
-behind_from spot zero (c ∷ cs) = c ∷ cs
-behind_from spot (suc d) (c ∷ cs) = behind_from (spot_after spot c) (open_after spot (suc d) c) cs
+unfoldable pub rest_from : Spot → ℕ → List ℕ → List ℕ
+rest_from spot d [] = []
+rest_from spot zero (c ∷ cs) = c ∷ cs
+rest_from spot (suc d) (c ∷ cs) = rest_from (spot_after spot c) (open_after spot (suc d) c) cs
 
 -- All bytes between b and rest are written. d trees are open at b, and e at rest, which is outside of values.
 pub record StaysTo (spot : Spot) (d : ℕ) (b : List ℕ) (e : ℕ) (rest : List ℕ) : Type 0 where
-  pub front : List ℕ
-  pub whole : b ≡ front ++ rest
-  pub text : tidied_from spot d b ≡ front ++ tidied_from Outside e rest
-  pub behind : behind_from spot d b ≡ behind_from Outside e rest
+  pub prefix : List ℕ
+  pub whole : b ≡ prefix ++ rest
+  pub text : tidied_from spot d b ≡ prefix ++ tidied_from Outside e rest
+  pub after : rest_from spot d b ≡ rest_from Outside e rest
 
 -- the text is inside of a value to its end, and all of it is written
 abbrev pub NeverEnds : List ℕ → Type 0
-NeverEnds b = (d : ℕ) → (tidied_from Inside (suc d) b ≡ b) × (behind_from Inside (suc d) b ≡ [])
+NeverEnds b = (d : ℕ) → (tidied_from Inside (suc d) b ≡ b) × (rest_from Inside (suc d) b ≡ [])

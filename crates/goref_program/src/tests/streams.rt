@@ -120,8 +120,8 @@ fn reads_of_each_length(rt: HostRuntime) -> Result<(), Fail> {
     let text = letters(rt.alloc(), 4_200)?;
     let mut buffer = [0u8; 4_096];
     for count in 0..=4_200usize {
-        let front = text.as_slice().split_at(count.min(text.len())).0;
-        let mut input = Input::new(front);
+        let prefix = text.as_slice().split_at(count.min(text.len())).0;
+        let mut input = Input::new(prefix);
         assert!(rt;
             input.pull(&mut buffer) == Ok(count.min(4_096)),
             "{count} bytes"

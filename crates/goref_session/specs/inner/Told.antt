@@ -1,6 +1,6 @@
 -- What a decision writes on a device, for the contracts of private functions.
 use Rattle.std.specs.Prelude.{◌≡◌, ℕ, List, Option, Result, MatchResult}
-use Rattle.go_board.specs.Device.{then_bytes, TakesFront}
+use Rattle.go_board.specs.Device.{then_bytes, TakesPrefix}
 use Rattle.go_board.specs.declared.device.WriteFault.{WriteFault}
 use Rattle.go_game.specs.Standings.{Standing}
 use Rattle.goref_session.specs.declared.flow.Flow.{Flow}
@@ -17,7 +17,7 @@ abbrev pub IsTold : Result Flow WriteFault → Option ℕ → Decided → Option
 IsTold result id d taken taken' =
     MatchResult result (λ flow. (flow ≡ flow_of (is_end d.decision))
     × (taken' ≡ then_bytes taken (decision_text id d.decision d.standing)))
-    (λ _. TakesFront taken taken' (decision_text id d.decision d.standing))
+    (λ _. TakesPrefix taken taken' (decision_text id d.decision d.standing))
 
 -- a decision on what is asked, whatever was fetched, gave this standing, and was written
 abbrev pub TellsOf : Standing → Standing → Asked → Result Flow WriteFault → Option (List ℕ) → Option (List ℕ) → Type 0

@@ -2,14 +2,14 @@
 ghost use Rattle.std.specs.Prelude.{◌≡◌, IfErr, IfOk, IsErrOf, OnOk};
 ghost use Rattle.go_game.specs.Standings.{Standing};
 ghost use Rattle.goref_session.specs.Contents.{content_of};
-ghost use Rattle.goref_session.specs.Record.{DecidesBytes, DecidesLoad, Loads, LoadsNone, load_error_of, load_of, of_sgf};
+ghost use Rattle.goref_session.specs.Record.{DecidesBytes, DecidesLoad, Loads, LoadsNone, load_error_of_record, load_of, load_error_of_sgf};
 ghost use Rattle.goref_session.specs.Decisions.{Decided, keeps};
 ghost use Rattle.goref_session.specs.declared.decision.Decision.{Decision};
 ghost use Rattle.goref_session.specs.inner.Refusing.{after_load};
 
 use crate::decision::Refusal;
 use crate::fetched::Fetched;
-use crate::loading::load_asked;
+use crate::loading::parse_load;
 use go_game::Game;
 use go_record::{RecordError, replay_source_on};
 use go_sgf::{SgfError, check};
@@ -24,18 +24,18 @@ pub struct Record<'a> {
 }
 
 /// The record that a request asks for, or why there is none to load.
-pub fn record_asked<'a, A: Allocator + Copy>(
+pub fn record_to_load<'a, A: Allocator + Copy>(
     request: &Request,
     fetched: &'a Fetched<A>,
 ) -> Result<Record<'a>, Refusal>
-    ensures asked { IfOk result (λ source. (s : Standing) (d : Decided) →
-        DecidesBytes s source.bytes.now source.number d →
+    ensures asked { IfOk result (λ to_load. (s : Standing) (d : Decided) →
+        DecidesBytes s to_load.bytes.now to_load.number d →
         DecidesLoad s (load_of request.now.arguments) (content_of fetched.now) d) }
     ensures refused { IfErr result (λ why. (s : Standing) →
         DecidesLoad s (load_of request.now.arguments) (content_of fetched.now)
         (keeps s (Decision.Refused why))) }
 {
-    let Some(load) = load_asked(request) else {
+    let Some(load) = parse_load(request) else {
         return Err(Refusal::SyntaxError);
     };
     match fetched {
@@ -51,11 +51,11 @@ pub fn record_asked<'a, A: Allocator + Copy>(
 }
 
 /// Replays a record into an empty game, or returns why not. After a refusal the game is empty.
-pub fn load_on<A: Allocator + Copy>(game: &mut Game<A>, source: &Record) -> Result<(), Refusal>
-    ensures { (s : Standing) → DecidesBytes s source.now.bytes.now source.now.number
+pub fn load_into<A: Allocator + Copy>(game: &mut Game<A>, to_load: &Record) -> Result<(), Refusal>
+    ensures { (s : Standing) → DecidesBytes s to_load.now.bytes.now to_load.now.number
         (after_load s game.new.standing result) }
 {
-    match replay_on(game, source) {
+    match check_and_replay(game, to_load) {
         Ok(()) => Ok(()),
         Err(LoadError::Cannot) => Err(Refusal::CannotLoad),
         Err(LoadError::Memory) => Err(Refusal::OutOfMemory),
@@ -63,13 +63,16 @@ pub fn load_on<A: Allocator + Copy>(game: &mut Game<A>, source: &Record) -> Resu
 }
 
 /// Replays a record into a game. The error tells lack of memory from other refusals.
-fn replay_on<A: Allocator + Copy>(game: &mut Game<A>, source: &Record) -> Result<(), LoadError>
-    ensures ok { OnOk result (Loads source.now.bytes.now source.now.number game.new.standing) }
+fn check_and_replay<A: Allocator + Copy>(
+    game: &mut Game<A>,
+    to_load: &Record,
+) -> Result<(), LoadError>
+    ensures ok { OnOk result (Loads to_load.now.bytes.now to_load.now.number game.new.standing) }
     ensures cannot { IsErrOf result LoadError.Cannot
-        → LoadsNone source.now.bytes.now source.now.number }
+        → LoadsNone to_load.now.bytes.now to_load.now.number }
 {
-    let checked = check(source.bytes)?;
-    replay_source_on(game, &checked, source.number)?;
+    let checked = check(to_load.bytes)?;
+    replay_source_on(game, &checked, to_load.number)?;
     Ok(())
 }
 
@@ -83,7 +86,7 @@ pub enum LoadError {
 }
 
 impl From<SgfError> for LoadError {
-    ghost from_gives = { λ why error. error ≡ of_sgf why };
+    ghost from_gives = { λ why error. error ≡ load_error_of_sgf why };
 
     fn from(why: SgfError) -> LoadError {
         match why {
@@ -94,7 +97,7 @@ impl From<SgfError> for LoadError {
 }
 
 impl From<RecordError> for LoadError {
-    ghost from_gives = { λ why error. error ≡ load_error_of why };
+    ghost from_gives = { λ why error. error ≡ load_error_of_record why };
 
     fn from(why: RecordError) -> LoadError {
         match why {

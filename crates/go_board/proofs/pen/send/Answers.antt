@@ -9,13 +9,13 @@ loop-rest-preserved g c =
     let now = c.loop-rest.invariant in
     let first = c.split_at.result.0.now in
     record {
-      front = now.front ++ first;
-      whole = now.whole ∙ ap (λ xs. now.front ++ xs) c.split_at.ensures.by_index.0
-          ∙ sym (append_assoc now.front first c.split_at.result.1.now);
+      prefix = now.prefix ++ first;
+      whole = now.whole ∙ ap (λ xs. now.prefix ++ xs) c.split_at.ensures.by_index.0
+          ∙ sym (append_assoc now.prefix first c.split_at.result.1.now);
       taken = c.in-Ok.ensures.bytes ∙ ap (λ xs. then_bytes (g.W.Sink.taken c.loop-rest.writer) xs)
           (sym c.split_at.ensures.front)
           ∙ ap (λ o. then_bytes o first) now.taken
-          ∙ then_bytes-then_bytes (g.W.Sink.taken c.args.writer.now) now.front first;
+          ∙ then_bytes-then_bytes (g.W.Sink.taken c.args.writer.now) now.prefix first;
       failures = no_failure_more _ _ c.in-Ok.count-test.1 c.in-Ok.ensures.failures ∙ now.failures;
     }
 

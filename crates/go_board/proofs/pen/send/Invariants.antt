@@ -4,9 +4,9 @@ use Rattle.go_board.proofs.pen.send.Given as goal
 
 abbrev pub invariant-loop-rest : goal.invariant-loop-rest
 invariant-loop-rest g l = record {
-  front : List ℕ;
-  whole : l.text ≡ front ++ l.rest;
-  taken : g.W.Sink.taken l.writer ≡ then_bytes (g.W.Sink.taken l.initial.writer) front;
+  prefix : List ℕ;
+  whole : l.text ≡ prefix ++ l.rest;
+  taken : g.W.Sink.taken l.writer ≡ then_bytes (g.W.Sink.taken l.initial.writer) prefix;
   failures : g.W.Sink.failures l.writer ≡ g.W.Sink.failures l.initial.writer;
 }
 

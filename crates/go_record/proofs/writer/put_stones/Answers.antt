@@ -1,6 +1,6 @@
 use Rattle.std.proofs.Common.{◌∙◌}
 use Rattle.go_board.specs.lemmas.Writing.{writes_then}
-use Rattle.go_record.proofs.Writes.{front_more, stones_more}
+use Rattle.go_record.proofs.Writes.{prefix_more, stones_more}
 use Rattle.go_record.proofs.writer.put_stones.Goals as goal
 
 pub loop-number-preserved : goal.loop-number-preserved
@@ -15,5 +15,5 @@ loop-number-preserved g c =
           (rw (back, is, c.loop-number.invariant.prefix) at c.put_if_coloured-prefix.ensures.stone)
           (stones_more c.args.name.now s.lines s.start c.args.colour k);
       prefix = rw (back, c.loop-number.invariant.prefix) at c.put_if_coloured-prefix.ensures.next
-          ∙ front_more c.args.name.now s.start c.args.colour k;
+          ∙ prefix_more c.args.name.now s.start c.args.colour k;
     }

@@ -1,5 +1,5 @@
 use Rattle.std.proofs.Common.{◌∙◌}
-use Rattle.go_sgf.proofs.Fronted.{cooked_all, cooked_on}
+use Rattle.go_sgf.proofs.Prefixed.{cooked_all, cooked_on}
 use Rattle.go_sgf.proofs.cooking.cook.Goals as goal
 
 pub loop-byte-preserved : goal.loop-byte-preserved

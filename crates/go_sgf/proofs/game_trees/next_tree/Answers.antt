@@ -5,7 +5,7 @@ use Rattle.go_sgf.proofs.game_trees.next_tree.Goals as goal
 pub overflow_sub-result : goal.overflow_sub-result
 overflow_sub-result c =
     let b = c.in-Some.ensures.begins in
-    (read_there c.args.source.now c.args.from c.in-Some.begin c.split_at.result.1.now c.in-Ok.behind.now
+    (read_there c.args.source.now c.args.from c.in-Some.begin c.split_at.result.1.now c.in-Ok.after.now
     c.in-Ok.ensures.read.0 b c.split_at.ensures.back c.in-Ok.ensures.read.2).0
 
 pub returns-in-Ok-clause-tree : goal.returns-in-Ok-clause-tree
@@ -14,7 +14,7 @@ returns-in-Ok-clause-tree c =
     let t = c.in-Ok.ensures.read.0 in (
       t.0,
       t.1,
-      (read_there c.args.source.now c.args.from c.in-Some.begin c.split_at.result.1.now c.in-Ok.behind.now t b
+      (read_there c.args.source.now c.args.from c.in-Some.begin c.split_at.result.1.now c.in-Ok.after.now t b
           c.split_at.ensures.back c.in-Ok.ensures.read.2).1,
     )
 

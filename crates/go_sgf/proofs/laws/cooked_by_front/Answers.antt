@@ -1,4 +1,4 @@
-use Rattle.go_sgf.proofs.Fronted.{cooked_by_front}
+use Rattle.go_sgf.proofs.Prefixed.{cooked_by_front}
 use Rattle.go_sgf.proofs.laws.cooked_by_front.Goals as goal
 
 pub returns : goal.returns

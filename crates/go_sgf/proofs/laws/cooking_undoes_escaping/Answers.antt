@@ -1,4 +1,4 @@
-use Rattle.go_sgf.proofs.Fronted.{cooking_undoes_escaping}
+use Rattle.go_sgf.proofs.Prefixed.{cooking_undoes_escaping}
 use Rattle.go_sgf.proofs.laws.cooking_undoes_escaping.Goals as goal
 
 pub returns : goal.returns

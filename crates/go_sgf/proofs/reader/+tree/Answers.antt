@@ -22,16 +22,16 @@ returns-then-depth-eq-MAX_DEPTH-clause-place g t c =
     ∙ subst P (sym c.if-depth-eq-MAX_DEPTH.true)
     (too_deep MAX_DEPTH c.loop-inside.rest.now c.in-Some.inside.now c.in-Some.ensures.stripped)
 
-pub returns-in_err-behind-clause-place : goal.returns-in_err-behind-clause-place
-returns-in_err-behind-clause-place g t c =
+pub returns-in_err-after-clause-place : goal.returns-in_err-after-clause-place
+returns-in_err-after-clause-place g t c =
     let less : c.args.depth < MAX_DEPTH = omega arith in
-    let p = err_from_is_err_and c.from_residual-in_err-behind.result c.from_residual-in_err-behind.ensures.1 in
+    let p = err_from_is_err_and c.from_residual-in_err-after.result c.from_residual-in_err-after.ensures.1 in
     rw (p.1, p.2)
     (passes _ _ _ _ _
     (c.loop-inside.invariant.5.place
     ∙ into_child MAX_DEPTH c.args.depth c.requires.depth less c.loop-inside.rest.now c.in-Some.inside.now
     c.in-Some.ensures.stripped)
-    c.in_err-behind.ensures.place)
+    c.in_err-after.ensures.place)
 
 pub loop-inside-init : goal.loop-inside-init
 loop-inside-init g t c =
@@ -49,28 +49,28 @@ loop-inside-init g t c =
 
 pub loop-inside-smaller : goal.loop-inside-smaller
 loop-inside-smaller g t c =
-    let read = c.in_ok-behind.ensures.read in
+    let read = c.in_ok-after.ensures.read in
     rw c.after_space-rest.ensures
-    (shorter 40 c.loop-inside.rest.now c.in-Some.inside.now (without_space c.in_ok-behind.behind.now)
+    (shorter 40 c.loop-inside.rest.now c.in-Some.inside.now (without_space c.in_ok-after.after.now)
     c.in-Some.ensures.stripped
-    (tree_le _ c.in-Some.inside.now read.0 (without_space c.in_ok-behind.behind.now) read.2.tree))
+    (tree_le _ c.in-Some.inside.now read.0 (without_space c.in_ok-after.after.now) read.2.tree))
 
 pub loop-inside-preserved : goal.loop-inside-preserved
 loop-inside-preserved g t c =
     let less : c.args.depth < MAX_DEPTH = omega arith in
     let i = c.loop-inside.invariant in
-    let read = c.in_ok-behind.ensures.read in (
+    let read = c.in_ok-after.ensures.read in (
       i.0,
       i.1 ++ read.0 ∷ [],
       i.2,
       λ keeps. read.1 keeps ∙ ap (option_map (λ us. us ++ read.0 ∷ [])) (i.3 keeps),
-      λ kept. i.4 (sym c.in_ok-behind.ensures.kept ∙ kept),
+      λ kept. i.4 (sym c.in_ok-after.ensures.kept ∙ kept),
       rw c.after_space-rest.ensures
           (tree_more c.args.depth c.requires.depth less c.args.bytes.now i.0 i.1 (i.1 ++ read.0 ∷ [])
           c.loop-inside.rest.now
-          c.in-Some.inside.now read.0 (without_space c.in_ok-behind.behind.now) i.5 refl c.in-Some.ensures.stripped
+          c.in-Some.inside.now read.0 (without_space c.in_ok-after.after.now) i.5 refl c.in-Some.ensures.stripped
           read.2.tree
-          c.in_ok-behind.ensures.place),
+          c.in_ok-after.ensures.place),
       i.6,
       i.7,
     )
@@ -88,14 +88,14 @@ returns-clause-read g t c =
           added_is (trees_in c.args.trees.now) (trees_in c.add_tree.new.trees) c.loop-inside.children
           (λ list. map tree_of list.items) i.1 c.nodes.new.list i.0
           c.in_ok-add_tree.ensures.added (sym c.own.view_is ∙ i.2 keeps) (i.3 keeps),
-      tree_whole c.args.depth c.args.bytes.now i.0 i.1 i.6 c.loop-inside.rest.now c.in-Some-strip.behind.now i.7 i.5
+      tree_whole c.args.depth c.args.bytes.now i.0 i.1 i.6 c.loop-inside.rest.now c.in-Some-strip.after.now i.7 i.5
           c.in-Some-strip.ensures.stripped,
     )
 
 pub returns-clause-place : goal.returns-clause-place
 returns-clause-place g t c =
     c.loop-inside.invariant.5.place
-    ∙ closes MAX_DEPTH c.args.depth c.requires.depth c.loop-inside.rest.now c.in-Some-strip.behind.now
+    ∙ closes MAX_DEPTH c.args.depth c.requires.depth c.loop-inside.rest.now c.in-Some-strip.after.now
     c.in-Some-strip.ensures.stripped
 
 pub returns-in_default-strip-clause-place : goal.returns-in_default-strip-clause-place

@@ -32,9 +32,9 @@ pub loop-inside-smaller : goal.loop-inside-smaller
 loop-inside-smaller g c =
     let read = c.in-Ok.ensures.read in
     rw c.after_space-rest.ensures
-    (shorter 40 c.loop-inside.rest.now c.in-Some.inside.now (without_space c.in-Ok.behind.now)
+    (shorter 40 c.loop-inside.rest.now c.in-Some.inside.now (without_space c.in-Ok.after.now)
     c.in-Some.ensures.stripped
-    (tree_le 1 c.in-Some.inside.now read.0 (without_space c.in-Ok.behind.now) read.2.tree))
+    (tree_le 1 c.in-Some.inside.now read.0 (without_space c.in-Ok.after.now) read.2.tree))
 
 pub loop-inside-preserved : goal.loop-inside-preserved
 loop-inside-preserved g c =
@@ -45,7 +45,7 @@ loop-inside-preserved g c =
       λ kept. c.loop-inside.invariant.2 (sym c.in-Ok.ensures.kept ∙ kept),
       rw c.after_space-rest.ensures
           (trees_more c.args.source.now ts (ts ++ read.0 ∷ []) c.loop-inside.rest.now c.in-Some.inside.now read.0
-          (without_space c.in-Ok.behind.now)
+          (without_space c.in-Ok.after.now)
           c.loop-inside.invariant.3 refl c.in-Some.ensures.stripped read.2.tree),
     )
 

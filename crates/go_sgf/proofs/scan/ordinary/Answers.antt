@@ -13,8 +13,8 @@ returns-in_err-place-clause-none c =
     let all : list_all is_ordinary bytes ≡ true = rw (← take_all (length bytes) bytes (omega arith)) before in
     rw c.from_residual.ensures all
 
-pub returns-in-Some-clause-front : goal.returns-in-Some-clause-front
-returns-in-Some-clause-front c =
+pub returns-in-Some-clause-prefix : goal.returns-in-Some-clause-prefix
+returns-in-Some-clause-prefix c =
     rw c.split_at.ensures.front
     (ordinary_before c.args.bytes.now c.in_ok-place.place
     (λ k less. c.in_ok-place.ensures.0.before k (omega arith) less))

@@ -8,7 +8,7 @@ use Rattle.goref.proofs.runs.feed.Goals as goal
 
 pub loop-end-init : goal.loop-end-init
 loop-end-init g c = record {
-  front = [];
+  prefix = [];
   whole = refl;
   progress = λ start read given taken p. rw (append-nil read) p;
   held = λ none. none;
@@ -25,11 +25,11 @@ returns-in-Ok-Quit-clause-proceeds g c = λ start read given taken p.
     let rest = c.loop-end.rest.now in
     settled (λ text. Converses start (lines text) given (g.S.Shelf.given c.end_line.new.shelf) taken
     (g.W.Sink.taken c.end_line.new.writer))
-    read now.front (part ++ 10 ∷ []) (drop 1 (drop c.in-Some.end rest)) c.args.chunk.now
-    (chunk_cut c.args.chunk.now now.front rest part _ c.in-Some.end now.whole c.split_at.ensures.front refl
+    read now.prefix (part ++ 10 ∷ []) (drop 1 (drop c.in-Some.end rest)) c.args.chunk.now
+    (chunk_cut c.args.chunk.now now.prefix rest part _ c.in-Some.end now.whole c.split_at.ensures.front refl
     c.in-Some.ensures)
     (rw (c.in-Ok-Quit.is, c.in-Ok-Quit.field-0-is) at
-    (c.end_line.ensures.proceeds start (read ++ now.front) given taken (now.progress start read given taken p)))
+    (c.end_line.ensures.proceeds start (read ++ now.prefix) given taken (now.progress start read given taken p)))
 
 pub returns-in-Err-clause-proceeds : goal.returns-in-Err-clause-proceeds
 returns-in-Err-clause-proceeds g c = λ start read given taken p.
@@ -38,10 +38,10 @@ returns-in-Err-clause-proceeds g c = λ start read given taken p.
     let rest = c.loop-end.rest.now in
     settled (λ text. WasCut start (lines text) c.end_line.new.session given (g.S.Shelf.given c.end_line.new.shelf) taken
     (g.W.Sink.taken c.end_line.new.writer))
-    read now.front (part ++ 10 ∷ []) (drop 1 (drop c.in-Some.end rest)) c.args.chunk.now
-    (chunk_cut c.args.chunk.now now.front rest part _ c.in-Some.end now.whole c.split_at.ensures.front refl
+    read now.prefix (part ++ 10 ∷ []) (drop 1 (drop c.in-Some.end rest)) c.args.chunk.now
+    (chunk_cut c.args.chunk.now now.prefix rest part _ c.in-Some.end now.whole c.split_at.ensures.front refl
     c.in-Some.ensures)
-    (rw c.in-Err.is at (c.end_line.ensures.proceeds start (read ++ now.front) given taken
+    (rw c.in-Err.is at (c.end_line.ensures.proceeds start (read ++ now.prefix) given taken
     (now.progress start read given taken p)))
 
 pub loop-end-preserved : goal.loop-end-preserved
@@ -51,14 +51,14 @@ loop-end-preserved g c =
     let rest = c.loop-end.rest.now in
     let after = c.split_at-in-Some.result.1.now in
     record {
-      front = now.front ++ (part ++ 10 ∷ []);
-      whole = chunk_cut c.args.chunk.now now.front rest part after c.in-Some.end now.whole c.split_at.ensures.front
+      prefix = now.prefix ++ (part ++ 10 ∷ []);
+      whole = chunk_cut c.args.chunk.now now.prefix rest part after c.in-Some.end now.whole c.split_at.ensures.front
           (c.split_at-in-Some.ensures.back ∙ ap (drop 1) c.split_at.ensures.back) c.in-Some.ensures
-          ∙ sym (append_assoc now.front (part ++ 10 ∷ []) after);
+          ∙ sym (append_assoc now.prefix (part ++ 10 ∷ []) after);
       progress = λ start read given taken p.
-          rw (sym (append_assoc read now.front (part ++ 10 ∷ [])))
+          rw (sym (append_assoc read now.prefix (part ++ 10 ∷ [])))
           (rw (c.in-Ok-More.is, c.in-Ok-More.field-0-is) at
-          (c.end_line.ensures.proceeds start (read ++ now.front) given taken
+          (c.end_line.ensures.proceeds start (read ++ now.prefix) given taken
           (now.progress start read given taken p)));
       held = λ none. c.in-Ok-More.ensures.held (now.held none);
       failures = c.in-Ok-More.ensures.failures ∙ now.failures;
@@ -71,7 +71,7 @@ returns-clause-proceeds g c = λ start read given taken p.
     let q = now.progress start read given taken p in
     rw (
       now.whole,
-      sym (append_assoc read now.front rest),
-      c.extend.ensures (unfinished_line (read ++ now.front)) q.keeps,
+      sym (append_assoc read now.prefix rest),
+      c.extend.ensures (unfinished_line (read ++ now.prefix)) q.keeps,
     )
     (reads_on q rest (no_cut rest c.in_default.ensures))

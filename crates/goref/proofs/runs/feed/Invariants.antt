@@ -6,12 +6,12 @@ use Rattle.goref.proofs.runs.feed.Given as goal
 
 abbrev pub invariant-loop-end : goal.invariant-loop-end
 invariant-loop-end g l = record {
-  front : List ℕ;
-  whole : l.chunk ≡ front ++ l.rest;
+  prefix : List ℕ;
+  whole : l.chunk ≡ prefix ++ l.rest;
   progress : (start : Standing) (read : List ℕ) (given : Option (List Pair)) (taken : Option (List ℕ)) →
       Progress start read l.initial.line l.initial.session given (g.S.Shelf.given l.initial.shelf) taken
       (g.W.Sink.taken l.initial.writer) →
-      Progress start (read ++ front) l.line l.session given (g.S.Shelf.given l.shelf) taken (g.W.Sink.taken l.writer);
+      Progress start (read ++ prefix) l.line l.session given (g.S.Shelf.given l.shelf) taken (g.W.Sink.taken l.writer);
   held : g.W.Sink.held l.initial.writer ≡ 0 → g.W.Sink.held l.writer ≡ 0;
   failures : g.W.Sink.failures l.writer ≡ g.W.Sink.failures l.initial.writer;
 }

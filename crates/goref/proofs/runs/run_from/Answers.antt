@@ -8,7 +8,7 @@ use Rattle.goref.proofs.Conversations.{cut_breaks_off}
 use Rattle.goref.specs.lemmas.Conversations.{answered_converses}
 use Rattle.goref.proofs.Progressing.{begins}
 use Rattle.go_board.specs.lemmas.Reading.{after_bytes-nil, has_read_more, of_input}
-use Rattle.goref.proofs.Running.{answers_complete, answers_front, no_end_found, of_ended}
+use Rattle.goref.proofs.Running.{answers_complete, answers_prefix, no_end_found, of_ended}
 use Rattle.goref.proofs.runs.run_from.Goals as goal
 
 pub loop-init : goal.loop-init
@@ -71,7 +71,7 @@ returns-in-Err-end_input g c =
       ok = search rules;
       ended = search rules;
       write = λ _.
-          answers_front now.read (now.left
+          answers_prefix now.read (now.left
           ∙ ap (after_bytes now.read) (nothing ∙ after_bytes-nil (g.R.Source.left c.pull.new.self)))
           (cut_breaks_off c.some_reply.ensures
           (rw c.in-Err-end_input.is at (c.end_input.ensures.finishes _ now.read _ _ now.progress)));
@@ -116,7 +116,7 @@ returns-in-Err-feed g c =
       ok = search rules;
       ended = search rules;
       write = λ _.
-          answers_front (now.read ++ chunk)
+          answers_prefix (now.read ++ chunk)
           (has_read_more (g.R.Source.left c.pull.new.self) now.read chunk now.left
           (c.in-Ok.ensures.bytes ∙ ap (λ xs. after_bytes xs (g.R.Source.left c.pull.new.self))
           (sym c.split_at.ensures.front)))
@@ -165,7 +165,7 @@ loop-preserved g c =
           (c.in-Ok.ensures.bytes ∙ ap (λ xs. after_bytes xs (g.R.Source.left c.pull.new.self))
           (sym c.split_at.ensures.front));
       progress = rw (c.in-Ok-More.is, c.in-Ok-More.field-0-is) at (c.feed.ensures.proceeds _ now.read _ _ now.progress);
-      many = omega (arith, length-append now.read chunk, c.split_at.ensures.front_len, now.many);
+      many = omega (arith, length-append now.read chunk, c.split_at.ensures.prefix_len, now.many);
       pulls = omega (arith, c.pull.ensures.pulls);
       ends = c.in-Ok.ensures.ends ∙ no_end_found Failed c.in-Ok.count _ _ c.if-count-eq0.false ∙ now.ends;
       read_failures = c.in-Ok.ensures.failures ∙ now.read_failures;

@@ -12,5 +12,5 @@ returns-then-are_controls-clause-same c =
     let more = c.split_at.result.1.now in
     blank_after_controls c.split_at.result.0.now more (sym c.are_controls.ensures ∙ c.if-are_controls.true)
     ∙ ap (list_any is_blank_byte)
-    (ap (λ front. front ++ more) c.split_at.ensures.front
+    (ap (λ prefix. prefix ++ more) c.split_at.ensures.front
     ∙ ap (λ back. take BLOCK bytes ++ back) c.split_at.ensures.back ∙ take-append-drop BLOCK bytes)

@@ -2,7 +2,7 @@ use Rattle.std.proofs.Common.{arith, ◌≡◌, ◌<◌, ◌≤◌, ◌⊎◌, �
 use Rattle.std.specs.List.{prefix_len}
 use Rattle.std.proofs.lemmas.List.Sums.{prefix_len-le-length}
 use Rattle.goref_lines.specs.inner.Prefixes.{is_word_byte}
-use Rattle.goref_lines.proofs.Pieces.{WordsUpTo, front_end, front_stops, words_blank, words_next}
+use Rattle.goref_lines.proofs.Pieces.{WordsUpTo, prefix_end, prefix_stops, words_blank, words_next}
 use Rattle.goref_lines.proofs.line.words_prefix.Goals as goal
 use Rattle.goref_lines.proofs.line.words_prefix.Goals.{then-not-is_of_word+else-byte-ne32+else-place-start, else-not-is_of_word}
 
@@ -12,7 +12,7 @@ loop-place-preserved c = elim c.if-not-is_of_word.branch [
     joined = subst (λ (start : ℕ). WordsUpTo c.args.bytes.now start (c.loop-place.place + 1)) (sym w.start-is)
         (words_blank c.args.bytes.now c.loop-place.start c.loop-place.place c.loop-place.invariant.joined
         w.if-byte-ne32.false w.if-place-start.false);
-    first = inr (let stop = front_stops c.args.bytes.now c.loop-place.place
+    first = inr (let stop = prefix_stops c.args.bytes.now c.loop-place.place
         (sym c.is_of_word.ensures ∙ w.if-not-is_of_word.true) in omega (arith, w.start-is, stop));
   }
   | else-not-is_of_word w ↦ record {
@@ -27,12 +27,12 @@ loop-place-preserved c = elim c.if-not-is_of_word.branch [
 pub returns-then-byte-ne32-clause-word : goal.returns-then-byte-ne32-clause-word
 returns-then-byte-ne32-clause-word c =
     subst (λ (n : ℕ). prefix_len is_word_byte c.args.bytes.now ≤ n) (sym c.words_end.ensures)
-    (front_end c.args.bytes.now c.loop-place.start c.loop-place.place c.loop-place.invariant.first
-    (front_stops c.args.bytes.now c.loop-place.place (sym c.is_of_word.ensures ∙ c.if-not-is_of_word.true)))
+    (prefix_end c.args.bytes.now c.loop-place.start c.loop-place.place c.loop-place.invariant.first
+    (prefix_stops c.args.bytes.now c.loop-place.place (sym c.is_of_word.ensures ∙ c.if-not-is_of_word.true)))
 
 pub returns-clause-word : goal.returns-clause-word
 returns-clause-word c =
     let bytes = c.args.bytes.now in
     subst (λ (n : ℕ). prefix_len is_word_byte bytes ≤ n) (sym c.words_end-2.ensures)
-    (front_end bytes c.loop-place.start (length bytes) c.loop-place.invariant.first
+    (prefix_end bytes c.loop-place.start (length bytes) c.loop-place.invariant.first
     (let all = prefix_len-le-length is_word_byte bytes in omega (arith, all)))

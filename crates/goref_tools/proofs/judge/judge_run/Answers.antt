@@ -2,7 +2,7 @@ use Rattle.std.proofs.Common.{rules, ◌∙◌}
 use Rattle.std.proofs.lemmas.Result.{err_from_is_err_and}
 use Rattle.goref_tools.specs.Judging.{BeginsToJudge, Judges, verdict_text}
 use Rattle.goref_tools.proofs.Judged.{refuses_game}
-use Rattle.goref_tools.proofs.Whole.{all_front, not_read, of_whole, on_ok, refuses, same_error}
+use Rattle.goref_tools.proofs.Whole.{all_prefix, not_read, of_whole, on_ok, refuses, same_error}
 use Rattle.goref_tools.proofs.judge.judge_run.Goals as goal
 
 pub returns-in_err-source-clause-refused : goal.returns-in_err-source-clause-refused
@@ -47,7 +47,7 @@ returns-in-Ok-clause-write g c = λ h.
       (
         c.in_ok-verdict.verdict,
         told.2,
-        all_front (verdict_text c.in_ok-verdict.verdict) (c.flush.ensures.bytes ∙ c.in-Ok.ensures.sent),
+        all_prefix (verdict_text c.in_ok-verdict.verdict) (c.flush.ensures.bytes ∙ c.in-Ok.ensures.sent),
       ),
     )
 

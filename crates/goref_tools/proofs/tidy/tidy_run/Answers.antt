@@ -2,7 +2,7 @@ use Rattle.std.proofs.Common.{rules, ◌∙◌}
 use Rattle.std.proofs.lemmas.Result.{err_from_is_err_and}
 use Rattle.go_sgf.specs.Spelling.{canonical}
 use Rattle.goref_tools.specs.Tidying.{BeginsToTidy, Tidies}
-use Rattle.goref_tools.proofs.Whole.{all_front, of_whole, on_ok, refuses, same_error}
+use Rattle.goref_tools.proofs.Whole.{all_prefix, of_whole, on_ok, refuses, same_error}
 use Rattle.goref_tools.proofs.tidy.tidy_run.Goals as goal
 
 pub returns-in_err-source-clause-refused : goal.returns-in_err-source-clause-refused
@@ -29,7 +29,7 @@ returns-in-Ok-clause-write g c = λ h.
     of_whole (λ input. BeginsToTidy input (g.W.Sink.taken c.args.writer.now) (g.W.Sink.taken c.flush.new.writer))
     c.in_ok-text.text.items (g.R.Source.left c.read_input.new.reader) c.in_ok-text.ensures.input
     (λ long. let e = c.in_ok-source.ensures.too_long.1 (rw c.as_slice.ensures.value long) in cc)
-    (told.0, told.1, all_front (canonical told.0) (c.flush.ensures.bytes ∙ told.2))
+    (told.0, told.1, all_prefix (canonical told.0) (c.flush.ensures.bytes ∙ told.2))
 
 pub returns-clause-write : goal.returns-clause-write
 returns-clause-write g c = λ h.

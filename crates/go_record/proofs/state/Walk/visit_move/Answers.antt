@@ -6,9 +6,9 @@ use Rattle.go_record.proofs.state.Walk.visit_move.Goals as goal
 
 pub returns-in-Move-clause-walked : goal.returns-in-Move-clause-walked
 returns-in-Move-clause-walked g c = λ p later nodes kind_is l.
-    subst (λ (k : Kind). Walked c.take_turn.result (c.args.self.now, c.args.game.now) (move_by c.args.node k p.values)
-    (c.take_turn.new.self, c.take_turn.new.game))
+    subst (λ (k : Kind). Walked c.play_unless_over.result (c.args.self.now, c.args.game.now) (move_by c.args.node k p.values)
+    (c.play_unless_over.new.self, c.play_unless_over.new.game))
     (sym c.in-Move.is ∙ kind_is)
-    (subst (λ (v : List ℕ). Walked c.take_turn.result (c.args.self.now, c.args.game.now)
-    (move_met c.args.node c.in-Move.colour v ∷ []) (c.take_turn.new.self, c.take_turn.new.game))
-    (c.first_value.ensures.value p.values later nodes l) c.take_turn.ensures)
+    (subst (λ (v : List ℕ). Walked c.play_unless_over.result (c.args.self.now, c.args.game.now)
+    (move_met c.args.node c.in-Move.colour v ∷ []) (c.play_unless_over.new.self, c.play_unless_over.new.game))
+    (c.first_value.ensures.value p.values later nodes l) c.play_unless_over.ensures)

@@ -33,12 +33,12 @@ returns-in-OneMove-clause-walked g c = λ ps nodes l.
     ∷ [] =
     subst (λ (m : MovesMet). AreMoves c.args.number m (flat_map (move_event c.args.number) ps)) c.in-OneMove.is
     (c.in_ok-set_up.ensures.moves ps nodes l) in
-    walked_after c.take_turn.result (c.args.self.now, c.args.game.now) (c.set_up.new.self, c.args.game.now)
-    (c.take_turn.new.self, c.take_turn.new.game)
+    walked_after c.play_unless_over.result (c.args.self.now, c.args.game.now) (c.set_up.new.self, c.args.game.now)
+    (c.play_unless_over.new.self, c.play_unless_over.new.game)
     (flat_map (setup_event c.args.number) ps) (flat_map (move_event c.args.number) ps)
     (c.in_ok-set_up.ensures.walked ps nodes l c.args.game.now)
-    (subst (λ (es : List Event). Walked c.take_turn.result (c.set_up.new.self, c.args.game.now) es
-    (c.take_turn.new.self, c.take_turn.new.game)) (sym one) c.take_turn.ensures)
+    (subst (λ (es : List Event). Walked c.play_unless_over.result (c.set_up.new.self, c.args.game.now) es
+    (c.play_unless_over.new.self, c.play_unless_over.new.game)) (sym one) c.play_unless_over.ensures)
 
 pub returns-in-MoreMoves-clause-walked : goal.returns-in-MoreMoves-clause-walked
 returns-in-MoreMoves-clause-walked g c = λ ps nodes l.

@@ -36,15 +36,15 @@ returns-clause-shorter c =
     let here : c.after_space-here.result.now ≡ without_space c.args.self.now =
     rw c.self.view_is at c.after_space-here.ensures in
     let name = c.name_at.result.0.now in
-    let behind = c.name_at.result.1.now in
-    let letter : is_letter_first (name ++ behind) ≡ true =
+    let after = c.name_at.result.1.now in
+    let letter : is_letter_first (name ++ after) ≡ true =
     subst (λ (b : List ℕ). is_letter_first b ≡ true) c.name_at.ensures.whole (sym c.if-not-begins_letter.ensures) in
-    let some : 1 ≤ length name = name_some name behind letter c.name_at.ensures.stopped in
+    let some : 1 ≤ length name = name_some name after letter c.name_at.ensures.stopped in
     omega (
       arith,
       length-after_space c.args.self.now,
       ap length (sym here ∙ c.name_at.ensures.whole),
-      length-append name behind,
+      length-append name after,
     )
 
 pub returns-clause-onward : goal.returns-clause-onward
@@ -52,10 +52,10 @@ returns-clause-onward c =
     let here : c.after_space-here.result.now ≡ without_space c.args.self.now =
     rw c.self.view_is at c.after_space-here.ensures in
     let name = c.name_at.result.0.now in
-    let behind = c.name_at.result.1.now in
+    let after = c.name_at.result.1.now in
     omega (
       arith,
       length-after_space c.args.self.now,
       ap length (sym here ∙ c.name_at.ensures.whole),
-      length-append name behind,
+      length-append name after,
     )

@@ -7,66 +7,66 @@ use Rattle.go_sgf.proofs.main_line.MainLine.next_value.Goals as goal
 
 pub returns-in_err-inside-clause-next : goal.returns-in_err-inside-clause-next
 returns-in_err-inside-clause-next c = λ vs ps ns l.
-    let front : c.after_space-front.result.now ≡ without_space c.args.self.now =
-    rw c.self.view_is at c.after_space-front.ensures in
+    let start : c.after_space-here.result.now ≡ without_space c.args.self.now =
+    rw c.self.view_is at c.after_space-start.ensures in
     rw c.from_residual.ensures
-    (subst (λ (b : List ℕ). (vs ≡ []) × IsLeft b [] ps ns) (sym front)
+    (subst (λ (b : List ℕ). (vs ≡ []) × IsLeft b [] ps ns) (sym start)
     (value_none c.args.self.now vs ps ns l
-    (rw (c.after_space-front.ensures, c.self.view_is) at c.in_err-inside.ensures.other)))
+    (rw (c.after_space-start.ensures, c.self.view_is) at c.in_err-inside.ensures.other)))
 
 pub returns-in_err-inside-clause-none : goal.returns-in_err-inside-clause-none
-returns-in_err-inside-clause-none c = rw c.from_residual.ensures (rw c.self.view_is at c.after_space-front.ensures)
+returns-in_err-inside-clause-none c = rw c.from_residual.ensures (rw c.self.view_is at c.after_space-start.ensures)
 
 pub returns-in_err-inside-clause-onward : goal.returns-in_err-inside-clause-onward
 returns-in_err-inside-clause-onward c =
-    let front : c.after_space-front.result.now ≡ without_space c.args.self.now =
-    rw c.self.view_is at c.after_space-front.ensures in
-    omega (arith, length-after_space c.args.self.now, ap length front)
+    let start : c.after_space-here.result.now ≡ without_space c.args.self.now =
+    rw c.self.view_is at c.after_space-start.ensures in
+    omega (arith, length-after_space c.args.self.now, ap length start)
 
 pub returns-in_err-value-clause-next : goal.returns-in_err-value-clause-next
 returns-in_err-value-clause-next c = λ vs ps ns l.
-    let front : c.after_space-front.result.now ≡ without_space c.args.self.now =
-    rw c.self.view_is at c.after_space-front.ensures in
+    let start : c.after_space-here.result.now ≡ without_space c.args.self.now =
+    rw c.self.view_is at c.after_space-start.ensures in
     absurd (value_ended c.args.self.now c.in_ok-inside.inside.now vs ps ns l
-    (sym front ∙ c.in_ok-inside.ensures.stripped) c.in_err-value.ensures.no_end)
+    (sym start ∙ c.in_ok-inside.ensures.stripped) c.in_err-value.ensures.no_end)
 
 pub returns-in_err-value-clause-none : goal.returns-in_err-value-clause-none
 returns-in_err-value-clause-none c =
-    rw c.from_residual-in_err-value.ensures (rw c.self.view_is at c.after_space-front.ensures)
+    rw c.from_residual-in_err-value.ensures (rw c.self.view_is at c.after_space-start.ensures)
 
 pub returns-in_err-value-clause-onward : goal.returns-in_err-value-clause-onward
 returns-in_err-value-clause-onward c =
-    let front : c.after_space-front.result.now ≡ without_space c.args.self.now =
-    rw c.self.view_is at c.after_space-front.ensures in
-    omega (arith, length-after_space c.args.self.now, ap length front)
+    let start : c.after_space-here.result.now ≡ without_space c.args.self.now =
+    rw c.self.view_is at c.after_space-start.ensures in
+    omega (arith, length-after_space c.args.self.now, ap length start)
 
 pub returns-clause-next : goal.returns-clause-next
 returns-clause-next c = λ vs ps ns l.
-    let front : c.after_space-front.result.now ≡ without_space c.args.self.now =
-    rw c.self.view_is at c.after_space-front.ensures in
-    value_next c.args.self.now c.in_ok-inside.inside.now c.in_ok-value.value.now c.in_ok-value.behind.now vs ps ns l
-    (sym front ∙ c.in_ok-inside.ensures.stripped) c.in_ok-value.ensures.whole c.in_ok-value.ensures.inside
+    let start : c.after_space-here.result.now ≡ without_space c.args.self.now =
+    rw c.self.view_is at c.after_space-start.ensures in
+    value_next c.args.self.now c.in_ok-inside.inside.now c.in_ok-value.value.now c.in_ok-value.after.now vs ps ns l
+    (sym start ∙ c.in_ok-inside.ensures.stripped) c.in_ok-value.ensures.whole c.in_ok-value.ensures.inside
 
 pub returns-clause-shorter : goal.returns-clause-shorter
 returns-clause-shorter c =
-    let front : c.after_space-front.result.now ≡ without_space c.args.self.now =
-    rw c.self.view_is at c.after_space-front.ensures in
+    let start : c.after_space-here.result.now ≡ without_space c.args.self.now =
+    rw c.self.view_is at c.after_space-start.ensures in
     omega (
       arith,
       length-after_space c.args.self.now,
-      ap length (sym front ∙ c.in_ok-inside.ensures.stripped),
+      ap length (sym start ∙ c.in_ok-inside.ensures.stripped),
       ap length c.in_ok-value.ensures.whole,
-      length-append c.in_ok-value.value.now (93 ∷ c.in_ok-value.behind.now),
+      length-append c.in_ok-value.value.now (93 ∷ c.in_ok-value.after.now),
     )
 
 pub returns-clause-onward : goal.returns-clause-onward
 returns-clause-onward c =
-    let front : c.after_space-front.result.now ≡ without_space c.args.self.now =
-    rw c.self.view_is at c.after_space-front.ensures in
+    let start : c.after_space-here.result.now ≡ without_space c.args.self.now =
+    rw c.self.view_is at c.after_space-start.ensures in
     omega (
       arith,
       length-after_space c.args.self.now,
-      ap length (sym front ∙ c.in_ok-inside.ensures.stripped),
+      ap length (sym start ∙ c.in_ok-inside.ensures.stripped),
       ap length c.in_ok-value.ensures.whole,
-      length-append c.in_ok-value.value.now (93 ∷ c.in_ok-value.behind.now),
+      length-append c.in_ok-value.value.now (93 ∷ c.in_ok-value.after.now),
     )

@@ -1,6 +1,6 @@
 use Rattle.std.proofs.Common.{◌∙◌, ap, inl, inr, length, nat_eq, sym, Bool}
 use Rattle.goref_lines.specs.Kept.{Kept}
-use Rattle.goref_lines.proofs.Pieces.{kept_gap_behind_word, kept_gap_same}
+use Rattle.goref_lines.proofs.Pieces.{kept_gap_after_word, kept_gap_same}
 use Rattle.goref_lines.proofs.line.Line.push_gap.Goals as goal
 use Rattle.goref_lines.proofs.line.Line.push_gap.Goals.{else-not-self-via-then-not-self+else-not-is_empty, else-not-self-via-else-not-self}
 
@@ -10,7 +10,7 @@ returns-then-not-is_empty c = λ line is.
     let with_space : Bool → Kept = λ s.
     record { text = k.text.items; is_long = k.is_long; has_comment = k.has_comment; has_space = s } in
     ap with_space c.has_blank-self-inside.ensures
-    ∙ kept_gap_behind_word c.args.gap.now line (with_space k.has_space) (c.self.view_is ∙ is)
+    ∙ kept_gap_after_word c.args.gap.now line (with_space k.has_space) (c.self.view_is ∙ is)
     (ap (λ (x : Kept). x.has_comment) c.self.view_is ∙ c.requires.no_comment) c.requires.gap
     c.if-not-self.true (sym c.is_empty.ensures ∙ c.if-not-is_empty.true)
 

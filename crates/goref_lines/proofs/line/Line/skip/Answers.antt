@@ -20,7 +20,7 @@ pub returns-in-Some : goal.returns-in-Some
 returns-in-Some c = λ line is.
     let bytes = c.args.bytes.now in
     let found = one_found bytes c.in-Some.place c.in-Some.ensures in
-    let front = c.split_at.result.0.now in
+    let prefix = c.split_at.result.0.now in
     let k = c.self-in-Some.inside in
     let plain : Kept = record {
       text = k.text.items;
@@ -32,8 +32,8 @@ returns-in-Some c = λ line is.
     let none : plain.has_comment ≡ false =
     ap (λ (x : Kept). x.has_comment) c.self-in-Some.view_is ∙ c.skip_before_comment.ensures.no_comment
     ∙ ap (λ (x : Kept). x.has_comment) (sym c.self.view_is) ∙ c.if-self.false in
-    kept_from_hash (line ++ front) (drop 1 (drop c.in-Some.place bytes)) plain
+    kept_from_hash (line ++ prefix) (drop 1 (drop c.in-Some.place bytes)) plain
     (c.self-in-Some.view_is ∙ c.skip_before_comment.ensures.line line is) none
-    ∙ ap kept (append_assoc line front (35 ∷ drop 1 (drop c.in-Some.place bytes)))
+    ∙ ap kept (append_assoc line prefix (35 ∷ drop 1 (drop c.in-Some.place bytes)))
     ∙ ap (λ t. kept (line ++ (t ++ 35 ∷ drop 1 (drop c.in-Some.place bytes)))) c.split_at.ensures.front
     ∙ ap (λ t. kept (line ++ t)) (sym found.whole)

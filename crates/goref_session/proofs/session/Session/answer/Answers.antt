@@ -18,12 +18,12 @@ pub returns-then-is_long-clause-answered : goal.returns-then-is_long-clause-answ
 returns-then-is_long-clause-answered g c =
     let long = sym c.is_long.ensures ∙ c.if-is_long.true in
     answered_told c.args.self.now c.args.line.now (content_of c.args.fetched)
-    (keeps c.args.self.now (Refused LineTooLong)) c.id_of_cut.result c.tell.result _ _
+    (keeps c.args.self.now (Refused LineTooLong)) c.id_of_cut.result c.write_decision.result _ _
     (sym c.has_words.ensures ∙ c.if-not-has_words.false)
     (inl (long, refl)) (c.id_of_cut.ensures ∙ ap id_before_space c.text-text.ensures.value
     ∙ long_id c.args.line.now long)
-    (told_at c.tell.result c.id_of_cut.result (Refused LineTooLong) c.game.result.now.standing c.args.self.now _ _ _
-    c.game.ensures refl c.tell.ensures.told)
+    (told_at c.write_decision.result c.id_of_cut.result (Refused LineTooLong) c.game.result.now.standing c.args.self.now _ _ _
+    c.game.ensures refl c.write_decision.ensures.told)
 
 pub returns-in-Some-clause-answered : goal.returns-in-Some-clause-answered
 returns-in-Some-clause-answered g c =
@@ -40,7 +40,7 @@ returns-in-None-clause-answered g c =
     let asked : c.of-request.result ≡ asked_by (words c.args.line.now.text) =
     c.of-request.ensures ∙ ap (λ (text : List ℕ). asked_by (words text)) c.text-text.ensures.value in
     let loads = none_gives c.answer_command.result _ c.in-None.is c.answer_command.ensures.loads in
-    answered_told c.args.self.now c.args.line.now (content_of c.args.fetched) d c.id.result c.tell-in-None.result _ _
+    answered_told c.args.self.now c.args.line.now (content_of c.args.fetched) d c.id.result c.write_decision-in-None.result _ _
     (sym c.has_words.ensures ∙ c.if-not-has_words.false)
     (inr (
       whole,
@@ -49,5 +49,5 @@ returns-in-None-clause-answered g c =
           loads.0 loads.1 c.decide_load-decision.ensures),
     ))
     (c.id.ensures ∙ ap (λ (r : Asked). r.id) asked ∙ whole_id c.args.line.now whole)
-    (told_at c.tell-in-None.result c.id.result d.decision c.game-in-None.result.now.standing d.standing _ _ _
-    c.game-in-None.ensures (ap g.W.Sink.taken loads.2) c.tell-in-None.ensures.told)
+    (told_at c.write_decision-in-None.result c.id.result d.decision c.game-in-None.result.now.standing d.standing _ _ _
+    c.game-in-None.ensures (ap g.W.Sink.taken loads.2) c.write_decision-in-None.ensures.told)

@@ -24,12 +24,12 @@ loop-place-init c =
     let last : c.last_byte.result ≡ f full = c.last_byte.ensures ∙ ap (λ (k : ℕ). f (k / 4)) (sym all) in
     let set : bytes_of c.set.new.self ≡ slice_set bytes full (f full) = c.set.ensures
     ∙ ap (slice_set bytes full) last in
-    let front : (k : ℕ) → k < full → slice_index_or bytes k 0 ≡ f k = λ k low.
+    let prefix : (k : ℕ) → k < full → slice_index_or bytes k 0 ≡ f k = λ k low.
     largest-at n cells bytes k small (square-le n small) (omega (arith, all)) c.largest_pack.ensures in
     record {
       whole = ap length set ∙ length-set bytes full _ ∙ whole;
       done = λ k low. ap (λ (b : List ℕ). slice_index_or b k 0) set
-          ∙ fill_by_more f bytes full 0 (omega (arith, whole, c.points.ensures.range, c.from-full.ensures)) front k low;
+          ∙ fill_by_more f bytes full 0 (omega (arith, whole, c.points.ensures.range, c.from-full.ensures)) prefix k low;
     }
 
 pub loop-place-preserved : goal.loop-place-preserved

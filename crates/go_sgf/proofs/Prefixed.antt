@@ -95,23 +95,23 @@ cooking_undoes_escaping (c ∷ cs) h =
     let same : unblanked c ≡ c = eqb-true (unblanked c) c kept.1 in
     let other : (c == 13) ≡ false = not-true _ kept.0 in
     let later : cooked 10 Text (escaped cs) ≡ cs = cooking_undoes_escaping cs parts.1 in
-    let front : CookedByFront 10 = cooked_by_front 10 in
+    let prefix : CookedByFront 10 = cooked_by_front 10 in
     elim (cases_Bool (c == 92 || c == 93)) [
       | inl e ↦
           let no : is_line_break c ≡ false = grind (arith, nat_tests) in
-          rw e (front.escaped_other c (escaped cs) no ∙ ap (λ x. x ∷ cooked 10 Text (escaped cs)) same
+          rw e (prefix.escaped_other c (escaped cs) no ∙ ap (λ x. x ∷ cooked 10 Text (escaped cs)) same
           ∙ ap (λ xs. c ∷ xs) later)
       | inr e ↦ rw e (elim (cases_Bool (c == 10)) [
         | inl f ↦
             let is : c ≡ 10 = eqb-true c 10 f in
             let breaks : is_line_break c ≡ true = rw is refl in
             let ends : goes_on c (escaped cs) ≡ false = rw is (no_return cs parts.1) in
-            front.single c (escaped cs) breaks ends ∙ ap (λ x. x ∷ cooked 10 Text (escaped cs)) (sym is)
+            prefix.single c (escaped cs) breaks ends ∙ ap (λ x. x ∷ cooked 10 Text (escaped cs)) (sym is)
             ∙ ap (λ xs. c ∷ xs) later
         | inr f ↦
             let plain : (c == 92) ≡ false = (or_parts (c == 92) (c == 93) e).0 in
             let no : is_line_break c ≡ false = rw (f, other) refl in
-            front.other c (escaped cs) plain no ∙ ap (λ x. x ∷ cooked 10 Text (escaped cs)) same
+            prefix.other c (escaped cs) plain no ∙ ap (λ x. x ∷ cooked 10 Text (escaped cs)) same
             ∙ ap (λ xs. c ∷ xs) later
       ])
     ]

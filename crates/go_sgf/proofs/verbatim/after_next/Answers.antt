@@ -3,7 +3,7 @@ use Rattle.std.proofs.lemmas.Bool.{eq-eqb, true≢false}
 use Rattle.go_sgf.specs.Spelling.{is_first}
 use Rattle.go_sgf.specs.inner.Tidied.{Outside, StaysTo}
 use Rattle.go_sgf.proofs.Passed.{byte_stays, stays_on}
-use Rattle.go_sgf.proofs.verbatim.behind_next.Goals as goal
+use Rattle.go_sgf.proofs.verbatim.after_next.Goals as goal
 
 pub returns-then-now-eq0-clause-stays : goal.returns-then-now-eq0-clause-stays
 returns-then-now-eq0-clause-stays c =
@@ -11,7 +11,7 @@ returns-then-now-eq0-clause-stays c =
     let whole = c.in_ok-byte.ensures.cases.0 in
     let bracket : byte ≢ 91 = λ is.
     true≢false (sym (eq-eqb byte 91 is) ∙ sym (ap (is_first 91) whole) ∙ c.requires.outside c.if-depth-eq0.false) in
-    rw (whole, c.open_behind-now.ensures.open)
+    rw (whole, c.depth_after-now.ensures.open)
     (byte_stays c.args.depth byte c.in_ok-byte.more.now c.if-depth-eq0.false (sym c.if-is_left_out.ensures) bracket)
 
 pub returns-clause-stays : goal.returns-clause-stays
@@ -20,21 +20,21 @@ returns-clause-stays c =
     let whole = c.in_ok-byte.ensures.cases.0 in
     let bracket : byte ≢ 91 = λ is.
     true≢false (sym (eq-eqb byte 91 is) ∙ sym (ap (is_first 91) whole) ∙ c.requires.outside c.if-depth-eq0.false) in
-    let one : StaysTo Outside c.args.depth (byte ∷ c.in_ok-byte.more.now) c.open_behind-now.result
+    let one : StaysTo Outside c.args.depth (byte ∷ c.in_ok-byte.more.now) c.depth_after-now.result
     c.in_ok-byte.more.now =
-    rw c.open_behind-now.ensures.open
+    rw c.depth_after-now.ensures.open
     (byte_stays c.args.depth byte c.in_ok-byte.more.now c.if-depth-eq0.false (sym c.if-is_left_out.ensures) bracket) in
-    rw whole (stays_on one (c.behind_properties.ensures.stays c.open_behind-now.result c.if-now-eq0.false))
+    rw whole (stays_on one (c.after_properties.ensures.stays c.depth_after-now.result c.if-now-eq0.false))
 
 pub returns-clause-bound : goal.returns-clause-bound
 returns-clause-bound c =
     omega (
       arith,
-      c.open_behind-now.ensures.bound,
-      c.behind_properties.ensures.shorter,
+      c.depth_after-now.ensures.bound,
+      c.after_properties.ensures.shorter,
       ap length c.in_ok-byte.ensures.cases.0,
     )
 
 pub returns-clause-shorter : goal.returns-clause-shorter
 returns-clause-shorter c =
-    omega (arith, c.behind_properties.ensures.shorter, ap length c.in_ok-byte.ensures.cases.0)
+    omega (arith, c.after_properties.ensures.shorter, ap length c.in_ok-byte.ensures.cases.0)

@@ -1,5 +1,5 @@
 use Rattle.std.proofs.Common.{rules}
-use Rattle.goref_session.proofs.commands.record.load_on.Goals as goal
+use Rattle.goref_session.proofs.commands.record.load_into.Goals as goal
 
 pub returns-in-Ok : goal.returns-in-Ok
 returns-in-Ok g c = search rules

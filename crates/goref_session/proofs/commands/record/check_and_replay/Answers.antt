@@ -1,7 +1,7 @@
 use Rattle.std.proofs.Common.{inr, rules}
 use Rattle.std.proofs.lemmas.Result.{err_from_is_err_and}
 use Rattle.goref_session.proofs.Loads.{other_refusal}
-use Rattle.goref_session.proofs.commands.record.replay_on.Goals as goal
+use Rattle.goref_session.proofs.commands.record.check_and_replay.Goals as goal
 
 pub returns-in_err-replay_source_on-clause-cannot : goal.returns-in_err-replay_source_on-clause-cannot
 returns-in_err-replay_source_on-clause-cannot g c = λ h.

@@ -117,16 +117,16 @@ ends_some b e =
     push_some (without_space b) 41 is
 
 -- a tree's `)` behind its nodes and its children, and what follows it
-pub tree_closed : (nodes : List (List Property)) (children : Trees) (ps : List Part) (inner behind r : List ℕ) →
-    SpellsParts inner (flat_map node_parts nodes ++ parts children) [] → SpellsParts behind ps r →
-    SpellsParts (inner ++ (41 ∷ behind)) (flat_map node_parts nodes ++ (parts children ++ (closing ∷ ps))) r
-tree_closed nodes children ps inner behind r s later =
-    let b : List ℕ = inner ++ (41 ∷ behind) in
+pub tree_closed : (nodes : List (List Property)) (children : Trees) (ps : List Part) (inner after r : List ℕ) →
+    SpellsParts inner (flat_map node_parts nodes ++ parts children) [] → SpellsParts after ps r →
+    SpellsParts (inner ++ (41 ∷ after)) (flat_map node_parts nodes ++ (parts children ++ (closing ∷ ps))) r
+tree_closed nodes children ps inner after r s later =
+    let b : List ℕ = inner ++ (41 ∷ after) in
     let own : List Part = flat_map node_parts nodes ++ parts children in
-    let longer : SpellsParts b own (41 ∷ behind) = SpellsParts-longer own inner [] (41 ∷ behind) refl s in
+    let longer : SpellsParts b own (41 ∷ after) = SpellsParts-longer own inner [] (41 ∷ after) refl s in
     let P : List Part → Type 0 = λ qs. SpellsParts b qs r in
     subst P (append_assoc (flat_map node_parts nodes) (parts children) (closing ∷ ps))
-    (SpellsParts-append own (closing ∷ ps) b (41 ∷ behind) r longer (behind, refl, later))
+    (SpellsParts-append own (closing ∷ ps) b (41 ∷ after) r longer (after, refl, later))
 
 inner_outcome : (nodes : List (List Property)) (children : Trees) (inner : List ℕ) →
     AreTrees (tree nodes children none) →
@@ -148,11 +148,11 @@ ends_there inner i = elim (cases_lt (length inner) i.at) [
       absurd (ends_some (drop i.at inner) (sym (ap without_space rest) ∙ i.left))
 ]
 
-fronts : (b : List ℕ) (i : WholeIs opened 1 b []) → i.at ≡ length b → (k : ℕ) → 0 < k →
+prefixes : (b : List ℕ) (i : WholeIs opened 1 b []) → i.at ≡ length b → (k : ℕ) → 0 < k →
     (k < length (40 ∷ b) → IsUnfinished (stands (take k (40 ∷ b))))
     × (length (40 ∷ b) ≤ k → IsWhole (stands (take k (40 ∷ b))))
-fronts b i e zero some = absurd (omega arith)
-fronts b i e (suc k) some = (
+prefixes b i e zero some = absurd (omega arith)
+prefixes b i e (suc k) some = (
   λ less. i.before k (omega arith),
   λ all.
       let P : List ℕ → Type 0 = λ xs. IsWhole (run opened 1 xs) in
@@ -168,4 +168,4 @@ fronts_stand t nodes children fit s k some =
     (inner_outcome nodes children s.0 fit s.2) in
     let P : List ℕ → Type 0 = λ xs. (k < length xs → IsUnfinished (stands (take k xs)))
     × (length xs ≤ k → IsWhole (stands (take k xs))) in
-    subst P (sym s.1) (fronts b i (ends_there s.0 i) k some)
+    subst P (sym s.1) (prefixes b i (ends_there s.0 i) k some)

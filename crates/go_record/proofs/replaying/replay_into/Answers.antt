@@ -1,4 +1,4 @@
-use Rattle.go_record.proofs.replaying.bring.Goals as goal
+use Rattle.go_record.proofs.replaying.replay_into.Goals as goal
 
 pub returns-clause-ok : goal.returns-clause-ok
 returns-clause-ok g c =
