@@ -1,5 +1,6 @@
 pub mod Writes
 pub mod Searches
+pub mod KindNames
 pub mod Walking
 pub mod Lines
 pub mod LineSteps

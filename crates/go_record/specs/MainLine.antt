@@ -1,11 +1,9 @@
 -- The events of a record's main line, in the order in which they are judged.
-use Rattle.std.specs.Prelude.{ℕ, zero, suc, ◌+◌, ◌-◌, if◌then◌else◌, Bool, List, [], ◌∷◌, ◌++◌, Option, Some, None, bytes_eq, codes}
+use Rattle.std.specs.Prelude.{ℕ, zero, suc, ◌+◌, ◌-◌, if◌then◌else◌, Bool, List, [], ◌∷◌, ◌++◌, Option, Some, None, bytes_eq, codes, option_map, option_to_list}
 use Rattle.std.specs.List.{flat_map}
 use Rattle.go_board.specs.declared.colour.Colour.{Colour}
 use Rattle.go_board.specs.declared.colour.Colour.TheVariants.{Black, White}
 use Rattle.go_sgf.specs.Record.{Property, plain_property}
-use Rattle.go_record.specs.declared.kind.Kind.{Kind}
-use Rattle.go_record.specs.declared.kind.Kind.TheVariants.{Stones, Turn, Move, Other}
 
 -- lower-case letters of a name don't count
 abbrev pub is_named : List ℕ → Property → Bool
@@ -15,15 +13,17 @@ abbrev pub leading_value : List (List ℕ) → List ℕ
 leading_value [] = []
 leading_value (v ∷ vs) = v
 
--- what a property is for
-abbrev pub kind_by : Property → Kind
-kind_by p =
-    if is_named (codes "B") p then Move Black else
-    (if is_named (codes "W") p then Move White else
-    (if is_named (codes "AB") p then Stones (Some Black) else
-    (if is_named (codes "AW") p then Stones (Some White) else
-    (if is_named (codes "AE") p then Stones None else
-    (if is_named (codes "PL") p then Turn else Other)))))
+-- by their names: the properties whose points get a colour, where None empties them, and those that are moves
+abbrev pub setup_colours : List (List ℕ × Option Colour)
+setup_colours = (codes "AB", Some Black) ∷ (codes "AW", Some White) ∷ (codes "AE", None) ∷ []
+
+abbrev pub move_colours : List (List ℕ × Colour)
+move_colours = (codes "B", Black) ∷ (codes "W", White) ∷ []
+
+-- what a table has beside the name of a property
+abbrev pub beside_name : {X : Type 0} → List (List ℕ × X) → Property → Option X
+beside_name [] p = None
+beside_name (row ∷ rows) p = if is_named row.0 p then Some row.1 else beside_name rows p
 
 -- What is met, with the number of its node from 0: points that get a colour or are emptied, the
 -- colour to move, and a move.
@@ -32,23 +32,16 @@ pub data Event : Type 0 where
   turn : ℕ → List ℕ → Event
   move_met : ℕ → Colour → List ℕ → Event
 
-abbrev pub setup_by : ℕ → Kind → List (List ℕ) → List Event
-setup_by node (Stones colour) values = stones node colour values ∷ []
-setup_by node Turn values = turn node (leading_value values) ∷ []
-setup_by node (Move colour) values = []
-setup_by node Other values = []
-
-abbrev pub move_by : ℕ → Kind → List (List ℕ) → List Event
-move_by node (Move colour) values = move_met node colour (leading_value values) ∷ []
-move_by node (Stones colour) values = []
-move_by node Turn values = []
-move_by node Other values = []
+abbrev pub turn_event : ℕ → Property → List Event
+turn_event node p = if is_named (codes "PL") p then turn node (leading_value p.values) ∷ [] else []
 
 abbrev pub setup_event : ℕ → Property → List Event
-setup_event node p = setup_by node (kind_by p) p.values
+setup_event node p =
+    option_to_list (option_map (λ c. stones node c p.values) (beside_name setup_colours p)) ++ turn_event node p
 
 abbrev pub move_event : ℕ → Property → List Event
-move_event node p = move_by node (kind_by p) p.values
+move_event node p =
+    option_to_list (option_map (λ c. move_met node c (leading_value p.values)) (beside_name move_colours p))
 
 -- in each node set-up comes before moves
 abbrev pub events_of : ℕ → List Property → List Event

@@ -1,6 +1,6 @@
 ghost use Rattle.std.specs.Prelude.{◌≡◌};
 ghost use Rattle.go_sgf.specs.Record.{Property};
-ghost use Rattle.go_record.specs.MainLine.{kind_by};
+ghost use Rattle.go_record.specs.inner.Kinds.{IsOfKind};
 
 use go_board::Colour;
 use go_sgf::is_named;
@@ -20,7 +20,7 @@ pub(crate) enum Kind {
 
 /// What a property with this name is for.
 pub(crate) fn kind_of(name: &[u8]) -> Kind
-    ensures { (p : Property) → name.now ≡ p.name → result ≡ kind_by p }
+    ensures { (p : Property) → name.now ≡ p.name → IsOfKind p result }
 {
     if is_named(name, b"B") {
         Kind::Move(Colour::Black)

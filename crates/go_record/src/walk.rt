@@ -3,7 +3,8 @@
 ghost use Rattle.std.specs.Prelude.{◌≡◌, ◌≢◌, ◌≤◌, ◌+◌, ◌++◌, ℕ, [], ◌∷◌, Err, IfErr, IfOk, List, Ok, OnOk, Some, false, length, true};
 ghost use Rattle.go_record.specs.declared.error.RecordError.{RecordError};
 ghost use Rattle.go_record.specs.declared.error.RecordError.TheVariants.{Memory};
-ghost use Rattle.go_record.specs.MainLine.{events_of, Event, kind_by, move_met, move_event, setup_event, stones, turn};
+ghost use Rattle.go_record.specs.MainLine.{events_of, Event, move_met, move_event, setup_event, stones, turn};
+ghost use Rattle.go_record.specs.inner.Kinds.{move_by, setup_by};
 ghost use Rattle.go_record.specs.inner.Progress.{AreMoves, Goes, GoesFrom, IsAmongValues, Walked, is_nothing, playing};
 ghost use Rattle.go_game.specs.Standings.{GameValue};
 ghost use Rattle.go_board.specs.Living.{AreAlive};
@@ -79,13 +80,14 @@ impl Walk {
         node: usize,
         moves: &mut MovesMet<'a>,
     ) -> Result<(), RecordError>
-        ensures walked { (p : Property) (later : List Property) (nodes : List (List Property))
-            → kind ≡ kind_by p → IsLeft line.old p.values later nodes → (game : GameValue)
-            → Walked result (self.old, game) (setup_event node p) (self.new, game) }
-        ensures moves { (p : Property) (later : List Property) (nodes : List (List Property))
-            → kind ≡ kind_by p → IsLeft line.old p.values later nodes → (before : List Event)
-            → AreMoves node moves.old before
-            → AreMoves node moves.new (before ++ move_event node p) }
+        ensures walked { (values : List (List ℕ)) (later : List Property)
+            (nodes : List (List Property)) → IsLeft line.old values later nodes
+            → (game : GameValue)
+            → Walked result (self.old, game) (setup_by node kind values) (self.new, game) }
+        ensures moves { (values : List (List ℕ)) (later : List Property)
+            (nodes : List (List Property)) → IsLeft line.old values later nodes
+            → (before : List Event) → AreMoves node moves.old before
+            → AreMoves node moves.new (before ++ move_by node kind values) }
         ensures line { (later : List Property) (nodes : List (List Property))
             → IsAmongValues line.old later nodes → IsAmongValues line.new later nodes }
         ensures onward { length line.new ≤ length line.old }
@@ -127,9 +129,10 @@ impl Walk {
         line: &mut MainLine<'_>,
         node: usize,
     ) -> Result<(), RecordError>
-        ensures walked { (p : Property) (later : List Property) (nodes : List (List Property))
-            → kind ≡ kind_by p → IsLeft line.old p.values later nodes
-            → Walked result (self.old, game.old) (move_event node p) (self.new, game.new) }
+        ensures walked { (values : List (List ℕ)) (later : List Property)
+            (nodes : List (List Property)) → IsLeft line.old values later nodes
+            → Walked result (self.old, game.old) (move_by node kind values)
+            (self.new, game.new) }
         ensures line { (later : List Property) (nodes : List (List Property))
             → IsAmongValues line.old later nodes → IsAmongValues line.new later nodes }
         ensures onward { length line.new ≤ length line.old }

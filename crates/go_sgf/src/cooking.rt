@@ -1,8 +1,8 @@
 //! Values read as Text and as SimpleText, and a text written as a value. A value is read byte by byte: `Mode`
 //! keeps what the bytes before left open.
 ghost use Rattle.std.specs.Prelude.{◌≡◌, ◌++◌, IfOk, OnOk, option_to_list};
-ghost use Rattle.go_sgf.specs.Cooked.{cooked, cooked_simple, cooked_text, escaped, escaped_byte, is_line_break, cooked_alone, cooked_next, unblanked};
-ghost use Rattle.go_sgf.specs.declared.cooking.Mode.TheVariants.{Text};
+ghost use Rattle.go_sgf.specs.Cooked.{cooked, cooked_simple, cooked_text, escaped, escaped_byte, is_line_break, unblanked};
+ghost use Rattle.go_sgf.specs.inner.Cooking.{cooked_alone, cooked_next};
 
 use std::alloc::{AllocError, Allocator};
 
@@ -57,7 +57,7 @@ fn cook<A: Allocator + Copy>(
     value: &[u8],
     line_break: u8,
 ) -> Result<Vec<u8, A>, AllocError>
-    ensures { IfOk result (λ text. text.items ≡ cooked line_break Text value.now) }
+    ensures { IfOk result (λ text. text.items ≡ cooked line_break value.now) }
 {
     let mut text = Vec::with_capacity(alloc, value.len())?;
     let mut mode = Mode::Text;

@@ -25,7 +25,9 @@ returns-in_err-visit_move g c = λ properties nodes l.
     (c.visit_move.new.self, c.visit_move.new.game) _ (p.1 ∙ ap Err p.2)
     (subst (λ (es : List Event). Stops (c.args.self.now, c.args.game.now) es e)
     (one_on f i.2 i.0 next.0 next.1 next.2 ∙ i.3)
-    (stops_longer (passes_stops i.4 (c.in_err-visit_move.ensures.walked next.0 next.1 nodes kind_is next.4))
+    (stops_longer (passes_stops i.4
+    (subst (λ (es : List Event). Stops (c.loop-name.self, c.loop-name.game) es e) (sym (kind_is.moves c.args.node))
+    (c.in_err-visit_move.ensures.walked next.0.values next.1 nodes next.4)))
     (flat_map f next.1)))
 
 pub loop-name-preserved : goal.loop-name-preserved
@@ -38,7 +40,9 @@ loop-name-preserved g c = λ properties nodes l.
       c.visit_move.ensures.line next.1 nodes (next.0.values, next.4),
       i.2 ++ f next.0,
       one_on f i.2 i.0 next.0 next.1 next.2 ∙ i.3,
-      passes_passes i.4 (c.in_ok-visit_move.ensures.walked next.0 next.1 nodes kind_is next.4),
+      passes_passes i.4
+          (subst (λ (es : List Event). Passes (c.loop-name.self, c.loop-name.game) es (c.visit_move.new.self, c.visit_move.new.game))
+          (sym (kind_is.moves c.args.node)) (c.in_ok-visit_move.ensures.walked next.0.values next.1 nodes next.4)),
     )
 
 pub loop-name-smaller : goal.loop-name-smaller

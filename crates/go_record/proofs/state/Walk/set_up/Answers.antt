@@ -36,7 +36,8 @@ returns-in_err-visit_setup-clause-walked c = λ properties nodes l game.
     (subst (λ (es : List Event). Stops (c.args.self.now, game) es e)
     (one_on f i.2 i.0 next.0 next.1 next.2 ∙ i.3)
     (stops_longer (passes_stops (i.4 game)
-    (c.in_err-visit_setup.ensures.walked next.0 next.1 nodes kind_is next.4 game))
+    (subst (λ (es : List Event). Stops (c.loop-name.self, game) es e) (sym (kind_is.setup c.args.node))
+    (c.in_err-visit_setup.ensures.walked next.0.values next.1 nodes next.4 game)))
     (flat_map f next.1)))
 
 pub loop-name-preserved : goal.loop-name-preserved
@@ -51,10 +52,13 @@ loop-name-preserved c = record {
         c.visit_setup.ensures.line next.1 nodes (next.0.values, next.4),
         i.2 ++ f next.0,
         one_on f i.2 i.0 next.0 next.1 next.2 ∙ i.3,
-        λ game. passes_passes (i.4 game) (c.in_ok-visit_setup.ensures.walked next.0 next.1 nodes kind_is next.4 game),
+        λ game. passes_passes (i.4 game)
+            (subst (λ (es : List Event). Passes (c.loop-name.self, game) es (c.visit_setup.new.self, game))
+            (sym (kind_is.setup c.args.node)) (c.in_ok-visit_setup.ensures.walked next.0.values next.1 nodes next.4 game)),
         i.5 ++ move_event c.args.node next.0,
         one_on (move_event c.args.node) i.5 i.0 next.0 next.1 next.2 ∙ i.6,
-        c.visit_setup.ensures.moves next.0 next.1 nodes kind_is next.4 i.5 i.7,
+        subst (λ (es : List Event). AreMoves c.args.node c.visit_setup.new.moves (i.5 ++ es))
+            (sym (kind_is.moves c.args.node)) (c.visit_setup.ensures.moves next.0.values next.1 nodes next.4 i.5 i.7),
       );
 }
 
