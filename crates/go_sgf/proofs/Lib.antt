@@ -18,5 +18,6 @@ pub mod LineWalks
 pub mod Prefixes
 pub mod Walking
 pub mod Prefixed
+pub mod KomiWords
 pub mod Rectangles
 pub mod Listing

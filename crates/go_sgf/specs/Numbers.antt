@@ -1,5 +1,5 @@
 -- Values that are numbers: a whole number, and a komi in hundredths.
-use Rattle.std.specs.Prelude.{ℕ, ℤ, pos, ◌-ℤ◌, ◌==◌, ◌&&◌, ◌||◌, not, nat_le, Bool, false, if◌then◌else◌, List, [], ◌∷◌, ◌++◌, Option, Some, None, codes, drop, length, option_map, position, reverse, take, unwrap_or}
+use Rattle.std.specs.Prelude.{◌≡◌, ◌≤◌, ◌↔◌, ◌⊎◌, ℕ, ℤ, pos, ◌-ℤ◌, ◌==◌, ◌&&◌, ◌||◌, not, nat_le, Bool, true, false, if◌then◌else◌, List, [], ◌∷◌, ◌++◌, Option, Some, None, codes, drop, length, option_map, position, reverse, take, unwrap_or}
 use Rattle.std.specs.Char.{is_ascii_digit}
 use Rattle.std.specs.List.{list_all}
 use Rattle.go_sgf.specs.Spelling.{without_space}
@@ -22,6 +22,43 @@ after_plus (c ∷ cs) = if c == 43 then cs else c ∷ cs
 abbrev pub number_in : List ℕ → Option ℕ
 number_in v = int_of (after_plus (trimmed v))
 
+-- a sign, if there is one, and whether it is a minus sign
+abbrev pub IsSign : List ℕ → Bool → Type 0
+IsSign sign true = sign ≡ codes "-"
+IsSign sign false = (sign ≡ []) ⊎ (sign ≡ codes "+")
+
+-- a point and the decimals after it, if there is one
+abbrev pub IsTail : List ℕ → List ℕ → Type 0
+IsTail tail decimals = ((tail ≡ []) × (decimals ≡ [])) ⊎ (tail ≡ 46 ∷ decimals)
+
+-- digits, at least one in all, and none but 0 after the second decimal
+abbrev pub is_decimal : List ℕ → List ℕ → Bool
+is_decimal whole decimals =
+    ((list_all is_ascii_digit whole && list_all is_ascii_digit decimals)
+    && (not (is_empty whole) || not (is_empty decimals)))
+    && list_all (λ c. c == 48) (drop 2 decimals)
+
+-- the digits with two decimals
+abbrev pub hundredths_in : List ℕ → List ℕ → ℕ
+hundredths_in whole decimals = digits_value (whole ++ take 2 (decimals ++ codes "00"))
+
+abbrev pub with_sign : Bool → ℕ → ℤ
+with_sign minus size = if minus then pos 0 -ℤ pos size else pos size
+
+-- The word of a komi: a sign or none, digits, and decimals after a point. The komi is counted in hundredths.
+pub record SpellsKomi (word : List ℕ) (k : ℤ) : Type 0 where
+  pub minus : Bool
+  pub sign : List ℕ
+  pub whole : List ℕ
+  pub tail : List ℕ
+  pub decimals : List ℕ
+  pub text : word ≡ sign ++ (whole ++ tail)
+  pub signed : IsSign sign minus
+  pub tailed : IsTail tail decimals
+  pub digits : is_decimal whole decimals ≡ true
+  pub few : hundredths_in whole decimals ≤ MAX_KOMI
+  pub value : k ≡ with_sign minus (hundredths_in whole decimals)
+
 -- a number begins with a minus sign
 abbrev pub has_minus : List ℕ → Bool
 has_minus [] = false
@@ -43,17 +80,6 @@ whole_part number = take (point_place number) number
 abbrev pub decimals_in : List ℕ → List ℕ
 decimals_in number = drop 1 (drop (point_place number) number)
 
--- digits, at least one in all, and none but 0 after the second decimal
-abbrev pub is_decimal : List ℕ → List ℕ → Bool
-is_decimal whole decimals =
-    ((list_all is_ascii_digit whole && list_all is_ascii_digit decimals)
-    && (not (is_empty whole) || not (is_empty decimals)))
-    && list_all (λ c. c == 48) (drop 2 decimals)
-
--- the digits with two decimals
-abbrev pub hundredths_in : List ℕ → List ℕ → ℕ
-hundredths_in whole decimals = digits_value (whole ++ take 2 (decimals ++ codes "00"))
-
 abbrev pub size_by : List ℕ → List ℕ → Option ℕ
 size_by whole decimals =
     if is_decimal whole decimals && nat_le (hundredths_in whole decimals) MAX_KOMI
@@ -63,12 +89,13 @@ size_by whole decimals =
 abbrev pub size_of_number : List ℕ → Option ℕ
 size_of_number number = size_by (whole_part number) (decimals_in number)
 
-abbrev pub with_sign : Bool → ℕ → ℤ
-with_sign minus size = if minus then pos 0 -ℤ pos size else pos size
-
--- the komi that a word spells, in hundredths: an optional sign, digits, and an optional point among or after them
+-- the komi that a word spells
 abbrev pub komi_of : List ℕ → Option ℤ
 komi_of word = option_map (with_sign (has_minus word)) (size_of_number (after_sign word))
 
 abbrev pub hundredths_by : List ℕ → Option ℤ
 hundredths_by v = komi_of (trimmed v)
+
+-- a word's komi is the one that it spells
+abbrev pub KomiIsSpelled : Type 0
+KomiIsSpelled = (word : List ℕ) (k : ℤ) → (komi_of word ≡ Some k) ↔ SpellsKomi word k

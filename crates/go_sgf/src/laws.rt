@@ -4,6 +4,7 @@ ghost use Rattle.std.specs.Prelude.{◌≡◌, ℕ};
 ghost use Rattle.go_sgf.specs.Cooked.{CookedByFront, CookingUndoesEscaping};
 ghost use Rattle.go_sgf.specs.GameTrees.{RefusedAlike, SpelledAreWalked};
 ghost use Rattle.go_sgf.specs.Laws.{CanonicalSpellsPlain, FrontsStand, OneRecord, SpelledIsFit, SpelledIsRead};
+ghost use Rattle.go_sgf.specs.Numbers.{KomiIsSpelled};
 ghost use Rattle.go_sgf.specs.declared.limits.TheConstants.{MAX_DEPTH, MAX_RECORD};
 
 /// The most bytes and the deepest nesting of a record.
@@ -59,4 +60,9 @@ pub fn cooked_by_front()
 /// Cooking an escaped text as Text gives the text, where it has no CR, HT, VT and FF.
 pub fn cooking_undoes_escaping()
     ensures { CookingUndoesEscaping }
+{}
+
+/// A word is read as the komi that it spells: a sign or none, digits, and decimals after a point.
+pub fn komi_is_spelled()
+    ensures { KomiIsSpelled }
 {}

@@ -10,6 +10,7 @@ fn call_those_of_records() {
     go_sgf::laws::refused_alike();
     go_sgf::laws::cooked_by_front();
     go_sgf::laws::cooking_undoes_escaping();
+    go_sgf::laws::komi_is_spelled();
     goref_tools::laws::tidy_is_tidy();
 }
 
