@@ -29,8 +29,8 @@ pub trait Source {
     /// How often it found the end of the input.
     ghost ends: { Self → ℕ };
 
-    /// Reads into the buffer, and returns the number of bytes read. 0, if the buffer has room, is the end of
-    /// the input.
+    /// Reads into the buffer, and returns the number of bytes read. If the buffer isn't
+    /// empty, 0 means the end of the input.
     fn pull(&mut self, buffer: &mut [u8]) -> Result<usize, Failed>
         ensures within { IfOk result (λ n. n ≤ length buffer.new) }
         ensures bytes { IfOk result
@@ -48,10 +48,11 @@ pub trait Sink {
     /// The bytes that it took so far, if the device knows them.
     ghost taken: { Self → Option (List ℕ) };
 
-    /// How often a call failed. A put of some bytes that takes none is a failure too.
+    /// How often a call failed. If `put` gets bytes and takes none of them, that counts
+    /// as a failure.
     ghost failures: { Self → ℕ };
 
-    /// How many of the bytes that it took it still holds.
+    /// The number of bytes that the device took and hasn't passed on.
     ghost held: { Self → ℕ };
 
     /// Takes a prefix of a slice, and returns the prefix's length.

@@ -1,5 +1,5 @@
-//! A counter that contracts read and that takes no memory when the program runs. Code for meters of any kind
-//! can't make one: it counts with the meter that it gets.
+//! A counter that contracts read and that takes no memory when the program runs. Only an open meter can be
+//! made. Code that is generic over the kind counts with the meter that it is given.
 ghost use Rattle.std.specs.Prelude.{◌≡◌, ◌+◌, ℕ};
 
 use std::marker::{Model, PhantomData};

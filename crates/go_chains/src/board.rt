@@ -24,8 +24,8 @@ use go_board::{Area, Colour, Grid, Meter, Open, Point, Size};
 use std::marker::Model;
 
 /// A board that keeps its chains and their liberties, changed in place by each play. The methods for boards
-/// of every kind `K` (play, rewind, and the questions about one point) can't make a meter, and can't call a
-/// method that doesn't count. So the meter that they get counts all their reads and writes.
+/// of every kind `K` (`play`, `rewind`, `is_quiet`, `liberties_with`) get their meter from the caller, and
+/// can't make one. So that meter counts all that they read and write.
 #[derive(Drop)]
 pub struct Board<K = Open> {
     size: Size,

@@ -13,31 +13,31 @@ use crate::masks::has_liberty_but;
 use go_board::{Meter, Size};
 use std::alloc::Allocator;
 
-/// Captures the chain on a point, if it has the colour `taken` and no liberty, and returns the number of its
-/// stones. Its points become liberties of chains of the colour `rest`.
+/// Captures the chain on a point, if it has the colour `captured` and no liberty, and returns the number of its
+/// stones. Its points become liberties of chains of the colour `others`. Both are codes of colours.
 pub fn capture_if_dead<K, A: Allocator + Copy>(
     cells: &mut Cells<K>,
     changes: &mut Vec<LoggedChange, A>,
     meter: &mut Meter<K>,
     size: Size,
     near: usize,
-    taken: u64,
-    rest: u64,
+    captured: u64,
+    others: u64,
 ) -> usize
     requires tidy { AreTidy size cells.old }
     requires whole { AreWhole size cells.old }
     requires near { near < size * size }
-    requires colours { AreColours size cells.old taken rest }
+    requires colours { AreColours size cells.old captured others }
     requires room { vec_len changes.old + 5 * MAX_POINTS ≤ vec_capacity changes.old }
-    ensures capturing { CapturesMore size cells.old cells.new taken }
-    ensures gone { TakesDead size cells.old cells.new taken near }
-    ensures stones { TakesStones size cells.old cells.new taken result }
+    ensures capturing { CapturesMore size cells.old cells.new captured }
+    ensures gone { TakesDead size cells.old cells.new captured near }
+    ensures stones { TakesStones size cells.old cells.new captured result }
     ensures few { result ≤ MAX_POINTS }
     ensures bound { result ≤ chain_size cells.old.numbers near }
     ensures edited { Edited cells.old cells.new changes.old changes.new meter.old meter.new
         (5 * result) (WORDS + 5 + 18 * result) }
 {
-    if cells.get(near, meter) != taken {
+    if cells.get(near, meter) != captured {
         return 0;
     }
     let label = cells.get(LABELS + near, meter) as usize;
@@ -45,10 +45,10 @@ pub fn capture_if_dead<K, A: Allocator + Copy>(
     if has_liberty_but(cells, meter, size, label, near) {
         return 0;
     }
-    take_off(cells, changes, meter, size, near, taken, rest)
+    take_off(cells, changes, meter, size, near, captured, others)
 }
 
-/// Captures the chains of the colour `taken` on these points that have no liberty, and returns the number of
+/// Captures the chains of the colour `captured` on these points that have no liberty, and returns the number of
 /// their stones.
 pub fn capture_beside<K, A: Allocator + Copy>(
     cells: &mut Cells<K>,
@@ -56,26 +56,26 @@ pub fn capture_beside<K, A: Allocator + Copy>(
     meter: &mut Meter<K>,
     size: Size,
     beside: &[usize],
-    taken: u64,
-    rest: u64,
+    captured: u64,
+    others: u64,
 ) -> usize
     requires tidy { AreTidy size cells.old }
     requires whole { AreWhole size cells.old }
     requires few { length beside.now ≤ 4 }
     requires on { (i : ℕ) → i < length beside.now → slice_index beside.now i < size * size }
-    requires colours { AreColours size cells.old taken rest }
+    requires colours { AreColours size cells.old captured others }
     requires room { vec_len changes.old + 20 * MAX_POINTS ≤ vec_capacity changes.old }
-    ensures capturing { Captures size cells.old cells.new taken }
+    ensures capturing { Captures size cells.old cells.new captured }
     ensures gone { (i : ℕ) → i < length beside.now
-        → TakesDead size cells.old cells.new taken (slice_index beside.now i) }
-    ensures stones { TakesStones size cells.old cells.new taken result }
+        → TakesDead size cells.old cells.new captured (slice_index beside.now i) }
+    ensures stones { TakesStones size cells.old cells.new captured result }
     ensures few { result ≤ 4 * MAX_POINTS }
     ensures edited { Edited cells.old cells.new changes.old changes.new meter.old meter.new
         (5 * result) (4 * (WORDS + 5) + 18 * result) }
 {
     let mut stones = 0;
     for near in beside {
-        stones += capture_if_dead(cells, changes, meter, size, *near, taken, rest);
+        stones += capture_if_dead(cells, changes, meter, size, *near, captured, others);
     }
     stones
 }

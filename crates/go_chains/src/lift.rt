@@ -79,28 +79,28 @@ fn give_back<K, A: Allocator + Copy>(
     }
 }
 
-/// Takes one stone of the colour `taken` off, and makes its point a liberty of the stones of the colour
-/// `rest` beside it.
+/// Takes one stone of the colour `captured` off, and makes its point a liberty of the stones of the colour
+/// `others` beside it.
 fn lift<K, A: Allocator + Copy>(
     cells: &mut Cells<K>,
     changes: &mut Vec<LoggedChange, A>,
     meter: &mut Meter<K>,
     size: Size,
     point: usize,
-    taken: u64,
-    rest: u64,
+    captured: u64,
+    others: u64,
 )
     requires point { point < size * size }
-    requires taken { code_at cells.old.numbers point ≡ taken }
-    requires labels { (s : ℕ) → s < size * size → FitsWith cells.old rest s }
+    requires taken { code_at cells.old.numbers point ≡ captured }
+    requires labels { (s : ℕ) → s < size * size → FitsWith cells.old others s }
     requires room { vec_len changes.old + 5 ≤ vec_capacity changes.old }
-    ensures lifted { IsLifted size cells.old.numbers cells.new.numbers point rest }
+    ensures lifted { IsLifted size cells.old.numbers cells.new.numbers point others }
     ensures edited { Edited cells.old cells.new changes.old changes.new meter.old meter.new 5 17 }
 {
-    replace(cells, changes, meter, point, taken, 0);
+    replace(cells, changes, meter, point, captured, 0);
     let mut beside = ArrayVec::new();
     put_beside(size, Point::numbered(size, point as u16), &mut beside);
-    give_back(cells, changes, meter, beside.as_slice(), point, rest);
+    give_back(cells, changes, meter, beside.as_slice(), point, others);
 }
 
 /// Takes the chain of a stone off, and gives the number of its stones.
@@ -110,16 +110,16 @@ pub fn take_off<K, A: Allocator + Copy>(
     meter: &mut Meter<K>,
     size: Size,
     stone: usize,
-    taken: u64,
-    rest: u64,
+    captured: u64,
+    others: u64,
 ) -> usize
     requires tidy { AreTidy size cells.old }
     requires whole { AreWhole size cells.old }
     requires stone { HasStone size cells.old stone }
-    requires taken { code_at cells.old.numbers stone ≡ taken }
-    requires rest { 0 < rest }
-    requires apart { taken ≢ rest }
-    requires two { HasTwoColours size cells.old taken rest }
+    requires taken { code_at cells.old.numbers stone ≡ captured }
+    requires rest { 0 < others }
+    requires apart { captured ≢ others }
+    requires two { HasTwoColours size cells.old captured others }
     requires room { vec_len changes.old + 5 * MAX_POINTS ≤ vec_capacity changes.old }
     ensures removed { Removes size cells.old cells.new stone }
     ensures stones { result ≡ chain_size cells.old.numbers stone }
@@ -131,7 +131,7 @@ pub fn take_off<K, A: Allocator + Copy>(
     let mut at = stone;
     for _ in 0..stones {
         let next = cells.get(LINKS + at, meter) as usize;
-        lift(cells, changes, meter, size, at, taken, rest);
+        lift(cells, changes, meter, size, at, captured, others);
         at = next;
     }
     stones

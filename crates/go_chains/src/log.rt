@@ -89,9 +89,9 @@ fn put_back_changes<K, A: Allocator + Copy>(
     }
 }
 
-/// Makes room for one more play, of at most `most` changes. When a list grows, an allocator may copy its
-/// whole capacity, of which a game's first play used very little. So the second play gets a new list with
-/// room for two plays, and only the changes in use are copied.
+/// Makes room for one more play, of at most `most` changes. The first play reserves `most`, and uses little of
+/// it. If that list grew, the allocator might copy all of it. So for the second play the changes in use are
+/// copied to a new list, which has room for two plays.
 pub(crate) fn reserve_play<A: Allocator + Copy>(
     changes: &mut Vec<LoggedChange, A>,
     lengths: &mut Vec<usize, A>,

@@ -1,5 +1,5 @@
-//! A play over the cells: the stone is placed and joined, the opponent's chains are captured, and then
-//! its own chain is, if it has no liberty.
+//! A play over the cells: the stone is placed and joined. The opponent's chains without a liberty are captured.
+//! If the stone's own chain still has none, it is captured too.
 ghost use Rattle.std.specs.Prelude.{◌≡◌, ◌<◌, ◌≤◌, ◌+◌, ◌-◌, ◌*◌, vec_capacity, vec_len};
 ghost use Rattle.go_board.specs.Colours.{other};
 ghost use Rattle.go_board.specs.Reaching.{moved};

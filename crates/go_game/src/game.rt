@@ -28,7 +28,7 @@ pub struct Game<A: Allocator + Copy> {
     /// The board after the last move, and the log of its plays.
     pub(crate) board: Board,
     pub(crate) log: Log<A>,
-    /// How often the tables were read and written.
+    /// What plays, undos and tests of quiet plays read and wrote in the tables. Other questions aren't counted.
     pub(crate) meter: Meter,
     /// The moves, each with what it took.
     pub(crate) steps: Vec<Step, A>,
@@ -36,8 +36,8 @@ pub struct Game<A: Allocator + Copy> {
     pub(crate) history: History<A>,
     /// The stones of each colour that were taken.
     pub(crate) prisoners: Prisoners,
-    /// Where stones were placed since the start, also by plays that were taken back. A play that takes
-    /// nothing, on a point where its colour never was, repeats nothing.
+    /// Where stones were placed since the start, also by plays that `undo` took back. If a colour never had a
+    /// stone on a point, its play there that takes nothing repeats no position.
     pub(crate) placed: ByColour<Rows>,
 }
 

@@ -16,8 +16,8 @@ use go_history::{History, Key};
 use std::alloc::Allocator;
 
 impl<A: Allocator + Copy> Game<A> {
-    /// Plays a move: a pass, or a stone on an empty point of the board that repeats nothing by the
-    /// superko rule. Captured stones are taken, and then stones of the player's own that have no
+    /// Plays a move: a pass, or a stone on an empty point. The superko rule must allow the position that the
+    /// stone leaves. Captured stones are taken, and then stones of the player's own that have no
     /// liberty. A refused move changes nothing.
     pub fn play(&mut self, made: Move) -> Result<Taken, PlayError>
         ensures off_board { (result ≡ Err PlayError.OffBoard)
@@ -107,7 +107,7 @@ impl<A: Allocator + Copy> Game<A> {
         let step = Step { made, taken };
         let mut key = self.superko.key(Packed::empty(), colour.other());
         self.board.write_pack(&mut key.pack);
-        match record_step(&key, &mut self.history, &mut self.steps, step) {
+        match note_step(&key, &mut self.history, &mut self.steps, step) {
             Ok(()) => {
                 self.prisoners.add(colour, taken);
                 self.placed.put(colour, p);
@@ -149,7 +149,7 @@ impl<A: Allocator + Copy> Game<A> {
 }
 
 /// Adds a step to the steps, and its key to the history, unless the key came before.
-fn record_step<A: Allocator + Copy>(
+fn note_step<A: Allocator + Copy>(
     key: &Key,
     history: &mut History<A>,
     steps: &mut Vec<Step, A>,

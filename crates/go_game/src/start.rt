@@ -35,8 +35,8 @@ impl<A: Allocator + Copy> Game<A> {
         }
     }
 
-    /// Begins anew from this grid, with komi 0, positional superko and this colour to move. If a stone
-    /// doesn't reach empty, the game stays as it was. If there is no memory for the plays that place the
+    /// Begins anew from this grid, with komi 0, positional superko and this colour to move. If a chain
+    /// has no liberty, the game stays as it was. If there is no memory for the plays that place the
     /// stones, its board is empty, as after `resize`.
     pub fn begin_from(&mut self, grid: &Grid, first: Colour) -> Result<(), SetupError>
         ensures ok { OnOk result (self.new.standing ≡ started grid.now first) }

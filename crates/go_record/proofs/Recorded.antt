@@ -156,7 +156,7 @@ start_events : (s : Standing) (blacks whites : List ℕ) →
 start_events s blacks whites =
     let ab : List Property = stones_property (codes "AB") s.lines blacks in
     let aw : List Property = stones_property (codes "AW") s.lines whites in
-    let line : List Event = events_from 1 (map (move_node s.lines) s.moves) in
+    let cursor : List Event = events_from 1 (map (move_node s.lines) s.moves) in
     let none : flat_map (move_event 0) (ab ++ aw) ≡ [] =
     flat_map-append (move_event 0) ab aw
     ∙ ap₂ (λ x y. x ++ y) (no_moves (codes "AB") s.lines (λ values. refl) blacks)
@@ -167,7 +167,7 @@ start_events s blacks whites =
     ∙ flat_map-append (setup_event 0) ab aw in
     ap (λ (ns : List (List Property)). (flat_map (setup_event 0) (ab ++ aw) ++ flat_map (move_event 0) (ab ++ aw))
     ++ events_from 1 ns) (append-nil (map (move_node s.lines) s.moves))
-    ∙ ap (λ es. es ++ line) setup ∙ append_assoc (flat_map (setup_event 0) ab) (flat_map (setup_event 0) aw) line
+    ∙ ap (λ es. es ++ cursor) setup ∙ append_assoc (flat_map (setup_event 0) ab) (flat_map (setup_event 0) aw) cursor
 
 -- the standing with its rule the positional one
 abbrev judged : Standing → Standing
@@ -183,20 +183,20 @@ replays_judged t sound =
     let empty : Colouring = replicate (n * n) None in
     let black : Colouring = set_numbers (Some Black) empty blacks in
     let full : Colouring = set_numbers (Some White) black whites in
-    let line : List Event = events_from 1 (map (move_node n) s.moves) in
-    let playing : SetsUp n s.komi s.start (Some s.first) line (Ok s) =
+    let cursor : List Event = events_from 1 (map (move_node n) s.moves) in
+    let playing : SetsUp n s.komi s.start (Some s.first) cursor (Ok s) =
     begins_moves s.moves n 1 s.komi s.start (Some s.first) (Ok s)
     (inl (alive_from s sound, moves_play s.moves s [] 1 small sound.legal)) in
-    let set : SetsUp n s.komi full (Some s.first) line (Ok s) =
-    subst (λ (g : Colouring). SetsUp n s.komi g (Some s.first) line (Ok s)) (sym (start_back n s.start sound.whole))
+    let set : SetsUp n s.komi full (Some s.first) cursor (Ok s) =
+    subst (λ (g : Colouring). SetsUp n s.komi g (Some s.first) cursor (Ok s)) (sym (start_back n s.start sound.whole))
     playing in
     let whole : SetsUp n s.komi empty (Some s.first)
     (flat_map (setup_event 0) (stones_property (codes "AB") n blacks)
-    ++ (flat_map (setup_event 0) (stones_property (codes "AW") n whites) ++ line)) (Ok s) =
+    ++ (flat_map (setup_event 0) (stones_property (codes "AW") n whites) ++ cursor)) (Ok s) =
     stones_set (codes "AB") n Black (λ values. refl) s.komi empty (Some s.first) blacks
-    (flat_map (setup_event 0) (stones_property (codes "AW") n whites) ++ line) (Ok s) small
+    (flat_map (setup_event 0) (stones_property (codes "AW") n whites) ++ cursor) (Ok s) small
     (all_below (λ k. has_colour s.start k (Some Black)) (n * n))
-    (stones_set (codes "AW") n White (λ values. refl) s.komi black (Some s.first) whites line (Ok s) small
+    (stones_set (codes "AW") n White (λ values. refl) s.komi black (Some s.first) whites cursor (Ok s) small
     (all_below (λ k. has_colour s.start k (Some White)) (n * n)) set) in
     game_walks (game_tree s) None n s.komi (Ok s) refl (lines_read n sound.size.0 small) (komi_back s.komi sound.komi)
     (sets_turn n s.komi empty None 0 (colour_letter s.first) s.first _ (Ok s) (letter_read s.first)

@@ -50,10 +50,10 @@ seen_none (Moves (suc k)) = refl
 seen_none Nothing = refl
 
 -- whether a move was met
-pub met : (w : WalkedGame) → w.0.is_playing ≡ true → playing w ≡ Some w.1
+pub met : (w : WalkedGame) → w.0.has_begun ≡ true → playing w ≡ Some w.1
 met w e = rw e refl
 
-pub none_met : (w : WalkedGame) → w.0.is_playing ≡ false → playing w ≡ None
+pub none_met : (w : WalkedGame) → w.0.has_begun ≡ false → playing w ≡ None
 none_met w e = rw e refl
 
 -- ---- single events

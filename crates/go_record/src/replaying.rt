@@ -20,9 +20,10 @@ use go_sgf::laws::one_record;
 use go_sgf::{Checked, Collection, MainLine};
 use std::alloc::Allocator;
 
-/// The game of a record: that of the main line of its first tree, with its size, komi and start. With a
-/// number the walk ends before the move of that number, counted from 1. 0 is read as 1. Memory may run out
-/// anywhere. Otherwise it checks GM, SZ and KM in this order, then each node, and returns the first refusal.
+/// The game of a record: that of the main line of its first tree, with its size, komi and start, under the
+/// positional superko rule. With a number the walk ends before the move of that number, counted from 1. 0 is
+/// read as 1. It checks GM, SZ and KM in this order, then each node, and returns the first refusal. If memory
+/// runs out, it returns `Memory` instead.
 pub fn replay<A: Allocator + Copy>(
     alloc: A,
     collection: &Collection<'_, A>,
@@ -122,7 +123,7 @@ pub(crate) fn walk_on<A: Allocator + Copy>(
         komi: root.komi,
         grid: Grid::new(root.size),
         turn: None,
-        is_playing: false,
+        has_begun: false,
         left: left_of(number),
     };
     visit_line(&mut walk, game, source)?;
@@ -150,10 +151,10 @@ fn visit_line<A: Allocator + Copy>(
         (events_from 0 (main_line c)) (walk.new, game.new) }
 {
     one_record();
-    let mut line = MainLine::of(source);
+    let mut cursor = MainLine::of(source);
     let mut count = 0;
-    while line.next_node() {
-        walk.visit_node(game, &mut line, count)?;
+    while cursor.next_node() {
+        walk.visit_node(game, &mut cursor, count)?;
         if walk.is_over() {
             return Ok(());
         }

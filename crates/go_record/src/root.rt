@@ -29,19 +29,19 @@ pub(crate) struct RootValues<'a> {
     pub(crate) result: &'a [u8],
 }
 
-/// The values at the root of a record. It isn't inlined into `judge_source`: there it would keep the compiler
-/// from seeing that a moved game needn't be emptied.
+/// The values at the root of a record. It isn't inlined into `judge_source`. There the compiler would add code
+/// that drops a game that was moved already.
 #[inline(never)]
 pub(crate) fn root_values<'a>(source: &Checked<'a>) -> RootValues<'a>
     ensures { OfRecord source.now (IsRootOf result) }
 {
-    let mut line = MainLine::of(source);
+    let mut cursor = MainLine::of(source);
     let mut found = Found::nothing();
-    if !line.next_node() {
+    if !cursor.next_node() {
         return found.values();
     }
-    while let Some(name) = line.next_name() {
-        let value = first_value(&mut line);
+    while let Some(name) = cursor.next_name() {
+        let value = first_value(&mut cursor);
         found.keep(name, value);
         if found.is_whole() {
             return found.values();

@@ -18,22 +18,22 @@ use go_sgf::{MainLine, Rectangle, Row, points_in, trim};
 pub(crate) fn set_points(
     grid: &mut Grid,
     colour: Option<Colour>,
-    line: &mut MainLine<'_>,
+    cursor: &mut MainLine<'_>,
 ) -> Option<()>
     ensures lines { grid.new.lines ≡ grid.old.lines }
     ensures set { OnSome result ((values : List (List ℕ)) (later : List Property)
-        (nodes : List (List Property)) → IsLeft line.old values later nodes
+        (nodes : List (List Property)) → IsLeft cursor.old values later nodes
         → (ps : List Point) × (points_by_values grid.old.lines values ≡ Some ps)
         × (grid.new.colours ≡ with_points grid.old.lines colour grid.old.colours ps)) }
     ensures bad { IfNone result ((values : List (List ℕ)) (later : List Property)
-        (nodes : List (List Property)) → IsLeft line.old values later nodes
+        (nodes : List (List Property)) → IsLeft cursor.old values later nodes
         → points_by_values grid.old.lines values ≡ None) }
-    ensures line { (later : List Property) (nodes : List (List Property))
-        → IsAmongValues line.old later nodes → IsAmongValues line.new later nodes }
-    ensures onward { length line.new ≤ length line.old }
+    ensures cursor { (later : List Property) (nodes : List (List Property))
+        → IsAmongValues cursor.old later nodes → IsAmongValues cursor.new later nodes }
+    ensures onward { length cursor.new ≤ length cursor.old }
 {
     let size = grid.size();
-    while let Some(value) = line.next_value() {
+    while let Some(value) = cursor.next_value() {
         set_rows(grid, colour, points_in(value, size)?);
     }
     Some(())

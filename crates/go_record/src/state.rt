@@ -1,5 +1,5 @@
-//! The types of a walk, in a file of their own. A struct with a ghost field takes over the `ghost use` lines
-//! of its file. Those of `walk.rt` need these types, so the import would be circular.
+//! The types of a walk, in a file of their own. Rattle gives a struct with a ghost field the `ghost use` lines
+//! of its file. Those of `walk.rt` name definitions that need these types, so the types can't be in that file.
 ghost use Rattle.go_board.specs.Komi.{IsKomi};
 
 use go_board::{Colour, Grid};
@@ -8,19 +8,19 @@ use go_board::{Colour, Grid};
 #[derive(Clone, Copy)]
 pub(crate) enum Left {
     All,
-    /// This number of moves and the events between them, up to the next move.
+    /// This number of moves more, and what is set up before the move after them.
     Moves(u32),
     Nothing,
 }
 
-/// A walk along a main line. It has the stones set up and the colour to move, until it meets a move. From
+/// A walk along a main line. It has the stones set up and the colour to move, until it plays a move. From
 /// then on it plays on the game.
 #[derive(Drop)]
 pub(crate) struct Walk {
     pub(crate) komi: i64,
     pub(crate) grid: Grid,
     pub(crate) turn: Option<Colour>,
-    pub(crate) is_playing: bool,
+    pub(crate) has_begun: bool,
     pub(crate) left: Left,
     pub ghost in_range: { IsKomi komi },
 }

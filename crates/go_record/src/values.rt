@@ -7,14 +7,14 @@ ghost use Rattle.go_record.specs.inner.Progress.{IsAmongValues};
 use go_sgf::MainLine;
 
 /// The first value of a property whose name was read, or an empty one if it has none.
-pub(crate) fn first_value<'a>(line: &mut MainLine<'a>) -> &'a [u8]
+pub(crate) fn first_value<'a>(cursor: &mut MainLine<'a>) -> &'a [u8]
     ensures value { (values : List (List ℕ)) (later : List Property) (nodes : List (List Property))
-        → IsLeft line.old values later nodes → result.now ≡ leading_value values }
-    ensures line { (later : List Property) (nodes : List (List Property))
-        → IsAmongValues line.old later nodes → IsAmongValues line.new later nodes }
-    ensures onward { length line.new ≤ length line.old }
+        → IsLeft cursor.old values later nodes → result.now ≡ leading_value values }
+    ensures cursor { (later : List Property) (nodes : List (List Property))
+        → IsAmongValues cursor.old later nodes → IsAmongValues cursor.new later nodes }
+    ensures onward { length cursor.new ≤ length cursor.old }
 {
-    match line.next_value() {
+    match cursor.next_value() {
         Some(value) => value,
         None => b"",
     }

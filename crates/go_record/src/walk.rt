@@ -25,49 +25,49 @@ use go_sgf::{MainLine, point_of};
 use std::alloc::Allocator;
 
 impl Walk {
-    /// Visits the node that was entered, which has this number: its set-up, and then its moves.
+    /// Visits the node that was entered, which has the number `node`: its set-up, and then its moves.
     pub(crate) fn visit_node<A: Allocator + Copy>(
         &mut self,
         game: &mut Game<A>,
-        line: &mut MainLine<'_>,
-        number: usize,
+        cursor: &mut MainLine<'_>,
+        node: usize,
     ) -> Result<(), RecordError>
         ensures walked { (properties : List Property) (nodes : List (List Property))
-            → IsLeft line.old [] properties nodes
-            → Walked result (self.old, game.old) (events_of number properties)
+            → IsLeft cursor.old [] properties nodes
+            → Walked result (self.old, game.old) (events_of node properties)
             (self.new, game.new) }
-        ensures line { (properties : List Property) (nodes : List (List Property))
-            → IsLeft line.old [] properties nodes → OnOk result (IsLeft line.new [] [] nodes) }
-        ensures onward { length line.new ≤ length line.old }
+        ensures cursor { (properties : List Property) (nodes : List (List Property))
+            → IsLeft cursor.old [] properties nodes → OnOk result (IsLeft cursor.new [] [] nodes) }
+        ensures onward { length cursor.new ≤ length cursor.old }
     {
-        let mut again = line.fork();
-        match self.set_up(line, number)? {
+        let mut again = cursor.fork();
+        match self.set_up(cursor, node)? {
             MovesMet::NoMove => Ok(()),
-            MovesMet::OneMove(colour, value) => self.play_unless_over(game, colour, value, number),
-            MovesMet::MoreMoves => self.play_moves(game, &mut again, number),
+            MovesMet::OneMove(colour, value) => self.play_unless_over(game, colour, value, node),
+            MovesMet::MoreMoves => self.play_moves(game, &mut again, node),
         }
     }
 
     /// Visits the set-up properties of a node, and returns the moves that were met.
     fn set_up<'a>(
         &mut self,
-        line: &mut MainLine<'a>,
+        cursor: &mut MainLine<'a>,
         node: usize,
     ) -> Result<MovesMet<'a>, RecordError>
         ensures walked { (properties : List Property) (nodes : List (List Property))
-            → IsLeft line.old [] properties nodes → (game : GameValue)
+            → IsLeft cursor.old [] properties nodes → (game : GameValue)
             → Walked result (self.old, game) (flat_map (setup_event node) properties)
             (self.new, game) }
         ensures moves { (properties : List Property) (nodes : List (List Property))
-            → IsLeft line.old [] properties nodes → IfOk result (λ moves.
+            → IsLeft cursor.old [] properties nodes → IfOk result (λ moves.
             AreMoves node moves (flat_map (move_event node) properties)) }
-        ensures line { (properties : List Property) (nodes : List (List Property))
-            → IsLeft line.old [] properties nodes → OnOk result (IsLeft line.new [] [] nodes) }
-        ensures onward { length line.new ≤ length line.old }
+        ensures cursor { (properties : List Property) (nodes : List (List Property))
+            → IsLeft cursor.old [] properties nodes → OnOk result (IsLeft cursor.new [] [] nodes) }
+        ensures onward { length cursor.new ≤ length cursor.old }
     {
         let mut moves = MovesMet::NoMove;
-        while let Some(name) = line.next_name() {
-            self.visit_setup(kind_of(name), line, node, &mut moves)?;
+        while let Some(name) = cursor.next_name() {
+            self.visit_setup(kind_of(name), cursor, node, &mut moves)?;
         }
         Ok(moves)
     }
@@ -76,27 +76,27 @@ impl Walk {
     fn visit_setup<'a>(
         &mut self,
         kind: Kind,
-        line: &mut MainLine<'a>,
+        cursor: &mut MainLine<'a>,
         node: usize,
         moves: &mut MovesMet<'a>,
     ) -> Result<(), RecordError>
         ensures walked { (values : List (List ℕ)) (later : List Property)
-            (nodes : List (List Property)) → IsLeft line.old values later nodes
+            (nodes : List (List Property)) → IsLeft cursor.old values later nodes
             → (game : GameValue)
             → Walked result (self.old, game) (setup_by node kind values) (self.new, game) }
         ensures moves { (values : List (List ℕ)) (later : List Property)
-            (nodes : List (List Property)) → IsLeft line.old values later nodes
+            (nodes : List (List Property)) → IsLeft cursor.old values later nodes
             → (before : List Event) → AreMoves node moves.old before
             → AreMoves node moves.new (before ++ move_by node kind values) }
-        ensures line { (later : List Property) (nodes : List (List Property))
-            → IsAmongValues line.old later nodes → IsAmongValues line.new later nodes }
-        ensures onward { length line.new ≤ length line.old }
+        ensures cursor { (later : List Property) (nodes : List (List Property))
+            → IsAmongValues cursor.old later nodes → IsAmongValues cursor.new later nodes }
+        ensures onward { length cursor.new ≤ length cursor.old }
     {
         match kind {
-            Kind::Stones(colour) => self.set_stones(colour, line, node),
-            Kind::Turn => self.set_turn(first_value(line), node),
+            Kind::Stones(colour) => self.set_stones(colour, cursor, node),
+            Kind::Turn => self.set_turn(first_value(cursor), node),
             Kind::Move(colour) => {
-                moves.meet(colour, first_value(line));
+                moves.meet(colour, first_value(cursor));
                 Ok(())
             }
             Kind::Other => Ok(()),
@@ -107,16 +107,16 @@ impl Walk {
     fn play_moves<A: Allocator + Copy>(
         &mut self,
         game: &mut Game<A>,
-        line: &mut MainLine<'_>,
+        cursor: &mut MainLine<'_>,
         node: usize,
     ) -> Result<(), RecordError>
         ensures { (properties : List Property) (nodes : List (List Property))
-            → IsLeft line.old [] properties nodes
+            → IsLeft cursor.old [] properties nodes
             → Walked result (self.old, game.old) (flat_map (move_event node) properties)
             (self.new, game.new) }
     {
-        while let Some(name) = line.next_name() {
-            self.visit_move(game, kind_of(name), line, node)?;
+        while let Some(name) = cursor.next_name() {
+            self.visit_move(game, kind_of(name), cursor, node)?;
         }
         Ok(())
     }
@@ -126,45 +126,46 @@ impl Walk {
         &mut self,
         game: &mut Game<A>,
         kind: Kind,
-        line: &mut MainLine<'_>,
+        cursor: &mut MainLine<'_>,
         node: usize,
     ) -> Result<(), RecordError>
         ensures walked { (values : List (List ℕ)) (later : List Property)
-            (nodes : List (List Property)) → IsLeft line.old values later nodes
+            (nodes : List (List Property)) → IsLeft cursor.old values later nodes
             → Walked result (self.old, game.old) (move_by node kind values)
             (self.new, game.new) }
-        ensures line { (later : List Property) (nodes : List (List Property))
-            → IsAmongValues line.old later nodes → IsAmongValues line.new later nodes }
-        ensures onward { length line.new ≤ length line.old }
+        ensures cursor { (later : List Property) (nodes : List (List Property))
+            → IsAmongValues cursor.old later nodes → IsAmongValues cursor.new later nodes }
+        ensures onward { length cursor.new ≤ length cursor.old }
     {
         match kind {
-            Kind::Move(colour) => self.play_unless_over(game, colour, first_value(line), node),
+            Kind::Move(colour) => self.play_unless_over(game, colour, first_value(cursor), node),
             Kind::Stones(_) | Kind::Turn | Kind::Other => Ok(()),
         }
     }
 
-    /// Gives the points of a property's values a colour, or empties them.
+    /// Gives the points of a property's values a colour, or empties them. Its contract wants the test of a walk
+    /// that is over; `visit_line` doesn't come here then.
     fn set_stones(
         &mut self,
         colour: Option<Colour>,
-        line: &mut MainLine<'_>,
+        cursor: &mut MainLine<'_>,
         node: usize,
     ) -> Result<(), RecordError>
         ensures walked { (values : List (List ℕ)) (later : List Property)
-            (nodes : List (List Property)) → IsLeft line.old values later nodes
+            (nodes : List (List Property)) → IsLeft cursor.old values later nodes
             → (game : GameValue)
             → Walked result (self.old, game) (stones node colour values ∷ []) (self.new, game) }
-        ensures line { (later : List Property) (nodes : List (List Property))
-            → IsAmongValues line.old later nodes → IsAmongValues line.new later nodes }
-        ensures onward { length line.new ≤ length line.old }
+        ensures cursor { (later : List Property) (nodes : List (List Property))
+            → IsAmongValues cursor.old later nodes → IsAmongValues cursor.new later nodes }
+        ensures onward { length cursor.new ≤ length cursor.old }
     {
         if self.is_over() {
             return Ok(());
         }
-        if self.is_playing {
+        if self.has_begun {
             return Err(RecordError::SetupAfterMove(node));
         }
-        match set_points(&mut self.grid, colour, line) {
+        match set_points(&mut self.grid, colour, cursor) {
             Some(()) => Ok(()),
             None => Err(RecordError::BadValue(node)),
         }
@@ -175,7 +176,7 @@ impl Walk {
         ensures { (game : GameValue) → Walked result (self.old, game) (turn node value.now ∷ [])
             (self.new, game) }
     {
-        if self.is_over() || self.is_playing {
+        if self.is_over() || self.has_begun {
             return Ok(());
         }
         match colour_of(value) {
@@ -236,15 +237,15 @@ impl Walk {
             → GoesFrom self.old (playing (self.old, game.old))
             (move_met node colour value.now ∷ events) (Err e)) }
     {
-        if self.is_playing {
+        if self.has_begun {
             return play_value(game, colour, value, node);
         }
         self.begin(game)?;
-        self.is_playing = true;
+        self.has_begun = true;
         play_value(game, colour, value, node)
     }
 
-    /// Begins the game from the stones set up.
+    /// Begins the game from the stones set up, under the positional superko rule.
     fn begin<A: Allocator + Copy>(&self, game: &mut Game<A>) -> Result<(), RecordError>
         ensures ok { OnOk result (AreAlive self.now.grid.lines self.now.grid.colours
             × (game.new.standing
@@ -262,12 +263,12 @@ impl Walk {
         }
     }
 
-    /// Ends the walk. If it met no move, the game begins from the stones set up.
+    /// Ends the walk. If it played no move, the game begins from the stones set up.
     pub(crate) fn finish<A: Allocator + Copy>(&self, game: &mut Game<A>) -> Result<(), RecordError>
         ensures ok { OnOk result (Goes (self.now, game.old) [] (Ok game.new.standing)) }
         ensures err { IfErr result (λ e. e ≢ Memory → Goes (self.now, game.old) [] (Err e)) }
     {
-        if self.is_playing {
+        if self.has_begun {
             return Ok(());
         }
         self.begin(game)
@@ -309,8 +310,7 @@ fn refusal(count: usize, why: PlayError) -> RecordError
     }
 }
 
-/// The number after this one, of a node or a move. The greatest number has none, but no record has that
-/// number of nodes.
+/// The number after this one, of a node or a move. It refuses `usize::MAX`, but no record is that long.
 pub(crate) fn next_number(number: usize) -> Result<usize, RecordError>
     ensures ok { IfOk result (λ after. after ≡ number + 1) }
     ensures err { IfErr result (λ e. e ≡ Memory) }

@@ -13,7 +13,7 @@ use Rattle.go_sgf.specs.declared.record.Tree.{Tree}
 use Rattle.go_sgf.specs.declared.record.Tree.TheFolds.{fold-roll-Tree, fold_out-Tree}
 use Rattle.go_sgf.specs.declared.record.Tree.TheOpen.{Tree-F}
 use Rattle.go_sgf.specs.declared.record.Tree.TheViews.{roll-Tree, out-Tree}
-use Rattle.go_sgf.specs.declared.error.Fault.TheVariants.{TooDeep}
+use Rattle.go_sgf.specs.declared.error.Stop.TheVariants.{Deep}
 use Rattle.go_sgf.specs.declared.limits.TheConstants.{MAX_DEPTH}
 use Rattle.go_sgf.proofs.Machine as machine
 use Rattle.go_sgf.proofs.Parts.{SpellsParts-append, no_space_after, rest_le}
@@ -68,7 +68,7 @@ module _ (limit : ℕ) where
       let same : d + 1 - 1 ≡ d = omega arith in
       rw (other, same) refl
 
-  pub too_deep : (b inside : List ℕ) → b ≡ 40 ∷ inside → outcome limit closed limit b ≡ Err (TooDeep (length b))
+  pub too_deep : (b inside : List ℕ) → b ≡ 40 ∷ inside → outcome limit closed limit b ≡ Err (Deep (length b))
   too_deep b inside e =
       let same : (suc limit == suc limit) ≡ true = eq-eqb (suc limit) (suc limit) refl in
       rw e (machine.outcome_more limit closed limit 40 inside ∙ rw same refl)

@@ -10,7 +10,7 @@ use Rattle.go_sgf.specs.Stands.{State, StateAt, step, outside, on_space, on_open
 use Rattle.go_sgf.specs.inner.Outcome.{outcome, outcome_on, IsWithin, here}
 use Rattle.go_sgf.specs.inner.Reads.{begins_space, is_ordinary}
 use Rattle.go_sgf.specs.inner.Reads.{is_letter_first}
-use Rattle.go_sgf.specs.declared.error.Fault.TheVariants.{End, Unexpected}
+use Rattle.go_sgf.specs.declared.error.Stop.TheVariants.{End, Stray}
 use Rattle.go_sgf.proofs.Inside.{ordinary_inside}
 use Rattle.go_sgf.proofs.Scanning.{after_space_more, after_space_stop}
 
@@ -89,7 +89,7 @@ module _ (limit : ℕ) where
 
   -- a byte that nothing allows
   pub stuck : (s : State) (d c : ℕ) (cs : List ℕ) → step s d c ≡ None →
-      outcome limit s d (c ∷ cs) ≡ Err (Unexpected (suc (length cs)))
+      outcome limit s d (c ∷ cs) ≡ Err (Stray (suc (length cs)))
   stuck s d c cs e = outcome_more s d c cs ∙ rw e refl
 
   -- two states from which a byte leads to the same place

@@ -9,7 +9,7 @@ use Rattle.go_sgf.specs.Stands.{State, StateAt, step, run, stands, opened, whole
 use Rattle.go_sgf.specs.inner.Outcome.{outcome, outcome_on, IsWithin}
 use Rattle.go_sgf.specs.inner.Reads.{begins_space}
 use Rattle.go_sgf.specs.Laws.{FrontsStand}
-use Rattle.go_sgf.specs.declared.error.Fault.TheVariants.{End, TooDeep}
+use Rattle.go_sgf.specs.declared.error.Stop.TheVariants.{End, Deep}
 use Rattle.go_sgf.proofs.Machine as machine
 use Rattle.go_sgf.proofs.Outcomes.{tree_outcome}
 use Rattle.go_sgf.proofs.Parts.{SpellsParts-append, after_space-same}
@@ -69,7 +69,7 @@ module _ (limit : ℕ) where
       d ≤ limit → WholeIs s d (c ∷ cs) r
   by_step s d c cs r ne None step_is leads e later deep = cc
   by_step s d c cs r ne (Some p) step_is leads e later deep = elim (cases_Bool (p.1 == suc limit)) [
-    | inl too_deep ↦ let e' : Err (TooDeep (suc (length cs))) ≡ Ok r = rw too_deep at e in cc
+    | inl too_deep ↦ let e' : Err (Deep (suc (length cs))) ≡ Ok r = rw too_deep at e in cc
     | inr shallow ↦ elim (cases_Bool (p.1 == 0)) [
       | inl end ↦
           let e' : Ok (without_space cs) ≡ Ok r = rw (shallow, end) at e in

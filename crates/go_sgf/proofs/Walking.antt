@@ -13,8 +13,8 @@ use Rattle.go_sgf.specs.Spelling.{Part, closing, text, without_space, is_space, 
 use Rattle.go_sgf.specs.Stands.{opened}
 use Rattle.go_sgf.specs.inner.Outcome.{outcome, left_of, error_at, Meets}
 use Rattle.go_sgf.specs.inner.Reads.{ReadsToEnd, begins_space}
-use Rattle.go_sgf.specs.declared.error.Fault.{Fault}
-use Rattle.go_sgf.specs.declared.error.Fault.TheVariants.{Memory, End, Unexpected, TooDeep}
+use Rattle.go_sgf.specs.declared.error.Stop.{Stop}
+use Rattle.go_sgf.specs.declared.error.Stop.TheVariants.{Memory, End, Stray, Deep}
 use Rattle.go_sgf.specs.declared.error.SgfError.TheVariants as error
 use Rattle.go_sgf.specs.declared.game_trees.TreeSpan.{TreeSpan}
 use Rattle.go_sgf.specs.declared.limits.TheConstants.{MAX_DEPTH}
@@ -22,7 +22,7 @@ use Rattle.go_sgf.proofs.Prefixes.{tree_closed}
 use Rattle.go_sgf.proofs.Parts.{SpellsParts-same, SpellsParts-split, after_space-again, after_space-same, no_space_after, no_space_first, rest_le}
 use Rattle.go_sgf.proofs.Scanning.{after_space_more, after_space_stop, from_tree_here, from_tree_more}
 use Rattle.go_sgf.proofs.Standing.{FaultIs, fault_is}
-use Rattle.go_sgf.proofs.Stops.{WhyIn, begins_no_space, from_tree_begins, length-from_tree, read_up_to, tree_begins, two_ways}
+use Rattle.go_sgf.proofs.Stops.{WhyIn, begins_no_space, from_tree_begins, length-from_first_tree, read_up_to, tree_begins, two_ways}
 
 -- ---- what stands before a text
 
@@ -95,7 +95,7 @@ tree_after_space (c ∷ cs) e = elim (cases_Bool (is_space c)) [
 pub length-tree_in : (source : List ℕ) (from : ℕ) → length (tree_in (drop from source)) ≤ length source
 length-tree_in source from =
     let sized : length (drop from source) ≡ length source - from = length-drop from source in
-    omega (arith, length-from_tree (drop from source))
+    omega (arith, length-from_first_tree (drop from source))
 
 -- a tree begins from there on within the source alone
 some_left : (source : List ℕ) (from : ℕ) → length (tree_in (drop from source)) ≢ 0 → from ≤ length source
@@ -223,7 +223,7 @@ read_there source from begin inside after t b e r =
 
 -- ---- a tree that stops
 
-pub stops_in_first : (source : List ℕ) (from begin : ℕ) (inside : List ℕ) (f : Fault) (place : ℕ) →
+pub stops_in_first : (source : List ℕ) (from begin : ℕ) (inside : List ℕ) (f : Stop) (place : ℕ) →
     BeginsAt source from begin →
     drop begin source ≡ 40 ∷ inside → outcome MAX_DEPTH opened 1 inside ≡ Err f → place + left_of f ≡ length source →
     StopsInFirst source from place (WhyIn f)
@@ -250,7 +250,7 @@ stops_in_first source from begin inside f place b opens e placed =
     }
 
 -- no more bytes are left at a fault than the source has
-left_in_source : (source : List ℕ) (begin : ℕ) (inside : List ℕ) (f : Fault) → drop begin source ≡ 40 ∷ inside →
+left_in_source : (source : List ℕ) (begin : ℕ) (inside : List ℕ) (f : Stop) → drop begin source ≡ 40 ∷ inside →
     outcome MAX_DEPTH opened 1 inside ≡ Err f → left_of f ≤ length source
 left_in_source source begin inside f opens e =
     let i : FaultIs MAX_DEPTH opened 1 inside f =
@@ -259,25 +259,25 @@ left_in_source source begin inside f opens e =
     let sized : length source - begin ≡ suc (length inside) = sym (length-drop begin source) ∙ ap length opens in
     omega arith
 
-module _ {X : Type 0} (later : X → Result (List ℕ) Fault) (source : List ℕ) (from begin : ℕ) (inside : List ℕ) where
-  pub left_there : (f : Fault) → drop begin source ≡ 40 ∷ inside →
+module _ {X : Type 0} (later : X → Result (List ℕ) Stop) (source : List ℕ) (from begin : ℕ) (inside : List ℕ) where
+  pub left_there : (f : Stop) → drop begin source ≡ 40 ∷ inside →
       Meets (Err f) (outcome MAX_DEPTH opened 1 inside) later → left_of f ≤ length source
   left_there Memory opens m = omega arith
   left_there End opens m = omega arith
-  left_there (Unexpected n) opens m = left_in_source source begin inside (Unexpected n) opens m
-  left_there (TooDeep n) opens m = left_in_source source begin inside (TooDeep n) opens m
+  left_there (Stray n) opens m = left_in_source source begin inside (Stray n) opens m
+  left_there (Deep n) opens m = left_in_source source begin inside (Deep n) opens m
 
-  pub refused_there : (f : Fault) → f ≢ Memory → BeginsAt source from begin → drop begin source ≡ 40 ∷ inside →
+  pub refused_there : (f : Stop) → f ≢ Memory → BeginsAt source from begin → drop begin source ≡ 40 ∷ inside →
       Meets (Err f) (outcome MAX_DEPTH opened 1 inside) later → IsRefusalFrom source from (error_at (length source) f)
   refused_there Memory ne b opens m = absurd (ne refl)
   refused_there End ne b opens m =
       (refl, stops_in_first source from begin inside End (length source) b opens m (omega arith))
-  refused_there (Unexpected n) ne b opens m =
-      let left : n ≤ length source = left_in_source source begin inside (Unexpected n) opens m in
-      stops_in_first source from begin inside (Unexpected n) (length source - n) b opens m (omega arith)
-  refused_there (TooDeep n) ne b opens m =
-      let left : n ≤ length source = left_in_source source begin inside (TooDeep n) opens m in
-      stops_in_first source from begin inside (TooDeep n) (length source - n) b opens m (omega arith)
+  refused_there (Stray n) ne b opens m =
+      let left : n ≤ length source = left_in_source source begin inside (Stray n) opens m in
+      stops_in_first source from begin inside (Stray n) (length source - n) b opens m (omega arith)
+  refused_there (Deep n) ne b opens m =
+      let left : n ≤ length source = left_in_source source begin inside (Deep n) opens m in
+      stops_in_first source from begin inside (Deep n) (length source - n) b opens m (omega arith)
 
 -- the same refusal of the text from there on
 stops_alike : (source : List ℕ) (from place : ℕ) (Reason : List ℕ → ℕ → Type 0) →

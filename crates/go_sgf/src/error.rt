@@ -53,31 +53,34 @@ impl From<AllocError> for SgfError {
     }
 }
 
-/// Why reading stops. A number counts the bytes of the source that are left there.
+/// Why reading stops. Unlike those of `SgfError`, its numbers count the bytes that are left there.
 #[derive(Clone, Copy)]
-pub(crate) enum Fault {
+pub(crate) enum Stop {
     Memory,
+    /// The text ends inside of a tree.
     End,
-    Unexpected(usize),
-    TooDeep(usize),
+    /// A byte that nothing allows.
+    Stray(usize),
+    /// A `(` that is nested too deep.
+    Deep(usize),
 }
 
-impl From<AllocError> for Fault {
-    ghost use Rattle.go_sgf.specs.declared.error.Fault.TheVariants.{Memory};
+impl From<AllocError> for Stop {
+    ghost use Rattle.go_sgf.specs.declared.error.Stop.TheVariants.{Memory};
 
     ghost from_gives = { λ _ fault. fault ≡ Memory };
 
-    fn from(_: AllocError) -> Fault {
-        Fault::Memory
+    fn from(_: AllocError) -> Stop {
+        Stop::Memory
     }
 }
 
-impl<T: Drop> From<AllocFailed<T>> for Fault {
-    ghost use Rattle.go_sgf.specs.declared.error.Fault.TheVariants.{Memory};
+impl<T: Drop> From<AllocFailed<T>> for Stop {
+    ghost use Rattle.go_sgf.specs.declared.error.Stop.TheVariants.{Memory};
 
     ghost from_gives = { λ _ fault. fault ≡ Memory };
 
-    fn from(_: AllocFailed<T>) -> Fault {
-        Fault::Memory
+    fn from(_: AllocFailed<T>) -> Stop {
+        Stop::Memory
     }
 }

@@ -8,7 +8,7 @@ ghost use Rattle.go_sgf.specs.Spelling.{tree_in};
 use crate::error::SgfError;
 use crate::keep::Nothing;
 use crate::reader::{placed, tree};
-use crate::scan::from_tree;
+use crate::scan::from_first_tree;
 
 /// Where a game tree is in a source. A place is a byte's number in the source, from 0.
 #[derive(Clone, Copy, Debug, PartialEq, Eq)]
@@ -27,7 +27,7 @@ pub fn tree_begin(source: &[u8], from: usize) -> Option<usize>
     ensures none { IfNone result (tree_in (drop from source.now) ≡ []) }
 {
     let (_, text) = source.split_at(from.min(source.len()));
-    let found = from_tree(text);
+    let found = from_first_tree(text);
     if found.is_empty() {
         return None;
     }

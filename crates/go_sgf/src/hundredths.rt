@@ -13,7 +13,7 @@ use go_board::{MAX_KOMI, are_digits, value_of_digits, with_digit};
 const PAST_MOST: u64 = MAX_KOMI + 1;
 
 /// The komi that a value spells, in hundredths of a point: an optional sign, digits, and an
-/// optional point among or after them, with white space at both ends skipped. Digits past the
+/// optional decimal point before, among or after them, with white space at both ends skipped. Digits past the
 /// second decimal must be 0. None where it spells no komi, or one of more than 999,999,999.99.
 pub fn hundredths_of(value: &[u8]) -> Option<i64>
     ensures value { result ≡ hundredths_by value.now }

@@ -1,13 +1,13 @@
 //! A cursor along a record's main line, which takes the first child at each branch. It reads names and values
-//! from the source itself, so it builds no lists. Each step first skips what earlier steps left, so steps may
-//! come in any order.
+//! from the source itself, so it builds no lists. `next_node` and `next_name` first skip what earlier
+//! steps left, so steps may come in any order.
 ghost use Rattle.std.specs.Prelude.{◌≡◌, ◌<◌, ◌≤◌, ℕ, List, [], IfNone, IfSome, IsFalse, IsTrue, length, true};
 ghost use Rattle.go_sgf.specs.MainLine.{IsLeft, NextName, NextNode, NextValue, main_line};
 ghost use Rattle.go_sgf.specs.Record.{Property};
 ghost use Rattle.go_sgf.specs.Spelling.{OfRecord, without_space};
 
 use crate::checked::Checked;
-use crate::scan::{after_space, begins_letter, from_tree, name_at, strip};
+use crate::scan::{after_space, begins_letter, from_first_tree, name_at, strip};
 use crate::values::value;
 use std::marker::Model;
 
@@ -31,7 +31,7 @@ impl<'a> MainLine<'a> {
     pub fn of(source: &Checked<'a>) -> MainLine<'a>
         ensures { OfRecord source.now (λ c. IsLeft result [] [] (main_line c)) }
     {
-        match strip(from_tree(source.source()), b'(') {
+        match strip(from_first_tree(source.source()), b'(') {
             Some(rest) => MainLine { rest },
             None => MainLine { rest: &[] },
         }
@@ -64,7 +64,8 @@ impl<'a> MainLine<'a> {
     }
 
     /// The name of the node's next property, as it is written. It first skips the values that are left of the
-    /// property before. None where the node has no more properties; then it skips white space.
+    /// property before. Where the node has no more properties, it skips white space and
+    /// returns none.
     pub fn next_name(&mut self) -> Option<&'a [u8]>
         ensures next { (values : List (List ℕ)) (properties : List Property)
             (nodes : List (List Property)) → IsLeft self.old values properties nodes
@@ -77,8 +78,8 @@ impl<'a> MainLine<'a> {
         self.name_here()
     }
 
-    /// The property's next value, without its brackets. None where the property has no more values; then it
-    /// skips white space.
+    /// The property's next value, without its brackets. Where the property has no more values, it
+    /// skips white space and returns none.
     pub fn next_value(&mut self) -> Option<&'a [u8]>
         ensures next { (values : List (List ℕ)) (properties : List Property)
             (nodes : List (List Property)) → IsLeft self.old values properties nodes

@@ -12,23 +12,25 @@ ghost use Rattle.go_sgf.specs.Stands.{closed, in_node, named, opened};
 ghost use Rattle.go_sgf.specs.View.{chain, trees_of};
 
 use crate::checked::Checked;
-use crate::error::{Fault, SgfError};
+use crate::error::{SgfError, Stop};
 use crate::few::Few;
 use crate::keep::{Keep, Lists, Nothing};
 use crate::limits::{MAX_DEPTH, MAX_RECORD};
 use crate::nodes::{self, Node, Sequence};
 use crate::record::{Collection, Tree};
-use crate::scan::{after_space, begins_letter, begins_with, from_tree, name_at, strip, strip_tree};
+use crate::scan::{
+    after_space, begins_letter, begins_with, from_first_tree, inside_tree, name_at, strip,
+};
 use crate::values::value;
 use std::alloc::{AllocError, Allocator};
 
-/// The fault of a byte that nothing allows, or of the end.
-fn unexpected(rest: &[u8]) -> Fault
+/// Why reading stops where a text goes on with nothing that is allowed: a stray byte, or its end.
+fn unexpected(rest: &[u8]) -> Stop
     ensures { result ≡ here rest.now }
 {
     match rest.split_first() {
-        Some(_) => Fault::Unexpected(rest.len()),
-        None => Fault::End,
+        Some(_) => Stop::Stray(rest.len()),
+        None => Stop::End,
     }
 }
 
@@ -48,14 +50,14 @@ fn values<'a, K: Keep>(
     keep: K,
     list: &mut Few<&'a [u8], K::Alloc>,
     bytes: &'a [u8],
-) -> Result<&'a [u8], Fault>
+) -> Result<&'a [u8], Stop>
     requires { is_letter_first bytes.now ≡ false }
     ensures read { IfOk result (λ rest. (vs : List (List ℕ))
         × (K.keeps → values_of list.new ≡ values_of list.old ++ vs)
         × ReadsValues bytes.now vs rest.now) }
     ensures place { (d : ℕ) → IsWithin MAX_DEPTH d → Meets result
         (outcome MAX_DEPTH named d bytes.now) (λ rest. outcome MAX_DEPTH in_node d rest.now) }
-    ensures memory { IsErrOf result Fault.Memory → K.keeps }
+    ensures memory { IsErrOf result Stop.Memory → K.keeps }
 {
     let mut rest = after_space(bytes);
     if !begins_with(rest, b'[') {
@@ -63,7 +65,7 @@ fn values<'a, K: Keep>(
     }
     while let Some(inside) = strip(rest, b'[') {
         let Some((one, more)) = value(inside) else {
-            return Err(Fault::End);
+            return Err(Stop::End);
         };
         add(keep, list, one)?;
         rest = after_space(more);
@@ -76,14 +78,14 @@ fn property<'a, K: Keep>(
     keep: K,
     list: &mut Option<Few<nodes::Property<'a, K::Alloc>, K::Alloc>>,
     bytes: &'a [u8],
-) -> Result<&'a [u8], Fault>
+) -> Result<&'a [u8], Stop>
     requires { is_letter_first bytes.now ≡ true }
     ensures read { IfOk result (λ rest. (p : Property)
         × (K.keeps → list.new ≡ option_map (λ ps. ps ++ p ∷ []) list.old)
         × ReadsProperty bytes.now p rest.now) }
     ensures place { (d : ℕ) → IsWithin MAX_DEPTH d → Meets result
         (outcome MAX_DEPTH in_node d bytes.now) (λ rest. outcome MAX_DEPTH in_node d rest.now) }
-    ensures memory { IsErrOf result Fault.Memory → K.keeps }
+    ensures memory { IsErrOf result Stop.Memory → K.keeps }
 {
     let (name, after, is_name) = name_at(bytes);
     if !is_name {
@@ -119,13 +121,13 @@ fn node<'a, K: Keep>(
     keep: K,
     list: &mut Few<Node<'a, K::Alloc>, K::Alloc>,
     bytes: &'a [u8],
-) -> Result<&'a [u8], Fault>
+) -> Result<&'a [u8], Stop>
     ensures read { IfOk result (λ rest. (ps : List Property)
         × (K.keeps → list.new ≡ list.old ++ ps ∷ []) × ReadsNode bytes.now ps rest.now) }
     ensures stopped { IfOk result (λ rest. is_letter_first rest.now ≡ false) }
     ensures place { (d : ℕ) → IsWithin MAX_DEPTH d → Meets result
         (outcome MAX_DEPTH in_node d bytes.now) (λ rest. outcome MAX_DEPTH in_node d rest.now) }
-    ensures memory { IsErrOf result Fault.Memory → K.keeps }
+    ensures memory { IsErrOf result Stop.Memory → K.keeps }
 {
     let mut properties = no_properties(keep);
     let mut rest = after_space(bytes);
@@ -169,12 +171,12 @@ fn nodes<'a, K: Keep>(
     keep: K,
     list: &mut Few<Node<'a, K::Alloc>, K::Alloc>,
     bytes: &'a [u8],
-) -> Result<&'a [u8], Fault>
+) -> Result<&'a [u8], Stop>
     ensures read { IfOk result (λ rest. (ns : List (List Property))
         × (K.keeps → list.new ≡ list.old ++ ns) × ReadsNodes bytes.now ns rest.now) }
     ensures place { (d : ℕ) → IsWithin MAX_DEPTH d → Meets result
         (outcome MAX_DEPTH opened d bytes.now) (λ rest. outcome MAX_DEPTH closed d rest.now) }
-    ensures memory { IsErrOf result Fault.Memory → K.keeps }
+    ensures memory { IsErrOf result Stop.Memory → K.keeps }
 {
     let mut rest = after_space(bytes);
     if !begins_with(rest, b';') {
@@ -183,6 +185,7 @@ fn nodes<'a, K: Keep>(
     while let Some(inside) = strip(rest, b';') {
         rest = node(keep, list, inside)?;
     }
+    // `tree` would refuse it too, but the contract says that the nodes are whole here.
     if begins_with(rest, b'[') {
         return Err(unexpected(rest));
     }
@@ -239,7 +242,7 @@ pub(crate) fn tree<'a, K: Keep>(
     trees: &mut Option<Vec<Tree<'a, K::Alloc>, K::Alloc>>,
     bytes: &'a [u8],
     depth: usize,
-) -> Result<&'a [u8], Fault>
+) -> Result<&'a [u8], Stop>
     requires depth { IsWithin MAX_DEPTH depth }
     requires kept { is_some trees.old ≡ true → K.keeps }
     ensures read { IfOk result (λ after. (t : TreeValue)
@@ -248,14 +251,14 @@ pub(crate) fn tree<'a, K: Keep>(
     ensures kept { OnOk result (is_some trees.new ≡ is_some trees.old) }
     ensures place { Meets result (outcome MAX_DEPTH opened depth bytes.now)
         (λ after. outcome_after MAX_DEPTH depth (without_space after.now)) }
-    ensures memory { IsErrOf result Fault.Memory → K.keeps }
+    ensures memory { IsErrOf result Stop.Memory → K.keeps }
 {
     let mut own = Few::new();
     let mut rest = nodes(keep, &mut own, bytes)?;
     let mut children = no_trees(keep);
     while let Some(inside) = strip(rest, b'(') {
         if depth == MAX_DEPTH {
-            return Err(Fault::TooDeep(rest.len()));
+            return Err(Stop::Deep(rest.len()));
         }
         let after = tree(keep, &mut children, inside, depth + 1)?;
         rest = after_space(after);
@@ -268,15 +271,15 @@ pub(crate) fn tree<'a, K: Keep>(
 }
 
 /// The error that callers get for a fault in a source of this length.
-pub(crate) fn placed(fault: Fault, length: usize) -> SgfError
+pub(crate) fn placed(fault: Stop, length: usize) -> SgfError
     requires { left_of fault ≤ length }
     ensures { result ≡ error_at length fault }
 {
     match fault {
-        Fault::Memory => SgfError::Memory,
-        Fault::End => SgfError::EndInside(length),
-        Fault::Unexpected(left) => SgfError::Unexpected(length - left),
-        Fault::TooDeep(left) => SgfError::TooDeep(length - left),
+        Stop::Memory => SgfError::Memory,
+        Stop::End => SgfError::EndInside(length),
+        Stop::Stray(left) => SgfError::Unexpected(length - left),
+        Stop::Deep(left) => SgfError::TooDeep(length - left),
     }
 }
 
@@ -295,12 +298,12 @@ fn trees<'a, K: Keep>(
     if source.len() > MAX_RECORD {
         return Err(SgfError::TooLong);
     }
-    let mut rest = from_tree(source);
+    let mut rest = from_first_tree(source);
     if rest.is_empty() {
         return Err(SgfError::NoTree);
     }
     let mut trees = no_trees(keep);
-    while let Some(inside) = strip_tree(rest) {
+    while let Some(inside) = inside_tree(rest) {
         rest = match tree(keep, &mut trees, inside, 1) {
             Ok(after) => after_space(after),
             Err(fault) => return Err(placed(fault, source.len())),

@@ -1,5 +1,5 @@
 //! What a text begins with: white space, letters, a name, a tree. The searches for `]` and `\` are here too.
-//! They test 16 bytes at once, and `memchr2` goes on where the text is longer.
+//! They test blocks of 16 bytes. After four blocks `memchr2` searches the rest.
 ghost use Rattle.std.specs.Prelude.{◌≡◌, ◌≢◌, ◌≤◌, ◌*◌, ◌∷◌, ◌++◌, ◌||◌, ◌==◌, ℕ, IfNone, IfSome, Some, false, length, map, min, take, true};
 ghost use Rattle.std.specs.List.{list_all, list_any};
 ghost use Rattle.std.specs.Simd.Lanes.{mask_l};
@@ -167,7 +167,7 @@ pub(crate) fn begins_tree(bytes: &[u8]) -> bool
 }
 
 /// The bytes after a tree's `(`, where a tree begins.
-pub(crate) fn strip_tree(bytes: &[u8]) -> Option<&[u8]>
+pub(crate) fn inside_tree(bytes: &[u8]) -> Option<&[u8]>
     ensures stripped { IfSome result (λ rest. bytes.now ≡ 40 ∷ rest.now) }
     ensures begins { IfSome result (λ _. is_tree_first bytes.now ≡ true) }
     ensures other { IfNone result (is_tree_first bytes.now ≡ false) }
@@ -181,7 +181,7 @@ pub(crate) fn strip_tree(bytes: &[u8]) -> Option<&[u8]>
 
 /// The bytes from the first tree on.
 #[tactic(auto, using(crate::proofs::Scanning::tree_steps))]
-pub(crate) fn from_tree(bytes: &[u8]) -> &[u8]
+pub(crate) fn from_first_tree(bytes: &[u8]) -> &[u8]
     ensures { result.now ≡ tree_in bytes.now }
 {
     for (place, byte) in bytes.iter().enumerate() {
@@ -227,7 +227,7 @@ fn near_stop(bytes: &[u8], blocks: usize) -> Option<usize>
     for block in 0..blocks {
         let from = block * LANES;
         if bytes.len() - from < LANES {
-            return last_stop(bytes, from);
+            return stop_from(bytes, from);
         }
         let found = stops(u8x16::from_slice(&bytes[from..]));
         if found != 0 {
@@ -239,7 +239,7 @@ fn near_stop(bytes: &[u8], blocks: usize) -> Option<usize>
 
 /// The place of the first `]` or `\` from a place on.
 #[inline(never)]
-fn last_stop(bytes: &[u8], from: usize) -> Option<usize>
+fn stop_from(bytes: &[u8], from: usize) -> Option<usize>
     ensures { IsFirst (Passes (is_byte2 93 92) bytes.now) from (length bytes.now) result }
 {
     for place in from..bytes.len() {

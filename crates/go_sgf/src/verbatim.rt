@@ -25,20 +25,21 @@ pub(crate) fn verbatim(text: &[u8], depth: usize) -> Option<(&[u8], &[u8], usize
         return None;
     }
     let mut rest = after_properties(text);
-    let mut there = depth;
-    while let Some((more, now)) = after_next(rest, there) {
+    let mut open = depth;
+    while let Some((more, still_open)) = after_next(rest, open) {
         rest = more;
-        there = now;
+        open = still_open;
     }
     let (prefix, _) = text.split_at(text.len() - rest.len());
     if prefix.is_empty() {
         return None;
     }
-    Some((prefix, rest, there))
+    Some((prefix, rest, open))
 }
 
-/// Skips a byte that is written, and in an open tree the properties after it. Returns the rest and the number
-/// of open trees there.
+/// Skips one byte that is written. If a tree is still open then, it skips the properties that follow too.
+/// Returns the rest and the number of open trees there. `None` if the byte is left out, no tree is open, or
+/// the text is empty.
 #[inline]
 fn after_next(text: &[u8], depth: usize) -> Option<(&[u8], usize)>
     requires bound { depth + length text.now ≤ 2 ^ 63 }
@@ -57,11 +58,11 @@ fn after_next(text: &[u8], depth: usize) -> Option<(&[u8], usize)>
     if is_left_out(*byte) {
         return None;
     }
-    let now = depth_after(*byte, depth);
-    if now == 0 {
-        return Some((more, now));
+    let open = depth_after(*byte, depth);
+    if open == 0 {
+        return Some((more, open));
     }
-    Some((after_properties(more), now))
+    Some((after_properties(more), open))
 }
 
 /// The number of trees that are open after a byte outside of values.

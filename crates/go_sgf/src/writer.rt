@@ -10,7 +10,7 @@ ghost use Rattle.go_sgf.specs.Spelling.{OfRecord, Spells, canonical, without_spa
 use crate::checked::Checked;
 use crate::laws::one_record;
 use crate::record::Collection;
-use crate::scan::{after_left_out, after_space, from_tree, strip_tree};
+use crate::scan::{after_left_out, after_space, from_first_tree, inside_tree};
 use crate::verbatim::verbatim;
 use go_board::{Pen, Sink, WriteFault};
 use std::alloc::Allocator;
@@ -47,16 +47,17 @@ fn put_trees<W: Sink>(source: &[u8], pen: &mut Pen<'_, W>)
         × Writes W.Sink pen.old pen.new more
         × ((c : Trees) → Spells source.now c → more ≡ canonical c) }
 {
-    let mut rest = from_tree(source);
-    while let Some(inside) = strip_tree(rest) {
+    let mut rest = from_first_tree(source);
+    while let Some(inside) = inside_tree(rest) {
         pen.put(b"(");
         rest = put_tree(inside, pen);
         pen.put(b"\n");
     }
 }
 
-/// Writes a tree. `text` begins after its `(`. Returns the text after its `)` and white space. It writes each
-/// run of unchanged bytes in one piece. In a checked source each tree ends, so it never returns early.
+/// Writes what follows a tree's `(`, up to its `)`. It then skips white space, and returns the text from there.
+/// It writes each run of unchanged bytes in one piece. In a checked source each tree ends, so it never returns
+/// early.
 fn put_tree<'a, W: Sink>(text: &'a [u8], pen: &mut Pen<'_, W>) -> &'a [u8]
     ensures written { Writes W.Sink pen.old pen.new (tidied_from Outside 1 text.now) }
     ensures rest { result.now ≡ without_space (rest_from Outside 1 text.now) }
@@ -65,12 +66,12 @@ fn put_tree<'a, W: Sink>(text: &'a [u8], pen: &mut Pen<'_, W>) -> &'a [u8]
     let mut rest = text;
     let mut depth = 1;
     while depth != 0 {
-        let Some((prefix, more, now)) = verbatim(after_left_out(rest), depth) else {
+        let Some((prefix, more, open)) = verbatim(after_left_out(rest), depth) else {
             return &[];
         };
         pen.put(prefix);
         rest = more;
-        depth = now;
+        depth = open;
     }
     after_space(rest)
 }

@@ -24,7 +24,7 @@ pub(crate) fn tidy<A: Allocator + Copy>(
 {
     let source = match go_sgf::check(source) {
         Ok(source) => source,
-        Err(why) => return put_fault(alloc, ToolError::Sgf(why), room, length),
+        Err(why) => return refuse(alloc, ToolError::Sgf(why), room, length),
     };
     let mut text = TextWriter::new(alloc);
     match go_sgf::tidy(&source, &mut text) {
@@ -32,7 +32,7 @@ pub(crate) fn tidy<A: Allocator + Copy>(
             show(text.bytes(), room, length);
             0
         }
-        Err(WriteFault) => put_fault(alloc, ToolError::Memory, room, length),
+        Err(WriteFault) => refuse(alloc, ToolError::Memory, room, length),
     }
 }
 
@@ -56,24 +56,14 @@ pub(crate) fn judge<A: Allocator + Copy>(
             show(verdict.bytes(), room, length);
             0
         }
-        Err(ToolError::Read | ToolError::Write) => put_fault(
-            alloc,
-            ToolError::Memory,
-            room,
-            length,
-        ),
-        Err(why) => put_fault(alloc, why, room, length),
+        Err(ToolError::Read | ToolError::Write) => refuse(alloc, ToolError::Memory, room, length),
+        Err(why) => refuse(alloc, why, room, length),
     }
 }
 
 /// Puts the text of a fault into a room, and returns its status. If there is no memory for the text, the
 /// status is that of lack of memory.
-fn put_fault<A: Allocator + Copy>(
-    alloc: A,
-    why: ToolError,
-    room: &mut [u8],
-    length: &mut usize,
-) -> u8
+fn refuse<A: Allocator + Copy>(alloc: A, why: ToolError, room: &mut [u8], length: &mut usize) -> u8
     ensures { ((result ≡ status_of why)
         × IsText (tool_error_text why) room.old room.new length.new)
         ⊎ ((result ≡ 3) × ShowsNoMemory room.old room.new length.new) }

@@ -9,7 +9,7 @@ use std::io::Write;
 use thiserror::Error;
 
 /// The exit status where the words are refused.
-pub const REFUSED: u8 = 2;
+pub const WORDS_REFUSED: u8 = 2;
 
 /// The exit status where a stream fails, or an input has no end.
 pub const FAULT: u8 = 3;
@@ -75,7 +75,7 @@ pub fn explain<O: Write, E: Write>(error: &clap::Error, output: &mut O, errors: 
 {
     if error.use_stderr() {
         let _ = write!(errors, "{error}");
-        return REFUSED;
+        return WORDS_REFUSED;
     }
     match show(error, output) {
         Ok(()) => 0,

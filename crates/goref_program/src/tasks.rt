@@ -11,7 +11,7 @@ use std::io::{Read, Write};
 
 /// Does a task: reads from the one stream, writes to the other, and takes from the shelf the files that lines
 /// name.
-pub fn perform_on_streams<A: Allocator + Copy, R: Read + Drop, W: Write + Drop, S: Shelf<A>>(
+pub fn do_task<A: Allocator + Copy, R: Read + Drop, W: Write + Drop, S: Shelf<A>>(
     alloc: A,
     task: Task,
     input: R,

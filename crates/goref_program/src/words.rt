@@ -4,8 +4,8 @@ ghost use Rattle.std.specs.String.{string_bytes};
 ghost use Rattle.goref.specs.CommandLine.{texts_of};
 ghost use Rattle.goref_program.specs.Status.{FollowsWords};
 
-use crate::ends::{REFUSED, explain, report};
-use crate::tasks::perform_on_streams;
+use crate::ends::{WORDS_REFUSED, explain, report};
+use crate::tasks::do_task;
 use goref::{Shelf, task_of};
 use std::alloc::Global;
 use std::io::{Read, Write};
@@ -34,10 +34,10 @@ pub fn follow_words<R: Read + Drop, W: Write + Drop, E: Write, S: Shelf<Global>>
 }
 
 fn refuse_words<E: Write>(errors: &mut E) -> u8
-    ensures { result ≡ REFUSED }
+    ensures { result ≡ WORDS_REFUSED }
 {
     let _ = writeln!(errors, "goref: the words cannot be read");
-    REFUSED
+    WORDS_REFUSED
 }
 
 /// Does the task that the words name, or says why they name none.
@@ -53,10 +53,7 @@ fn follow_readable<R: Read + Drop, W: Write + Drop, E: Write, S: Shelf<Global>>(
     ensures silent { result ≡ 0 → errors.new ≡ errors.old }
 {
     match task_of(alloc, words.as_slice()) {
-        Ok(task) => report(
-            perform_on_streams(alloc, task, input, output, shelf),
-            errors,
-        ),
+        Ok(task) => report(do_task(alloc, task, input, output, shelf), errors),
         Err(error) => explain(&error, &mut output, errors),
     }
 }

@@ -18,7 +18,7 @@ pub fn int_argument(request: &Request, place: u16) -> Option<u32>
 }
 
 /// The number that an argument spells: `Some(None)` if there is no argument, `None` if it is malformed.
-pub fn number_argument(request: &Request, place: u16) -> Option<Option<u32>>
+pub fn optional_int_argument(request: &Request, place: u16) -> Option<Option<u32>>
     ensures { result ≡ number_asked (slice_get request.now.arguments place) }
 {
     match request.argument(place) {

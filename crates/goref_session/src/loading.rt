@@ -6,7 +6,7 @@ ghost use Rattle.goref_session.specs.Commands.{command_of};
 ghost use Rattle.goref_session.specs.Record.{load_of};
 ghost use Rattle.goref_session.specs.declared.command.Command.{Command};
 
-use crate::arguments::number_argument;
+use crate::arguments::optional_int_argument;
 use goref_lines::Request;
 
 /// A file to load. With a number, only the moves before that move.
@@ -32,6 +32,6 @@ pub fn parse_load<'a>(request: &Request<'a>) -> Option<Load<'a>>
         ≡ load_of request.now.arguments }
 {
     let name = request.argument(0)?;
-    let number = number_argument(request, 1)?;
+    let number = optional_int_argument(request, 1)?;
     Some(Load { name, number })
 }

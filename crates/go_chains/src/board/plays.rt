@@ -22,7 +22,7 @@ use std::alloc::Allocator;
 
 impl<K> Board<K> {
     /// Places a stone, takes off the opponent's chains that have no liberty then, and after them the
-    /// stone's own chain if it has none. It gives the numbers of stones that were taken off. Repetitions
+    /// stone's own chain if it has none. It returns how many stones of each colour it took off. Repetitions
     /// aren't looked for, and suicide is allowed. The log gets the play's changes.
     pub fn play<A: Allocator + Copy>(
         &mut self,

@@ -46,7 +46,7 @@ WalkedGame = Walk × GameValue
 
 -- the game, once a move was met
 abbrev pub playing : WalkedGame → Option GameValue
-playing at = if at.0.is_playing then Some at.1 else None
+playing at = if at.0.has_begun then Some at.1 else None
 
 -- from here on these events have the outcome
 abbrev pub Goes : WalkedGame → List Event → Outcome → Type 0

@@ -6,10 +6,10 @@ use Rattle.go_record.specs.MainLine.{Event, events_from}
 use Rattle.go_record.specs.inner.Progress.{Passes}
 use Rattle.go_record.proofs.replaying.visit_line.Given as goal
 
-abbrev pub invariant-loop-line : goal.invariant-loop-line
-invariant-loop-line g l = (t : Trees) → Spells l.source t → (left : List (List Property)) × IsLeft l.line [] [] left
+abbrev pub invariant-loop-cursor : goal.invariant-loop-cursor
+invariant-loop-cursor g l = (t : Trees) → Spells l.source t → (left : List (List Property)) × IsLeft l.cursor [] [] left
     × (done : List Event) × (done ++ events_from l.count left ≡ events_from 0 (main_line t))
     × Passes (l.fn.walk, l.fn.game) done (l.walk, l.game)
 
-abbrev pub decreases-loop-line : goal.decreases-loop-line
-decreases-loop-line g l = length l.line
+abbrev pub decreases-loop-cursor : goal.decreases-loop-cursor
+decreases-loop-cursor g l = length l.cursor

@@ -7,7 +7,7 @@ use Rattle.go_record.proofs.root.root_values.Goals as goal
 
 pub returns-then-not-next_node : goal.returns-then-not-next_node
 returns-then-not-next_node c =
-    let of = c.of-line.ensures in
+    let of = c.of-cursor.ensures in
     let none = no_first of.0 of.1.fit.trees (c.if-not-next_node.ensures.next [] [] (main_line of.0) of.2).0 in (
       of.0,
       of.1,
@@ -18,7 +18,7 @@ returns-then-not-next_node c =
 
 pub loop-name-init : goal.loop-name-init
 loop-name-init c =
-    let of = c.of-line.ensures in
+    let of = c.of-cursor.ensures in
     let next = c.if-not-next_node.ensures.next [] [] (main_line of.0) of.2 in
     let first = first_is of.0 next.0 next.1 of.1.fit.trees next.2 in (
       of.0,
@@ -42,7 +42,7 @@ loop-name-preserved c =
       (
         next.1,
         i.1,
-        c.first_value-value.ensures.line next.1 i.1 (next.0.values, next.4),
+        c.first_value-value.ensures.cursor next.1 i.1 (next.0.values, next.4),
         c.keep.ensures next.0 next.1 of.0 next.3 (c.first_value-value.ensures.value next.0.values next.1 i.1 next.4)
             (subst (λ (left : List Property). AreFoundOf c.loop-name.found left of.0) next.2 i.3),
       ),

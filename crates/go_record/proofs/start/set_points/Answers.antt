@@ -50,8 +50,8 @@ returns-clause-set c = λ values later nodes l.
     let end = c.in_default.ensures.next i.0 later nodes i.1 in
     set_whole c.args.grid.now.lines c.args.colour c.args.grid.now.colours values i.0 c.loop-value.grid.colours end.0 i.2
 
-pub returns-clause-line : goal.returns-clause-line
-returns-clause-line c = λ later nodes at.
+pub returns-clause-cursor : goal.returns-clause-cursor
+returns-clause-cursor c = λ later nodes at.
     let i = c.loop-value.invariant.set at.0 later nodes at.1 in
     ([], (c.in_default.ensures.next i.0 later nodes i.1).1)
 
@@ -67,8 +67,8 @@ returns-in_err-points_in-clause-bad c = rw c.from_residual.ensures (λ values la
     set_bad n c.args.colour c.args.grid.now.colours values value next.0 c.loop-value.grid.colours before
     (sym (c.in_err-points_in.ensures.value ∙ ap (λ (m : ℕ). points_listed m value) c.size-size.ensures.lines)))
 
-pub returns-in_err-points_in-clause-line : goal.returns-in_err-points_in-clause-line
-returns-in_err-points_in-clause-line c = λ later nodes at.
+pub returns-in_err-points_in-clause-cursor : goal.returns-in_err-points_in-clause-cursor
+returns-in_err-points_in-clause-cursor c = λ later nodes at.
     let i = c.loop-value.invariant.set at.0 later nodes at.1 in
     let next = c.in-Some.ensures.next i.0 later nodes i.1 in
     (next.0, next.2)

@@ -7,12 +7,12 @@ use Rattle.go_record.proofs.start.set_points.Given as goal
 abbrev pub invariant-loop-value : goal.invariant-loop-value
 invariant-loop-value l = record {
   lines : l.grid.lines ≡ l.fn.grid.lines;
-  onward : length l.line ≤ length l.fn.line;
+  onward : length l.cursor ≤ length l.fn.cursor;
   set : (values : List (List ℕ)) (later : List Property) (nodes : List (List Property)) →
-      IsLeft l.fn.line values later nodes →
-      (left : List (List ℕ)) × IsLeft l.line left later nodes
+      IsLeft l.fn.cursor values later nodes →
+      (left : List (List ℕ)) × IsLeft l.cursor left later nodes
       × SetSoFar l.fn.grid.lines l.colour l.fn.grid.colours values left l.grid.colours;
 }
 
 abbrev pub decreases-loop-value : goal.decreases-loop-value
-decreases-loop-value l = length l.line
+decreases-loop-value l = length l.cursor

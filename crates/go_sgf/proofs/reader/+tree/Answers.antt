@@ -2,7 +2,7 @@ use Rattle.std.proofs.Common.{◌≡◌, ◌<◌, [], ◌∷◌, ◌++◌, ℕ, 
 use Rattle.std.proofs.lemmas.Result.{err_from_is_err_and}
 use Rattle.std.specs.List.{flat_map}
 use Rattle.std.specs.Prelude.{option_map}
-use Rattle.go_sgf.specs.declared.error.Fault.TheVariants.{TooDeep}
+use Rattle.go_sgf.specs.declared.error.Stop.TheVariants.{Deep}
 use Rattle.go_sgf.specs.declared.limits.TheConstants.{MAX_DEPTH}
 use Rattle.go_sgf.specs.inner.Held.{trees_in}
 use Rattle.go_sgf.specs.inner.Outcome.{outcome}
@@ -17,7 +17,7 @@ use Rattle.go_sgf.proofs.reader.+tree.Goals as goal
 pub returns-then-depth-eq-MAX_DEPTH-clause-place : goal.returns-then-depth-eq-MAX_DEPTH-clause-place
 returns-then-depth-eq-MAX_DEPTH-clause-place g t c =
     let P : ℕ → Type 0 = λ k. outcome MAX_DEPTH closed k c.loop-inside.rest.now ≡ Err
-    (TooDeep (length c.loop-inside.rest.now)) in
+    (Deep (length c.loop-inside.rest.now)) in
     c.loop-inside.invariant.5.place
     ∙ subst P (sym c.if-depth-eq-MAX_DEPTH.true)
     (too_deep MAX_DEPTH c.loop-inside.rest.now c.in-Some.inside.now c.in-Some.ensures.stripped)

@@ -13,7 +13,7 @@ loop-inside-init g c = (
   [],
   c.no_trees-trees.ensures.kept,
   kept_where c.no_trees-trees.result c.no_trees-trees.ensures.some,
-  trees_first c.args.source.now c.from_tree-rest.result.now c.from_tree-rest.ensures
+  trees_first c.args.source.now c.from_first_tree-rest.result.now c.from_first_tree-rest.ensures
       (λ empty. let h = ap length empty in let e = c.if-is_empty.ensures in let e' = rw h at e in cc),
 )
 
@@ -58,5 +58,5 @@ returns-clause-read g c = (
 )
 
 pub returns-then-is_empty-clause-refused : goal.returns-then-is_empty-clause-refused
-returns-then-is_empty-clause-refused g c = sym c.from_tree-rest.ensures
+returns-then-is_empty-clause-refused g c = sym c.from_first_tree-rest.ensures
     ∙ nil_from_length _ (eqb-true _ 0 (sym c.if-is_empty.ensures))

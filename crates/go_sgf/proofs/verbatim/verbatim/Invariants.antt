@@ -5,11 +5,11 @@ use Rattle.go_sgf.proofs.verbatim.verbatim.Given as goal
 
 abbrev pub invariant-loop-more : goal.invariant-loop-more
 invariant-loop-more l = record {
-  stays : StaysTo Outside l.depth l.text l.there l.rest;
-  outside : l.there ≢ 0 → is_first 91 l.rest ≡ false;
-  bound : l.there + length l.rest ≤ l.depth + length l.text;
+  stays : StaysTo Outside l.depth l.text l.open l.rest;
+  outside : l.open ≢ 0 → is_first 91 l.rest ≡ false;
+  bound : l.open + length l.rest ≤ l.depth + length l.text;
   no_longer : length l.rest ≤ length l.text;
-  same : length l.rest ≡ length l.text → (l.rest ≡ l.text) × (l.there ≡ l.depth);
+  same : length l.rest ≡ length l.text → (l.rest ≡ l.text) × (l.open ≡ l.depth);
 }
 
 abbrev pub decreases-loop-more : goal.decreases-loop-more

@@ -8,7 +8,7 @@ pub loop-inside-init : goal.loop-inside-init
 loop-inside-init g c = (
   [],
   writes_nothing g.W.Sink c.args.pen.now,
-  none_written c.args.source.now c.from_tree-rest.result.now c.from_tree-rest.ensures,
+  none_written c.args.source.now c.from_first_tree-rest.result.now c.from_first_tree-rest.ensures,
 )
 
 pub loop-inside-preserved : goal.loop-inside-preserved

@@ -33,18 +33,18 @@ returns-in-Err-clause-repeats g c k e =
     (c.key-key.ensures.mover ∙ ap (mover_by c.self.inside.superko) c.other.ensures) k
     (c.in-Err.ensures.repeats k (same_error c.in-Err.error _ e)))
 
-pub returns-in-Ok-record_step-clause-legal : goal.returns-in-Ok-record_step-clause-legal
-returns-in-Ok-record_step-clause-legal g c =
+pub returns-in-Ok-note_step-clause-legal : goal.returns-in-Ok-note_step-clause-legal
+returns-in-Ok-note_step-clause-legal g c =
     let playable = subst (λ (v : GameValue). IsPlayable v.standing.lines (board_of v.standing) (At c.args.p))
     (sym c.self.view_is) (c.requires.on, c.requires.vacant) in
     subst (λ (v : GameValue). IsLegal v.standing c.args.colour (At c.args.p)) c.self.view_is
     (legal_put c.self.invariant.0 c.args.colour c.args.p c.play.new.self c.in-Ok.ensures.moved
     (record c.key-key.result { pack = c.write_pack.new.packed }) c.write_pack.ensures
     (c.key-key.ensures.mover ∙ ap (mover_by c.self.inside.superko) c.other.ensures) playable
-    c.in-Ok-record_step.ensures.lacked)
+    c.in-Ok-note_step.ensures.lacked)
 
-pub returns-in-Ok-record_step-clause-taken : goal.returns-in-Ok-record_step-clause-taken
-returns-in-Ok-record_step-clause-taken g c of =
+pub returns-in-Ok-note_step-clause-taken : goal.returns-in-Ok-note_step-clause-taken
+returns-in-Ok-note_step-clause-taken g c of =
     taken_put c.self.invariant.0 c.args.colour c.args.p c.play.new.self c.in-Ok.ensures.moved c.in-Ok.taken
     c.in-Ok.ensures.theirs c.in-Ok.ensures.own of
     ∙ ap (λ (v : GameValue). stones_taken v.standing c.args.colour (At c.args.p) of) c.self.view_is
@@ -76,18 +76,18 @@ rewind-requires-clause-cells g c earlier changes split =
     rewinds
     c.self.invariant.0 c.play.ensures.lines c.in-Ok.ensures.costs.logged earlier changes split
 
-pub invariant_of-self-in-Ok-record_step : goal.invariant_of-self-in-Ok-record_step
-invariant_of-self-in-Ok-record_step g c =
+pub invariant_of-self-in-Ok-note_step : goal.invariant_of-self-in-Ok-note_step
+invariant_of-self-in-Ok-note_step g c =
     let playable = subst (λ (v : GameValue). IsPlayable v.standing.lines (board_of v.standing) (At c.args.p))
     (sym c.self.view_is) (c.requires.on, c.requires.vacant) in
     let start = c.self.inside.start in
-    let made : map made_of c.record_step.new.steps.items ≡ map made_of c.self.inside.steps.items ++ made_of
+    let made : map made_of c.note_step.new.steps.items ≡ map made_of c.self.inside.steps.items ++ made_of
     (placed c.args.colour c.args.p c.in-Ok.taken) ∷ [] =
-    ap (λ (xs : List Step). map made_of xs) c.in-Ok-record_step.ensures.pushed
+    ap (λ (xs : List Step). map made_of xs) c.in-Ok-note_step.ensures.pushed
     ∙ made_push c.self.inside.steps.items (placed c.args.colour c.args.p c.in-Ok.taken) in (
       keep_put c.packs_tell_colourings_apart.ensures c.args.colour c.args.p c.in-Ok.taken
           (record c.key-key.result { pack = c.write_pack.new.packed }) c.self.invariant.0
-          c.in-Ok-record_step.ensures.pushed
+          c.in-Ok-note_step.ensures.pushed
           (record {
             lines = c.play.ensures.lines;
             moved_to = c.in-Ok.ensures.moved;
@@ -99,9 +99,9 @@ invariant_of-self-in-Ok-record_step g c =
             mover = c.key-key.ensures.mover ∙ ap (mover_by c.self.inside.superko) c.other.ensures;
             noted = record {
               known = None;
-              found = sym c.in-Ok-record_step.ensures.lacked;
+              found = sym c.in-Ok-note_step.ensures.lacked;
               noted = λ e.
-                  c.in-Ok-record_step.ensures.noted;
+                  c.in-Ok-note_step.ensures.noted;
               stood = λ j e. cc;
             };
           })
@@ -110,9 +110,9 @@ invariant_of-self-in-Ok-record_step g c =
           (legal_put c.self.invariant.0 c.args.colour c.args.p c.play.new.self c.in-Ok.ensures.moved
           (record c.key-key.result { pack = c.write_pack.new.packed }) c.write_pack.ensures
           (c.key-key.ensures.mover ∙ ap (mover_by c.self.inside.superko) c.other.ensures) playable
-          c.in-Ok-record_step.ensures.lacked) c.add.ensures.black c.add.ensures.white,
+          c.in-Ok-note_step.ensures.lacked) c.add.ensures.black c.add.ensures.white,
       placed_more c.self.inside.superko start.lines start.colours c.self.inside.first
-          (map made_of c.self.inside.steps.items) (map made_of c.record_step.new.steps.items)
+          (map made_of c.self.inside.steps.items) (map made_of c.note_step.new.steps.items)
           (made_of (placed c.args.colour c.args.p c.in-Ok.taken)) made c.self.inside.placed c.put.new.self
           (λ d row col there. (c.put.ensures d row col).1 (inr there))
           (placed_put c.points_by_number.ensures start.lines start.colours
@@ -134,8 +134,8 @@ invariant_of-self-in-Err g c = (
       (map made_of xs))) (sym c.in-Err.ensures.steps) c.self.invariant.1,
 )
 
-pub returns-in-Ok-record_step-clause-costs : goal.returns-in-Ok-record_step-clause-costs
-returns-in-Ok-record_step-clause-costs g c =
+pub returns-in-Ok-note_step-clause-costs : goal.returns-in-Ok-note_step-clause-costs
+returns-in-Ok-note_step-clause-costs g c =
     let most : most_of c.self.inside.board.lines (grid_of c.self.inside.board) c.args.colour
     (number_of c.self.inside.board.lines c.args.p) ≡ most_for c.args.self.now.standing c.args.colour (At c.args.p) =
     most_is c.self.invariant.0 c.args.colour c.args.p
@@ -143,13 +143,13 @@ returns-in-Ok-record_step-clause-costs g c =
     let before : c.self.inside.meter ≡ c.args.self.now.count = ap (λ (v : GameValue). v.count) c.self.view_is in
     let ticks = c.play.ensures.costs.count in
     let new : GameValue = seen (start_of c.self.inside.superko c.self.inside.start c.self.inside.komi
-    c.self.inside.first) c.record_step.new.steps.items c.play.new.self c.play.new.log c.play.new.meter in
+    c.self.inside.first) c.note_step.new.steps.items c.play.new.self c.play.new.log c.play.new.meter in
     record {
       err = search rules;
       logged = subst (λ (v : GameValue). IsLogged v new (most_for c.args.self.now.standing c.args.colour (At c.args.p)))
           c.self.view_is
-          (logged_put c.self.invariant.0 c.record_step.new.steps.items (placed c.args.colour c.args.p c.in-Ok.taken)
-          c.in-Ok-record_step.ensures.pushed c.args.p refl
+          (logged_put c.self.invariant.0 c.note_step.new.steps.items (placed c.args.colour c.args.p c.in-Ok.taken)
+          c.in-Ok-note_step.ensures.pushed c.args.p refl
           c.play.new.self c.play.new.log (most_of c.self.inside.board.lines (grid_of c.self.inside.board) c.args.colour
           (number_of c.self.inside.board.lines c.args.p))
           (most_for c.args.self.now.standing c.args.colour (At c.args.p)) c.self.inside.meter c.play.new.meter

@@ -37,7 +37,7 @@ loop-name-preserved g c = λ properties nodes l.
     let next = c.in-Some.ensures.next i.1.0 i.0 nodes i.1.1 in
     let kind_is = c.kind_of.ensures next.0 next.3 in (
       next.1,
-      c.visit_move.ensures.line next.1 nodes (next.0.values, next.4),
+      c.visit_move.ensures.cursor next.1 nodes (next.0.values, next.4),
       i.2 ++ f next.0,
       one_on f i.2 i.0 next.0 next.1 next.2 ∙ i.3,
       passes_passes i.4

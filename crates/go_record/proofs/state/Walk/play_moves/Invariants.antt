@@ -8,10 +8,10 @@ use Rattle.go_record.proofs.state.Walk.play_moves.Given as goal
 
 abbrev pub invariant-loop-name : goal.invariant-loop-name
 invariant-loop-name g l = (properties : List Property) (nodes : List (List Property)) →
-    IsLeft l.fn.line [] properties nodes →
-    (left : List Property) × IsAmongValues l.line left nodes
+    IsLeft l.fn.cursor [] properties nodes →
+    (left : List Property) × IsAmongValues l.cursor left nodes
     × (done : List Event) × (done ++ flat_map (move_event l.node) left ≡ flat_map (move_event l.node) properties)
     × Passes (l.fn.self, l.fn.game) done (l.self, l.game)
 
 abbrev pub decreases-loop-name : goal.decreases-loop-name
-decreases-loop-name g l = length l.line
+decreases-loop-name g l = length l.cursor

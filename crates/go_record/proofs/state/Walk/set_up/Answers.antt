@@ -49,7 +49,7 @@ loop-name-preserved c = record {
       let next = c.in-Some.ensures.next i.1.0 i.0 nodes i.1.1 in
       let kind_is = c.kind_of.ensures next.0 next.3 in (
         next.1,
-        c.visit_setup.ensures.line next.1 nodes (next.0.values, next.4),
+        c.visit_setup.ensures.cursor next.1 nodes (next.0.values, next.4),
         i.2 ++ f next.0,
         one_on f i.2 i.0 next.0 next.1 next.2 ∙ i.3,
         λ game. passes_passes (i.4 game)
@@ -81,8 +81,8 @@ returns-clause-moves c = λ properties nodes l.
     (sym (append-nil i.5) ∙ ap (λ (ps : List Property). i.5 ++ flat_map (move_event c.args.node) ps) (sym end.0) ∙ i.6)
     i.7
 
-pub returns-clause-line : goal.returns-clause-line
-returns-clause-line c = λ properties nodes l.
+pub returns-clause-cursor : goal.returns-clause-cursor
+returns-clause-cursor c = λ properties nodes l.
     let i = c.loop-name.invariant.passed properties nodes l in
     (c.in_default.ensures.next i.1.0 i.0 nodes i.1.1).1
 

@@ -9,9 +9,9 @@ use Rattle.go_record.proofs.state.Walk.set_up.Given as goal
 
 abbrev pub invariant-loop-name : goal.invariant-loop-name
 invariant-loop-name l = record {
-  onward : length l.line ≤ length l.fn.line;
-  passed : (properties : List Property) (nodes : List (List Property)) → IsLeft l.fn.line [] properties nodes →
-      (left : List Property) × IsAmongValues l.line left nodes
+  onward : length l.cursor ≤ length l.fn.cursor;
+  passed : (properties : List Property) (nodes : List (List Property)) → IsLeft l.fn.cursor [] properties nodes →
+      (left : List Property) × IsAmongValues l.cursor left nodes
       × (done : List Event) × (done ++ flat_map (setup_event l.node) left ≡ flat_map (setup_event l.node) properties)
       × ((game : GameValue) → Passes (l.fn.self, game) done (l.self, game))
       × (met : List Event) × (met ++ flat_map (move_event l.node) left ≡ flat_map (move_event l.node) properties)
@@ -19,4 +19,4 @@ invariant-loop-name l = record {
 }
 
 abbrev pub decreases-loop-name : goal.decreases-loop-name
-decreases-loop-name l = length l.line
+decreases-loop-name l = length l.cursor

@@ -19,9 +19,9 @@ returns-in_err-set_up-clause-walked g c = λ ps nodes l.
 
 pub returns-in-NoMove-clause-walked : goal.returns-in-NoMove-clause-walked
 returns-in-NoMove-clause-walked g c = λ ps nodes l.
-    let setup = flat_map (setup_event c.args.number) ps in
-    let none : flat_map (move_event c.args.number) ps ≡ [] =
-    subst (λ (m : MovesMet). AreMoves c.args.number m (flat_map (move_event c.args.number) ps)) c.in-NoMove.is
+    let setup = flat_map (setup_event c.args.node) ps in
+    let none : flat_map (move_event c.args.node) ps ≡ [] =
+    subst (λ (m : MovesMet). AreMoves c.args.node m (flat_map (move_event c.args.node) ps)) c.in-NoMove.is
     (c.in_ok-set_up.ensures.moves ps nodes l) in
     subst (λ (es : List Event). Passes (c.args.self.now, c.args.game.now) es (c.set_up.new.self, c.args.game.now))
     (sym (append-nil setup) ∙ ap (λ es. setup ++ es) (sym none))
@@ -29,13 +29,13 @@ returns-in-NoMove-clause-walked g c = λ ps nodes l.
 
 pub returns-in-OneMove-clause-walked : goal.returns-in-OneMove-clause-walked
 returns-in-OneMove-clause-walked g c = λ ps nodes l.
-    let one : flat_map (move_event c.args.number) ps ≡ move_met c.args.number c.in-OneMove.colour c.in-OneMove.value.now
+    let one : flat_map (move_event c.args.node) ps ≡ move_met c.args.node c.in-OneMove.colour c.in-OneMove.value.now
     ∷ [] =
-    subst (λ (m : MovesMet). AreMoves c.args.number m (flat_map (move_event c.args.number) ps)) c.in-OneMove.is
+    subst (λ (m : MovesMet). AreMoves c.args.node m (flat_map (move_event c.args.node) ps)) c.in-OneMove.is
     (c.in_ok-set_up.ensures.moves ps nodes l) in
     walked_after c.play_unless_over.result (c.args.self.now, c.args.game.now) (c.set_up.new.self, c.args.game.now)
     (c.play_unless_over.new.self, c.play_unless_over.new.game)
-    (flat_map (setup_event c.args.number) ps) (flat_map (move_event c.args.number) ps)
+    (flat_map (setup_event c.args.node) ps) (flat_map (move_event c.args.node) ps)
     (c.in_ok-set_up.ensures.walked ps nodes l c.args.game.now)
     (subst (λ (es : List Event). Walked c.play_unless_over.result (c.set_up.new.self, c.args.game.now) es
     (c.play_unless_over.new.self, c.play_unless_over.new.game)) (sym one) c.play_unless_over.ensures)
@@ -45,5 +45,5 @@ returns-in-MoreMoves-clause-walked g c = λ ps nodes l.
     let again : IsLeft c.fork-again.result [] ps nodes = rw c.fork-again.ensures l in
     walked_after c.play_moves.result (c.args.self.now, c.args.game.now) (c.set_up.new.self, c.args.game.now)
     (c.play_moves.new.self, c.play_moves.new.game)
-    (flat_map (setup_event c.args.number) ps) (flat_map (move_event c.args.number) ps)
+    (flat_map (setup_event c.args.node) ps) (flat_map (move_event c.args.node) ps)
     (c.in_ok-set_up.ensures.walked ps nodes l c.args.game.now) (c.play_moves.ensures ps nodes again)

@@ -9,12 +9,12 @@ returns-in-Some c =
       s.0,
       s.1,
       line_first c.args.source.now c.in-Some.rest.now s.0 s.1
-          (ap tree_in (sym c.source.ensures.source) ∙ sym c.from_tree.ensures ∙ c.in-Some.ensures.stripped),
+          (ap tree_in (sym c.source.ensures.source) ∙ sym c.from_first_tree.ensures ∙ c.in-Some.ensures.stripped),
     )
 
 pub returns-in-None : goal.returns-in-None
 returns-in-None c =
     let s = c.source.ensures.spelled in
     absurd (some_first c.args.source.now s.0 s.1
-    (ap (λ b. is_first 40 (tree_in b)) (sym c.source.ensures.source) ∙ ap (is_first 40) (sym c.from_tree.ensures)
+    (ap (λ b. is_first 40 (tree_in b)) (sym c.source.ensures.source) ∙ ap (is_first 40) (sym c.from_first_tree.ensures)
     ∙ c.in-None.ensures.other))

@@ -1,5 +1,5 @@
 use Rattle.std.proofs.Common.{rules}
-use Rattle.go_game.proofs.play.record_step.Goals as goal
+use Rattle.go_game.proofs.play.note_step.Goals as goal
 
 pub returns-clause-noted : goal.returns-clause-noted
 returns-clause-noted g c = search rules
