@@ -6,27 +6,24 @@ use Rattle.go_board.specs.Device.{after_bytes, ends_after}
 use Rattle.go_game.specs.Standings.{Standing}
 use Rattle.goref_lines.specs.Kept.{Kept}
 use Rattle.goref.specs.Lines.{lines}
-use Rattle.goref.specs.Shelves.{Pair}
 use Rattle.goref.specs.Conversation.{BreaksOff}
 use Rattle.goref.specs.inner.Progress.{Progress}
-use Rattle.goref.specs.Runs.{AnswersComplete, AnswersPrefix}
+use Rattle.goref.specs.Runs.{AnswersComplete, AnswersPrefix, Devices}
 use Rattle.goref.specs.lemmas.Conversations.{so_far}
 
 -- the complete lines of what was read are answered
-pub answers_complete : {s now : Standing} {read : List ℕ} {line : Kept} {left left' : Option (List ℕ)}
-    {given given' : Option (List Pair)} {taken taken' : Option (List ℕ)} →
-    left ≡ after_bytes read left' → Progress s read line now given given' taken taken' →
-    AnswersComplete s left left' given given' taken taken'
+pub answers_complete : {s now : Standing} {read : List ℕ} {line : Kept} {old new : Devices} →
+    old.left ≡ after_bytes read new.left → Progress s read line now old.given new.given old.taken new.taken →
+    AnswersComplete s old new
 answers_complete {s} {now} {read} e p = record {
   read = read;
   has_read = e;
   converses = so_far p.goes_on;
 }
 
-pub answers_prefix : {s : Standing} {left left' : Option (List ℕ)} {given given' : Option (List Pair)}
-    {taken taken' : Option (List ℕ)} (read : List ℕ) →
-    left ≡ after_bytes read left' → BreaksOff s (lines read) given given' taken taken' →
-    AnswersPrefix s left left' given given' taken taken'
+pub answers_prefix : {s : Standing} {old new : Devices} (read : List ℕ) →
+    old.left ≡ after_bytes read new.left → BreaksOff s (lines read) old.given new.given old.taken new.taken →
+    AnswersPrefix s old new
 answers_prefix read e b = record { read = read; has_read = e; breaks_off = b }
 
 -- what holds of what was read holds of the input, where that has ended

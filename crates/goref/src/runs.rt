@@ -12,7 +12,7 @@ ghost use Rattle.goref.specs.Shelves.{Pair};
 ghost use Rattle.goref_session.specs.declared.flow.Flow.{Flow};
 ghost use Rattle.goref.specs.Conversation.{AnswersLines, Responds};
 ghost use Rattle.goref.specs.inner.Progress.{Fetches, Flushes, Progress, Proceeds};
-ghost use Rattle.goref.specs.Runs.{Runs};
+ghost use Rattle.goref.specs.Runs.{Runs, devices_of};
 
 use crate::error::RunError;
 use crate::shelf::Shelf;
@@ -38,8 +38,9 @@ pub fn run<A: Allocator + Copy, R: Source, W: Sink, S: Shelf<A>>(
     writer: &mut W,
     shelf: &mut S,
 ) -> Result<(), RunError>
-    ensures { Runs READS (begun size) R.Source W.Sink result reader.old reader.new
-        writer.old writer.new (S.given shelf.old) (S.given shelf.new) }
+    ensures { Runs READS (begun size) result
+        (devices_of R.Source W.Sink reader.old writer.old (S.given shelf.old))
+        (devices_of R.Source W.Sink reader.new writer.new (S.given shelf.new)) }
 {
     run_within(alloc, READS, size, reader, writer, shelf)
 }
@@ -53,8 +54,9 @@ pub fn run_within<A: Allocator + Copy, R: Source, W: Sink, S: Shelf<A>>(
     writer: &mut W,
     shelf: &mut S,
 ) -> Result<(), RunError>
-    ensures { Runs limit (begun size) R.Source W.Sink result reader.old reader.new
-        writer.old writer.new (S.given shelf.old) (S.given shelf.new) }
+    ensures { Runs limit (begun size) result
+        (devices_of R.Source W.Sink reader.old writer.old (S.given shelf.old))
+        (devices_of R.Source W.Sink reader.new writer.new (S.given shelf.new)) }
 {
     let mut session = Session::new(alloc, size);
     run_from(limit, &mut session, reader, writer, shelf)
@@ -90,8 +92,9 @@ fn run_from<A: Allocator + Copy, R: Source, W: Sink, S: Shelf<A>>(
     writer: &mut W,
     shelf: &mut S,
 ) -> Result<(), RunError>
-    ensures { Runs limit session.old R.Source W.Sink result reader.old reader.new
-        writer.old writer.new (S.given shelf.old) (S.given shelf.new) }
+    ensures { Runs limit session.old result
+        (devices_of R.Source W.Sink reader.old writer.old (S.given shelf.old))
+        (devices_of R.Source W.Sink reader.new writer.new (S.given shelf.new)) }
 {
     some_reply();
     let mut line = Line::new();

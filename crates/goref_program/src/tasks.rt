@@ -1,5 +1,6 @@
 //! What each task does on its streams.
 ghost use Rattle.std.specs.Prelude.{IfErr};
+ghost use Rattle.goref.specs.Runs.{devices_of};
 ghost use Rattle.goref_program.specs.Tasks.{IsFaultOf, Performs};
 
 use crate::ends::Fault;
@@ -37,8 +38,9 @@ fn perform<A: Allocator + Copy, R: Source, W: Sink, S: Shelf<A>>(
     output: &mut W,
     shelf: &mut S,
 ) -> Result<(), Fault>
-    ensures { Performs task R.Source W.Sink result input.old input.new output.old output.new
-        (S.given shelf.old) (S.given shelf.new) }
+    ensures { Performs task result
+        (devices_of R.Source W.Sink input.old output.old (S.given shelf.old))
+        (devices_of R.Source W.Sink input.new output.new (S.given shelf.new)) }
 {
     match task {
         Task::Gtp(size) => run(alloc, size, input, output, shelf)?,

@@ -13,7 +13,7 @@ use Rattle.goref_session.specs.Decisions.{Decided, keeps}
 use Rattle.goref_session.specs.Record.{DecidesContent, DecidesLoad, Load, load_of}
 use Rattle.goref_session.specs.Table.{DecidesIf, DecidesOn}
 use Rattle.goref_session.specs.declared.command.Command.{Command}
-use Rattle.goref_session.specs.declared.command.Command.TheVariants.{Tells, KnownCommand, Quit, Boardsize, ClearBoard, Komi, Play, Genmove, Undo, RegGenmove, Loadsgf, FixedHandicap, PlaceFreeHandicap, SetFreeHandicap, TimeSettings, TimeLeft, Legal, Superko}
+use Rattle.goref_session.specs.declared.command.Command.TheVariants.{Asks, KnownCommand, Quit, Boardsize, ClearBoard, Komi, Play, Genmove, Undo, RegGenmove, Loadsgf, FixedHandicap, PlaceFreeHandicap, SetFreeHandicap, TimeSettings, TimeLeft, Legal, Superko}
 use Rattle.goref_session.specs.declared.decision.Decision.TheVariants.{Refused}
 use Rattle.goref_session.specs.declared.decision.Refusal.TheVariants.{LineTooLong}
 
@@ -30,7 +30,7 @@ on_load s (Some load) content = on_content s content load.number
 
 on_command : (s : Standing) (c : Command) (arguments : List (List ℕ)) (content : Content) → (d : Decided)
     × DecidesOn s c arguments content d
-on_command s (Tells topic) arguments content = (_, refl)
+on_command s (Asks topic) arguments content = (_, refl)
 on_command s KnownCommand arguments content = (_, refl)
 on_command s Quit arguments content = (_, refl)
 on_command s Boardsize arguments content = (_, refl)

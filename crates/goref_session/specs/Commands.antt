@@ -2,7 +2,7 @@
 use Rattle.std.specs.Prelude.{ℕ, List, [], ◌∷◌, Option, codes, find, map, option_map}
 use Rattle.std.specs.Str.{bytes_eq}
 use Rattle.goref_session.specs.declared.command.Command.{Command}
-use Rattle.goref_session.specs.declared.command.Command.TheVariants.{Tells, KnownCommand, Quit, Boardsize, ClearBoard, Komi, Play, Genmove, Undo, RegGenmove, Loadsgf, FixedHandicap, PlaceFreeHandicap, SetFreeHandicap, TimeSettings, TimeLeft, Legal, Superko}
+use Rattle.goref_session.specs.declared.command.Command.TheVariants.{Asks, KnownCommand, Quit, Boardsize, ClearBoard, Komi, Play, Genmove, Undo, RegGenmove, Loadsgf, FixedHandicap, PlaceFreeHandicap, SetFreeHandicap, TimeSettings, TimeLeft, Legal, Superko}
 use Rattle.goref_session.specs.declared.command.Topic.TheVariants.{Protocol, Program, Release, Commands, Score, Board, Chains, Record}
 
 -- the name by which a line asks for a command, and the command
@@ -12,11 +12,11 @@ Named = List ℕ × Command
 -- all commands, in the order in which they are listed
 abbrev pub commands : List Named
 commands =
-    (codes "protocol_version", Tells Protocol)
-    ∷ (codes "name", Tells Program)
-    ∷ (codes "version", Tells Release)
+    (codes "protocol_version", Asks Protocol)
+    ∷ (codes "name", Asks Program)
+    ∷ (codes "version", Asks Release)
     ∷ (codes "known_command", KnownCommand)
-    ∷ (codes "list_commands", Tells Commands)
+    ∷ (codes "list_commands", Asks Commands)
     ∷ (codes "quit", Quit)
     ∷ (codes "boardsize", Boardsize)
     ∷ (codes "clear_board", ClearBoard)
@@ -29,13 +29,13 @@ commands =
     ∷ (codes "fixed_handicap", FixedHandicap)
     ∷ (codes "place_free_handicap", PlaceFreeHandicap)
     ∷ (codes "set_free_handicap", SetFreeHandicap)
-    ∷ (codes "final_score", Tells Score)
-    ∷ (codes "showboard", Tells Board)
+    ∷ (codes "final_score", Asks Score)
+    ∷ (codes "showboard", Asks Board)
     ∷ (codes "time_settings", TimeSettings)
     ∷ (codes "time_left", TimeLeft)
-    ∷ (codes "goref-chains", Tells Chains)
+    ∷ (codes "goref-chains", Asks Chains)
     ∷ (codes "goref-legal", Legal)
-    ∷ (codes "goref-printsgf", Tells Record)
+    ∷ (codes "goref-printsgf", Asks Record)
     ∷ (codes "goref-superko", Superko)
     ∷ []
 

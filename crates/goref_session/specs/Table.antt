@@ -14,7 +14,7 @@ use Rattle.goref_session.specs.Starts.{emptied}
 use Rattle.goref_session.specs.Telling.{decided_known, decided_topic}
 use Rattle.goref_session.specs.Time.{decided_left, decided_settings}
 use Rattle.goref_session.specs.declared.command.Command.{Command}
-use Rattle.goref_session.specs.declared.command.Command.TheVariants.{Tells, KnownCommand, Quit, Boardsize, ClearBoard, Komi, Play, Genmove, Undo, RegGenmove, Loadsgf, FixedHandicap, PlaceFreeHandicap, SetFreeHandicap, TimeSettings, TimeLeft, Legal, Superko}
+use Rattle.goref_session.specs.declared.command.Command.TheVariants.{Asks, KnownCommand, Quit, Boardsize, ClearBoard, Komi, Play, Genmove, Undo, RegGenmove, Loadsgf, FixedHandicap, PlaceFreeHandicap, SetFreeHandicap, TimeSettings, TimeLeft, Legal, Superko}
 use Rattle.goref_session.specs.declared.decision.Decision.TheVariants.{Ends, Refused}
 use Rattle.goref_session.specs.declared.decision.Refusal.TheVariants.{UnknownCommand}
 use Rattle.goref_lines.specs.Requests.{Asked}
@@ -22,7 +22,7 @@ use Rattle.goref_lines.specs.Stones.{stones_listed}
 
 -- what may be decided on a command with these arguments, the content being what was fetched for it
 abbrev pub DecidesOn : Standing → Command → List (List ℕ) → Content → Decided → Type 0
-DecidesOn s (Tells topic) arguments content d = d ≡ decided_topic s topic
+DecidesOn s (Asks topic) arguments content d = d ≡ decided_topic s topic
 DecidesOn s KnownCommand arguments content d = d ≡ decided_known s (slice_get arguments 0)
 DecidesOn s Quit arguments content d = d ≡ keeps s Ends
 DecidesOn s Boardsize arguments content d = d ≡ decided_size s (int_given arguments 0)

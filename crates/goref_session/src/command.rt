@@ -9,7 +9,7 @@ use goref_lines::Request;
 #[derive(Clone, Copy, Debug, PartialEq, Eq)]
 pub enum Command {
     /// A question about a topic. There are no arguments.
-    Tells(Topic),
+    Asks(Topic),
     KnownCommand,
     Quit,
     Boardsize,
@@ -52,11 +52,11 @@ pub enum Topic {
 
 /// All commands with their names, in the order in which they are listed.
 pub const COMMANDS: &[(&[u8], Command)] = &[
-    (b"protocol_version", Command::Tells(Topic::Protocol)),
-    (b"name", Command::Tells(Topic::Program)),
-    (b"version", Command::Tells(Topic::Release)),
+    (b"protocol_version", Command::Asks(Topic::Protocol)),
+    (b"name", Command::Asks(Topic::Program)),
+    (b"version", Command::Asks(Topic::Release)),
     (b"known_command", Command::KnownCommand),
-    (b"list_commands", Command::Tells(Topic::Commands)),
+    (b"list_commands", Command::Asks(Topic::Commands)),
     (b"quit", Command::Quit),
     (b"boardsize", Command::Boardsize),
     (b"clear_board", Command::ClearBoard),
@@ -69,13 +69,13 @@ pub const COMMANDS: &[(&[u8], Command)] = &[
     (b"fixed_handicap", Command::FixedHandicap),
     (b"place_free_handicap", Command::PlaceFreeHandicap),
     (b"set_free_handicap", Command::SetFreeHandicap),
-    (b"final_score", Command::Tells(Topic::Score)),
-    (b"showboard", Command::Tells(Topic::Board)),
+    (b"final_score", Command::Asks(Topic::Score)),
+    (b"showboard", Command::Asks(Topic::Board)),
     (b"time_settings", Command::TimeSettings),
     (b"time_left", Command::TimeLeft),
-    (b"goref-chains", Command::Tells(Topic::Chains)),
+    (b"goref-chains", Command::Asks(Topic::Chains)),
     (b"goref-legal", Command::Legal),
-    (b"goref-printsgf", Command::Tells(Topic::Record)),
+    (b"goref-printsgf", Command::Asks(Topic::Record)),
     (b"goref-superko", Command::Superko),
 ];
 

@@ -5,7 +5,7 @@ ghost use Rattle.goref_session.specs.Record.{DecidesBytes};
 ghost use Rattle.goref_session.specs.inner.Refusing.{after_load};
 ghost use Rattle.goref_session.specs.inner.Played.{played_of};
 
-use crate::commands::record::{Record, load_into};
+use crate::commands::record::{ToLoad, load_into};
 use crate::decision::Refusal;
 use go_board::Size;
 use go_game::Game;
@@ -33,7 +33,7 @@ impl<A: Allocator + Copy> Second<A> {
 
     /// Loads a record into the game that isn't played, which is then the one that is played. The other gives
     /// its memory back, but for a small hash table.
-    pub fn load(&mut self, first: &mut Game<A>, to_load: &Record) -> Result<(), Refusal>
+    pub fn load(&mut self, first: &mut Game<A>, to_load: &ToLoad) -> Result<(), Refusal>
         ensures decides { (s : Standing) → s ≡ played_of first.old.standing (Some self.old) →
             DecidesBytes s to_load.now.bytes.now to_load.now.number
             (after_load s (played_of first.new.standing (Some self.new)) result) }

@@ -19,7 +19,7 @@ ghost use Rattle.goref_lines.specs.Words.{has_bytes};
 
 use crate::answer::write_answer;
 use crate::command::{Command, command_asked};
-use crate::commands::record::{Record, record_to_load};
+use crate::commands::record::{ToLoad, record_to_load};
 use crate::commands::{handicap, play, setup, telling, time};
 use crate::decision::{Decision, Fact, Refusal};
 use crate::fetched::Fetched;
@@ -144,7 +144,7 @@ impl<A: Allocator + Copy> Session<A> {
     }
 
     /// Loads a record, and plays on its game. A refusal leaves the session as it was.
-    fn load(&mut self, to_load: &Record) -> Result<(), Refusal>
+    fn load(&mut self, to_load: &ToLoad) -> Result<(), Refusal>
         ensures decides { DecidesBytes self.old to_load.now.bytes.now to_load.now.number
             (after_load self.old self.new result) }
         ensures stays { OnErr result (self.new ≡ self.old) }
@@ -220,7 +220,7 @@ fn decide_on<A: Allocator + Copy>(
 {
     let decision = match command_asked(request) {
         None => Decision::Refused(Refusal::UnknownCommand),
-        Some(Command::Tells(topic)) => Decision::Tells(Fact::About(topic)),
+        Some(Command::Asks(topic)) => Decision::Tells(Fact::About(topic)),
         Some(Command::KnownCommand) => telling::decide_known(request),
         Some(Command::Quit) => Decision::Ends,
         Some(Command::Boardsize) => setup::decide_size(game, request),

@@ -40,8 +40,8 @@ pub fn judge_run<A: Allocator + Copy, R: Source, W: Sink>(
     ensures devices { UsesDevices R.Source W.Sink result reader.old reader.new writer.old writer.new }
 {
     let text = read_input(alloc, reader)?;
-    let source = check(text.as_slice())?;
-    let verdict = judge_source(alloc, &source)?;
+    let checked = check(text.as_slice())?;
+    let verdict = judge_source(alloc, &checked)?;
     match write_verdict(verdict, writer) {
         Ok(()) => flush(writer),
         Err(WriteFault) => Err(ToolError::Write),

@@ -36,8 +36,8 @@ pub fn tidy_run<A: Allocator + Copy, R: Source, W: Sink>(
     ensures devices { UsesDevices R.Source W.Sink result reader.old reader.new writer.old writer.new }
 {
     let text = read_input(alloc, reader)?;
-    let source = check(text.as_slice())?;
-    match tidy(&source, writer) {
+    let checked = check(text.as_slice())?;
+    match tidy(&checked, writer) {
         Ok(()) => flush(writer),
         Err(WriteFault) => Err(ToolError::Write),
     }

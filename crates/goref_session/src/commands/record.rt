@@ -18,7 +18,7 @@ use std::alloc::Allocator;
 
 /// A record to load. With a number, only the moves before that move.
 #[derive(Clone, Copy)]
-pub struct Record<'a> {
+pub struct ToLoad<'a> {
     pub bytes: &'a [u8],
     pub number: Option<u32>,
 }
@@ -27,7 +27,7 @@ pub struct Record<'a> {
 pub fn record_to_load<'a, A: Allocator + Copy>(
     request: &Request,
     fetched: &'a Fetched<A>,
-) -> Result<Record<'a>, Refusal>
+) -> Result<ToLoad<'a>, Refusal>
     ensures asked { IfOk result (λ to_load. (s : Standing) (d : Decided) →
         DecidesBytes s to_load.bytes.now to_load.number d →
         DecidesLoad s (load_of request.now.arguments) (content_of fetched.now) d) }
@@ -39,7 +39,7 @@ pub fn record_to_load<'a, A: Allocator + Copy>(
         return Err(Refusal::SyntaxError);
     };
     match fetched {
-        Fetched::Bytes(bytes) => Ok(Record {
+        Fetched::Bytes(bytes) => Ok(ToLoad {
             bytes: bytes.as_slice(),
             number: load.number,
         }),
@@ -51,7 +51,7 @@ pub fn record_to_load<'a, A: Allocator + Copy>(
 }
 
 /// Replays a record into an empty game, or returns why not. After a refusal the game is empty.
-pub fn load_into<A: Allocator + Copy>(game: &mut Game<A>, to_load: &Record) -> Result<(), Refusal>
+pub fn load_into<A: Allocator + Copy>(game: &mut Game<A>, to_load: &ToLoad) -> Result<(), Refusal>
     ensures { (s : Standing) → DecidesBytes s to_load.now.bytes.now to_load.now.number
         (after_load s game.new.standing result) }
 {
@@ -65,7 +65,7 @@ pub fn load_into<A: Allocator + Copy>(game: &mut Game<A>, to_load: &Record) -> R
 /// Replays a record into a game. The error tells lack of memory from other refusals.
 fn check_and_replay<A: Allocator + Copy>(
     game: &mut Game<A>,
-    to_load: &Record,
+    to_load: &ToLoad,
 ) -> Result<(), LoadError>
     ensures ok { OnOk result (Loads to_load.now.bytes.now to_load.now.number game.new.standing) }
     ensures cannot { IsErrOf result LoadError.Cannot
