@@ -3,8 +3,8 @@
 //!
 //! - [`Session`]: answers a [`Line`] over its game; [`Flow`] says whether it goes on.
 //! - [`wants`], [`Fetched`]: the file that a line names, and what was fetched for it.
-//! - [`run`], [`run_within`]: read lines from a device and answer each before the next read;
-//!   a [`Shelf`] gives the files, and [`RunError`] says why a run broke off.
+//! - [`run`], [`run_within`]: read lines from a device, fetch the file that a line names from a [`Shelf`],
+//!   write the answer, and only then read on. [`RunError`] says why a run broke off.
 //! - [`answer_lines`]: answers the lines of a text over a session that goes on afterwards.
 //! - [`tidy_run`], [`judge_run`]: write the canonical spelling of a record, and the verdict on it;
 //!   [`ToolError`] says why not. [`read_input`] reads a whole input, up to a record's limit.

@@ -1,4 +1,4 @@
-//! The bytes between words: white space and controls.
+//! Runs of white space and controls in a line. Only white space separates words.
 ghost use Rattle.std.specs.Prelude.{◌≡◌, ◌<◌, ◌≤◌, ◌++◌, IfSome, List, ℕ, length, take};
 ghost use Rattle.std.specs.List.{list_all, list_any, prefix_len};
 ghost use Rattle.goref_lines.specs.Kept.{is_control_byte};

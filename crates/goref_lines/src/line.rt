@@ -140,8 +140,8 @@ impl Line {
         }
     }
 
-    /// Takes a prefix of the bytes, and returns its length. It is words, a gap between words, or a single
-    /// byte.
+    /// Takes a prefix of the bytes, and returns its length. The prefix is words, a gap, or a single `#`. A
+    /// gap may also be before the first word or after the last, and one of controls alone within a word.
     fn push_prefix(&mut self, bytes: &[u8]) -> usize
         requires no_comment { self.old.has_comment ≡ false }
         requires bytes { 0 < length bytes.now }
@@ -234,8 +234,9 @@ fn words_prefix(bytes: &[u8]) -> usize
     words_end(start, bytes.len())
 }
 
-/// Where the words before `place` end. If a word begins at `start`, they end at `place`; else they end before
-/// the last space.
+/// Where the words before `place` end. `start` is where the next word would begin. If it is before `place`,
+/// the words end at `place`. Else the byte before `start`, if there is one, is a space, and the words end
+/// before it.
 fn words_end(start: usize, place: usize) -> usize
     ensures { result ≡ end_of_words start place }
 {

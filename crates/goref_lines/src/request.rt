@@ -77,7 +77,8 @@ impl<'a> Request<'a> {
     }
 }
 
-/// The id of a text whose end was cut off, if a space follows it: the last word may be incomplete.
+/// The id of a line that was cut off. It counts only if a space follows it, since the last word may be
+/// incomplete.
 pub fn id_of_cut(text: &[u8]) -> Option<u32>
     ensures { result ≡ id_before_space text.now }
 {

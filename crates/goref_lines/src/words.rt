@@ -8,7 +8,7 @@ use std::marker::Model;
 /// The words of a text that weren't taken yet.
 #[derive(Drop)]
 pub struct Words<'a> {
-    /// Words that are joined by single spaces.
+    /// The rest of the text: spaces, if any, then words with spaces between them.
     text: &'a [u8],
 }
 

@@ -11,7 +11,7 @@ use thiserror::Error;
 /// The exit status where the words are refused.
 pub const WORDS_REFUSED: u8 = 2;
 
-/// The exit status where a stream fails, or an input has no end.
+/// The exit status where a stream fails or an input has no end. A tool ends with it also where memory lacks.
 pub const FAULT: u8 = 3;
 
 /// Why a task didn't reach its end.
@@ -26,7 +26,7 @@ pub enum Fault {
 }
 
 impl Fault {
-    /// The exit status for it.
+    /// The exit status: 3 for a run. A tool's error has its own, 1 for a refused record and else 3.
     fn status(&self) -> u8
         ensures { result ≡ fault_status self.now }
     {

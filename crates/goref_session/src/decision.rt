@@ -15,7 +15,7 @@ pub enum Decision {
     Refused(Refusal),
 }
 
-/// The text of an answer.
+/// What an answer tells. `facts.rt` writes its text.
 #[derive(Drop)]
 pub enum Fact {
     /// The answer to a topic.

@@ -16,7 +16,7 @@ pub struct Load<'a> {
     pub number: Option<u32>,
 }
 
-/// Whether a request names `loadsgf`. Its name is compared with that of no other command.
+/// Whether a request names `loadsgf`. It compares the name with `loadsgf` only.
 pub fn asks_to_load(request: &Request) -> bool
     ensures { Decides result (option_and_then command_of request.now.name ≡ Some Command.Loadsgf) }
 {

@@ -31,8 +31,8 @@ impl<A: Allocator + Copy> Second<A> {
         })
     }
 
-    /// Loads a record into the game that isn't played, which is then the one that is played. The other gives
-    /// its memory back, but for a small hash table.
+    /// Loads a record into the game that isn't played. Then that game is the one that is played, under the
+    /// positional superko rule. The other gives its memory back, but for a small hash table.
     pub fn load(&mut self, first: &mut Game<A>, to_load: &ToLoad) -> Result<(), Refusal>
         ensures decides { (s : Standing) → s ≡ played_of first.old.standing (Some self.old) →
             DecidesBytes s to_load.now.bytes.now to_load.now.number

@@ -1,5 +1,6 @@
-//! A session answers lines over its game. It finds the function that decides on each command, and decides on
-//! `loadsgf` itself, because a load needs both games.
+//! A session has a game and, once it had a file to load, a second one. One of them is played: the session
+//! answers lines over that one. It finds the function that decides on each command, and decides on `loadsgf`
+//! itself, because a load needs both games.
 ghost use Rattle.std.specs.Prelude.{◌≡◌, IfNone, IfSome, Ok, OnErr, Some, false};
 ghost use Rattle.std.specs.Option.{option_and_then};
 ghost use Rattle.go_board.specs.Device.{failures_after};
@@ -34,8 +35,9 @@ use std::marker::Model;
 /// A game that is played by lines.
 #[derive(Drop)]
 pub struct Session<A: Allocator + Copy> {
+    /// The game that a session begins with.
     first: Game<A>,
-    /// The second game. The first load makes it.
+    /// `None` until a `loadsgf` line first has a file to load, and there is memory for a second game.
     second: Option<Second<A>>,
     alloc: A,
 }
@@ -104,8 +106,8 @@ impl<A: Allocator + Copy> Session<A> {
         }
     }
 
-    /// Answers a command. Returns `None` for `loadsgf`, which `decide_load` handles, and has then done
-    /// nothing.
+    /// Answers a command. For `loadsgf` it does nothing and returns `None`: `decide_load` handles that
+    /// command.
     fn answer_command<W: Sink>(
         &mut self,
         request: &Request,
@@ -143,7 +145,8 @@ impl<A: Allocator + Copy> Session<A> {
         }
     }
 
-    /// Loads a record, and plays on its game. A refusal leaves the session as it was.
+    /// Loads a record. From then on the session plays the record's game. A refusal leaves the session as it
+    /// was.
     fn load(&mut self, to_load: &ToLoad) -> Result<(), Refusal>
         ensures decides { DecidesBytes self.old to_load.now.bytes.now to_load.now.number
             (after_load self.old self.new result) }
@@ -164,7 +167,7 @@ impl<A: Allocator + Copy> Session<A> {
 }
 
 /// Answers a command over the game that is played. Returns `None` for `loadsgf`. A `Decision` is large, so
-/// this function writes the answer and doesn't return the decision.
+/// this function writes the answer, and the decision isn't returned once more, up to `answer`.
 fn answer_on<A: Allocator + Copy, W: Sink>(
     game: &mut Game<A>,
     alloc: A,

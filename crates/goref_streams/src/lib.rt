@@ -1,4 +1,5 @@
-//! The streams of the program as devices that count, with the output held back until it is flushed.
+//! Streams, such as standard input and output, as devices that count. The output is held back until it is
+//! flushed, or until 16,384 bytes are kept.
 #![tactic(auto)]
 
 ghost use Rattle.std.specs.Prelude.{◌≡◌, ◌≤◌, ◌<◌, ◌+◌, IfOk, None, OnOk, [], length, min};
@@ -14,8 +15,7 @@ use std::marker::Model;
 
 pub mod laws;
 
-/// The most bytes that an output keeps back: no diagram of a board and no list of its chains has
-/// more.
+/// The output keeps back at most this many bytes. Any diagram or list of chains fits.
 pub const KEPT: usize = 16_384;
 
 /// A stream that is read, as a device that doesn't show its bytes.
@@ -42,7 +42,7 @@ impl<R: Read> Model for Input<R> {
 }
 
 impl<R: Read> Input<R> {
-    /// A device over this stream, which nothing was read from.
+    /// A device over this stream. It has read nothing yet.
     pub fn new(stream: R) -> Input<R>
         ensures { result ≡ record {
           left = R.remaining stream;

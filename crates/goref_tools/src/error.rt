@@ -25,8 +25,7 @@ pub enum ToolError {
 }
 
 impl ToolError {
-    /// The exit status for it: 1 where the record is refused, 3 for any other fault, lack of memory among
-    /// them.
+    /// The exit status for it: 1 for a refused record, 3 for a device that fails or lack of memory.
     pub fn status(&self) -> u8
         ensures { result ≡ status_of self.now }
     {

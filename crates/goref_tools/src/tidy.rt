@@ -12,9 +12,9 @@ use go_board::{Sink, Source, WriteFault};
 use go_sgf::{check, tidy};
 use std::alloc::Allocator;
 
-/// Reads a record up to the end of the input, and writes its canonical spelling. Of an input that is too long
-/// for a record it reads one byte more than a record may have. Nothing is written before the whole record was
-/// read. The tool flushes the writer once, after the last byte.
+/// Reads a record up to the end of the input, and writes its canonical spelling. If the input is too long for
+/// a record, the tool reads one byte more than the largest record has, and stops. Nothing is written before
+/// the whole record was read. The tool flushes the writer once, after the last byte.
 ///
 /// # Errors
 ///

@@ -16,7 +16,7 @@ use go_sgf::{SgfError, check};
 use goref_lines::Request;
 use std::alloc::Allocator;
 
-/// A record to load. With a number, only the moves before that move.
+/// The bytes of a file to load, not yet checked. With a number, only the moves before that move count.
 #[derive(Clone, Copy)]
 pub struct ToLoad<'a> {
     pub bytes: &'a [u8],
@@ -50,7 +50,8 @@ pub fn record_to_load<'a, A: Allocator + Copy>(
     }
 }
 
-/// Replays a record into an empty game, or returns why not. After a refusal the game is empty.
+/// Replays a record into a game, whatever the game held, or returns why not. If the bytes are no record, the
+/// game stays as it was. After any other refusal it is empty.
 pub fn load_into<A: Allocator + Copy>(game: &mut Game<A>, to_load: &ToLoad) -> Result<(), Refusal>
     ensures { (s : Standing) → DecidesBytes s to_load.now.bytes.now to_load.now.number
         (after_load s game.new.standing result) }
