@@ -14,30 +14,30 @@ use go_board::{Meter, Size};
 use std::alloc::Allocator;
 
 /// Captures the chain on a point, if it has the colour `captured` and no liberty, and returns the number of its
-/// stones. Its points become liberties of chains of the colour `others`. Both are codes of colours.
+/// stones. Its points become liberties of chains of the colour `other_code`.
 pub fn capture_if_dead<K, A: Allocator + Copy>(
     cells: &mut Cells<K>,
     changes: &mut Vec<LoggedChange, A>,
     meter: &mut Meter<K>,
     size: Size,
     near: usize,
-    captured: u64,
-    others: u64,
+    captured_code: u64,
+    other_code: u64,
 ) -> usize
     requires tidy { AreTidy size cells.old }
     requires whole { AreWhole size cells.old }
     requires near { near < size * size }
-    requires colours { AreColours size cells.old captured others }
+    requires colours { AreColours size cells.old captured_code other_code }
     requires room { vec_len changes.old + 5 * MAX_POINTS ≤ vec_capacity changes.old }
-    ensures capturing { CapturesMore size cells.old cells.new captured }
-    ensures gone { TakesDead size cells.old cells.new captured near }
-    ensures stones { TakesStones size cells.old cells.new captured result }
+    ensures capturing { CapturesMore size cells.old cells.new captured_code }
+    ensures gone { TakesDead size cells.old cells.new captured_code near }
+    ensures stones { TakesStones size cells.old cells.new captured_code result }
     ensures few { result ≤ MAX_POINTS }
     ensures bound { result ≤ chain_size cells.old.numbers near }
     ensures edited { Edited cells.old cells.new changes.old changes.new meter.old meter.new
         (5 * result) (WORDS + 5 + 18 * result) }
 {
-    if cells.get(near, meter) != captured {
+    if cells.get(near, meter) != captured_code {
         return 0;
     }
     let label = cells.get(LABELS + near, meter) as usize;
@@ -45,37 +45,45 @@ pub fn capture_if_dead<K, A: Allocator + Copy>(
     if has_liberty_but(cells, meter, size, label, near) {
         return 0;
     }
-    take_off(cells, changes, meter, size, near, captured, others)
+    take_off(cells, changes, meter, size, near, captured_code, other_code)
 }
 
-/// Captures the chains of the colour `captured` on these points that have no liberty, and returns the number of
-/// their stones.
+/// Captures the chains of the colour `captured_code` on these points that have no liberty, and returns the
+/// number of their stones.
 pub fn capture_beside<K, A: Allocator + Copy>(
     cells: &mut Cells<K>,
     changes: &mut Vec<LoggedChange, A>,
     meter: &mut Meter<K>,
     size: Size,
     beside: &[usize],
-    captured: u64,
-    others: u64,
+    captured_code: u64,
+    other_code: u64,
 ) -> usize
     requires tidy { AreTidy size cells.old }
     requires whole { AreWhole size cells.old }
     requires few { length beside.now ≤ 4 }
     requires on { (i : ℕ) → i < length beside.now → slice_index beside.now i < size * size }
-    requires colours { AreColours size cells.old captured others }
+    requires colours { AreColours size cells.old captured_code other_code }
     requires room { vec_len changes.old + 20 * MAX_POINTS ≤ vec_capacity changes.old }
-    ensures capturing { Captures size cells.old cells.new captured }
+    ensures capturing { Captures size cells.old cells.new captured_code }
     ensures gone { (i : ℕ) → i < length beside.now
-        → TakesDead size cells.old cells.new captured (slice_index beside.now i) }
-    ensures stones { TakesStones size cells.old cells.new captured result }
+        → TakesDead size cells.old cells.new captured_code (slice_index beside.now i) }
+    ensures stones { TakesStones size cells.old cells.new captured_code result }
     ensures few { result ≤ 4 * MAX_POINTS }
     ensures edited { Edited cells.old cells.new changes.old changes.new meter.old meter.new
         (5 * result) (4 * (WORDS + 5) + 18 * result) }
 {
     let mut stones = 0;
     for near in beside {
-        stones += capture_if_dead(cells, changes, meter, size, *near, captured, others);
+        stones += capture_if_dead(
+            cells,
+            changes,
+            meter,
+            size,
+            *near,
+            captured_code,
+            other_code,
+        );
     }
     stones
 }

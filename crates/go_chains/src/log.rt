@@ -89,9 +89,9 @@ fn put_back_changes<K, A: Allocator + Copy>(
     }
 }
 
-/// Makes room for one more play, of at most `most` changes. The first play reserves `most`, and uses little of
-/// it. If that list grew, the allocator might copy all of it. So for the second play the changes in use are
-/// copied to a new list, which has room for two plays.
+/// Makes room for one more play, of at most `most` changes. The first play makes room for `most`, and uses
+/// little of it. To grow that list might copy all of it. So the second play, which finds room for just
+/// `most`, copies the changes in use to a new list with room for two plays.
 pub(crate) fn reserve_play<A: Allocator + Copy>(
     changes: &mut Vec<LoggedChange, A>,
     lengths: &mut Vec<usize, A>,

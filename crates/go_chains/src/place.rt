@@ -53,12 +53,12 @@ pub fn place<K, A: Allocator + Copy>(
 {
     joined_by_a_path();
     reaches_by_a_path();
-    let own = colour.code();
-    let theirs = colour.other().code();
-    occupy(cells, changes, meter, size, own, point, beside);
+    let own_code = colour.code();
+    let other_code = colour.other().code();
+    occupy(cells, changes, meter, size, own_code, point, beside);
     connect(cells, changes, meter, size, point, beside);
-    let captured = capture_beside(cells, changes, meter, size, beside, theirs, own);
-    let suicide = capture_if_dead(cells, changes, meter, size, point, own, theirs);
+    let captured = capture_beside(cells, changes, meter, size, beside, other_code, own_code);
+    let suicide = capture_if_dead(cells, changes, meter, size, point, own_code, other_code);
     Taken {
         theirs: captured as u16,
         own: suicide as u16,

@@ -36,8 +36,9 @@ pub struct Game<A: Allocator + Copy> {
     pub(crate) history: History<A>,
     /// The stones of each colour that were taken.
     pub(crate) prisoners: Prisoners,
-    /// Where stones were placed since the start, also by plays that `undo` took back. If a colour never had a
-    /// stone on a point, its play there that takes nothing repeats no position.
+    /// Where stones were placed since the start, also by plays that `undo` took back. The stones of the start
+    /// are in `start`. If a colour never had a stone on a point, its play there that takes nothing repeats no
+    /// position.
     pub(crate) placed: ByColour<Rows>,
 }
 

@@ -17,8 +17,8 @@ use std::alloc::Allocator;
 
 impl<A: Allocator + Copy> Game<A> {
     /// Plays a move: a pass, or a stone on an empty point. The superko rule must allow the position that the
-    /// stone leaves. Captured stones are taken, and then stones of the player's own that have no
-    /// liberty. A refused move changes nothing.
+    /// stone leaves. The move takes the opponent's chains that have no liberty. Then it takes the
+    /// stone's own chain, if that has none. A refused move changes nothing.
     pub fn play(&mut self, made: Move) -> Result<Taken, PlayError>
         ensures off_board { (result ≡ Err PlayError.OffBoard)
             ↔ IsOffBoard self.old.standing made.vertex }

@@ -33,7 +33,8 @@ pub struct History<A: Allocator + Copy> {
     alloc: A,
 }
 
-// `Drop` isn't derived: so who drops a history proves one call, and not the drop of each tree.
+// This `Drop` is written by hand, so that a caller that drops a history proves one call, and not the drop of
+// each tree.
 impl<A: Allocator + Copy> Drop for History<A> {
     /// Drops its keys.
     fn drop(self) {

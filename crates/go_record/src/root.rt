@@ -29,8 +29,8 @@ pub(crate) struct RootValues<'a> {
     pub(crate) result: &'a [u8],
 }
 
-/// The values at the root of a record. It isn't inlined into `judge_source`. There the compiler would add code
-/// that drops a game that was moved already.
+/// The values at the root of a record. It isn't inlined. Inlined into `judge_source`, it would make the
+/// compiler add code to drop a game that was given away already.
 #[inline(never)]
 pub(crate) fn root_values<'a>(source: &Checked<'a>) -> RootValues<'a>
     ensures { OfRecord source.now (IsRootOf result) }

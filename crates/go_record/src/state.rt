@@ -8,7 +8,7 @@ use go_board::{Colour, Grid};
 #[derive(Clone, Copy)]
 pub(crate) enum Left {
     All,
-    /// This number of moves more, and what is set up before the move after them.
+    /// This number of moves more. Set-up goes on until the move after them is met: with 0 the walk isn't over.
     Moves(u32),
     Nothing,
 }

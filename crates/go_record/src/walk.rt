@@ -121,7 +121,7 @@ impl Walk {
         Ok(())
     }
 
-    /// Plays the move of a property, if it is of that kind.
+    /// Plays the move of a property, if it is a move.
     fn visit_move<A: Allocator + Copy>(
         &mut self,
         game: &mut Game<A>,
@@ -143,8 +143,8 @@ impl Walk {
         }
     }
 
-    /// Gives the points of a property's values a colour, or empties them. Its contract wants the test of a walk
-    /// that is over; `visit_line` doesn't come here then.
+    /// Gives the points of a property's values a colour, or empties them. Its contract also covers a walk that
+    /// is over, so it tests for that, though `visit_line` doesn't call it then.
     fn set_stones(
         &mut self,
         colour: Option<Colour>,

@@ -1,5 +1,5 @@
-//! Why a source isn't a record, as an error and as a text. While it reads, the reader uses `Fault`, which
-//! counts the bytes that are left. Its callers get `SgfError`, which counts from the start of the source.
+//! Why a source isn't a record, as an error and as a text. While it reads, the reader uses `Stop`, which counts
+//! the bytes that are left. Its callers get `SgfError`, which counts from the start of the source.
 ghost use Rattle.std.specs.Prelude.{◌≡◌};
 
 use std::alloc::{AllocError, AllocFailed};

@@ -59,7 +59,7 @@ impl<T: Drop, A: Allocator + Copy> Few<T, A> {
         }
     }
 
-    /// Adds one more. Where there is no room for it, the others are lost too.
+    /// Adds one more. Where there is no room for it, the list may be empty then.
     pub(crate) fn push(&mut self, alloc: A, item: T) -> Result<(), AllocError>
         ensures { OnOk result (self.new ≡ self.old ++ item ∷ []) }
     {

@@ -7,7 +7,7 @@ ghost use Rattle.go_sgf.specs.Spelling.{tree_in};
 
 use crate::error::SgfError;
 use crate::keep::Nothing;
-use crate::reader::{placed, tree};
+use crate::reader::{error_of, tree};
 use crate::scan::from_first_tree;
 
 /// Where a game tree is in a source. A place is a byte's number in the source, from 0.
@@ -60,6 +60,6 @@ pub fn next_tree(source: &[u8], from: usize) -> Result<Option<TreeSpan>, SgfErro
             begin,
             end: source.len() - after.len(),
         })),
-        Err(fault) => Err(placed(fault, source.len())),
+        Err(stop) => Err(error_of(stop, source.len())),
     }
 }

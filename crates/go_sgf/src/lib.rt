@@ -1,8 +1,8 @@
 //! Records of games in the Smart Game Format: read, written, and the values in them.
 //!
 //! - [`read`], [`SgfError`]: a record from its bytes, or why they are none, and at which byte.
-//! - [`check`], [`Checked`]: checks a source without memory. Functions that read the source itself take a
-//!   `Checked`.
+//! - [`check`], [`Checked`]: checks a source without memory. Calls that need a record, and no
+//!   lists of its parts, take a `Checked`.
 //! - [`next_tree`], [`TreeSpan`], [`tree_begin`]: where the game trees of a source are, one after
 //!   another, with anything between them.
 //! - [`Collection`], [`Tree`], [`Node`], [`Property`]: the parts of a record, as lists of the parts

@@ -13,7 +13,7 @@ use std::alloc::{AllocError, Allocator};
 
 /// The point of a move, by two lower-case letters: the column from the left and the row from the
 /// top, `a` the first. An empty value is a pass, and so is `tt` on boards where it is no point.
-/// White space at both ends is skipped. None where the value is neither.
+/// None where the value is neither a point nor a pass. White space at both ends is skipped.
 pub fn point_of(value: &[u8], size: Size) -> Option<Vertex>
     ensures value { result ≡ vertex_in size value.now }
     ensures on { IfSome result (IsOnBoard size) }
@@ -55,9 +55,9 @@ fn is_line(letter: u8, size: Size) -> bool
     b'a' <= letter && letter <= b'z' && letter - b'a' < size.lines()
 }
 
-/// The points that one value names: a point, or two opposite corners of a rectangle with `:`
-/// between them, or nothing, for no point. White space at both ends of the value or of a corner is
-/// skipped. None where the value is malformed.
+/// The points that one value names. The value spells a point, or two opposite corners of a rectangle
+/// with `:` between them. An empty value names no point. White space at both ends of the value or of
+/// a corner is skipped. None where the value is malformed.
 pub fn points_in(value: &[u8], size: Size) -> Option<Rectangle>
     ensures value { option_map listed result ≡ points_listed size value.now }
     ensures on { IfSome result (λ r. All (IsOn size) (listed r)) }

@@ -24,7 +24,7 @@ use crate::scan::{
 use crate::values::value;
 use std::alloc::{AllocError, Allocator};
 
-/// Why reading stops where a text goes on with nothing that is allowed: a stray byte, or its end.
+/// Why reading stops at `rest`: `Stray` if a byte comes next, `End` if none does.
 fn unexpected(rest: &[u8]) -> Stop
     ensures { result ≡ here rest.now }
 {
@@ -185,7 +185,7 @@ fn nodes<'a, K: Keep>(
     while let Some(inside) = strip(rest, b';') {
         rest = node(keep, list, inside)?;
     }
-    // `tree` would refuse it too, but the contract says that the nodes are whole here.
+    // A `[` here follows no name. `tree` would refuse it too, but the contract says that none comes next.
     if begins_with(rest, b'[') {
         return Err(unexpected(rest));
     }
@@ -270,12 +270,12 @@ pub(crate) fn tree<'a, K: Keep>(
     Ok(after)
 }
 
-/// The error that callers get for a fault in a source of this length.
-pub(crate) fn placed(fault: Stop, length: usize) -> SgfError
-    requires { left_of fault ≤ length }
-    ensures { result ≡ error_at length fault }
+/// The error that callers get where reading stops, in a source of this length.
+pub(crate) fn error_of(stop: Stop, length: usize) -> SgfError
+    requires { left_of stop ≤ length }
+    ensures { result ≡ error_at length stop }
 {
-    match fault {
+    match stop {
         Stop::Memory => SgfError::Memory,
         Stop::End => SgfError::EndInside(length),
         Stop::Stray(left) => SgfError::Unexpected(length - left),
@@ -306,7 +306,7 @@ fn trees<'a, K: Keep>(
     while let Some(inside) = inside_tree(rest) {
         rest = match tree(keep, &mut trees, inside, 1) {
             Ok(after) => after_space(after),
-            Err(fault) => return Err(placed(fault, source.len())),
+            Err(stop) => return Err(error_of(stop, source.len())),
         };
     }
     Ok(trees)

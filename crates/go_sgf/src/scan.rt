@@ -1,5 +1,6 @@
 //! What a text begins with: white space, letters, a name, a tree. The searches for `]` and `\` are here too.
-//! They test blocks of 16 bytes. After four blocks `memchr2` searches the rest.
+//! They test 16 bytes at once, where there are so many. `first_stop` tests four times, and then `memchr2`
+//! searches.
 ghost use Rattle.std.specs.Prelude.{◌≡◌, ◌≢◌, ◌≤◌, ◌*◌, ◌∷◌, ◌++◌, ◌||◌, ◌==◌, ℕ, IfNone, IfSome, Some, false, length, map, min, take, true};
 ghost use Rattle.std.specs.List.{list_all, list_any};
 ghost use Rattle.std.specs.Simd.Lanes.{mask_l};

@@ -11,7 +11,8 @@ ghost use Rattle.go_sgf.specs.Stands.{in_value};
 
 use crate::scan::{near_bracket, ordinary};
 
-/// The value that `bytes` begins with after its `[`, and the text after its `]`. None where it has no end.
+/// The value and the text after its `]`, where `bytes` begins just after the value's `[`. None where the value
+/// has no end.
 #[inline]
 pub(crate) fn value(bytes: &[u8]) -> Option<(&[u8], &[u8])>
     ensures inside { IfSome result (λ v. IsValue v.0.now) }
@@ -43,7 +44,7 @@ pub(crate) fn value_end(bytes: &[u8]) -> Option<usize>
     }
 }
 
-/// The same, for a value of any length.
+/// As `value_end`, by a search that isn't limited to the first 16 bytes.
 #[inline(never)]
 fn far_end(bytes: &[u8]) -> Option<usize>
     ensures inside { IfSome result (λ place. IsValue (take place bytes.now)) }

@@ -37,7 +37,8 @@ pub(crate) fn verbatim(text: &[u8], depth: usize) -> Option<(&[u8], &[u8], usize
     Some((prefix, rest, open))
 }
 
-/// Skips one byte that is written. If a tree is still open then, it skips the properties that follow too.
+/// Passes over one byte that is written. If a tree is still open then, it passes over the properties that
+/// follow too.
 /// Returns the rest and the number of open trees there. `None` if the byte is left out, no tree is open, or
 /// the text is empty.
 #[inline]
@@ -79,9 +80,9 @@ fn depth_after(byte: u8, depth: usize) -> usize
     }
 }
 
-/// Skips values, upper-case letters and `;`, of which a record mostly consists, and returns the rest. It uses
-/// an index, which is faster than a slice for each byte. It isn't inlined, so text and index stay in
-/// registers.
+/// Passes over values, upper-case letters and `;`, and returns the rest. All of these are written as they
+/// are, and a record has little else. It uses an index, which is faster than a slice for each byte. It isn't
+/// inlined, so text and index stay in registers.
 #[inline(never)]
 fn after_properties(text: &[u8]) -> &[u8]
     ensures stays { (d : ℕ) → d ≢ 0 → StaysTo Outside d text.now d result.now }

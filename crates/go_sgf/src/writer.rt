@@ -55,9 +55,9 @@ fn put_trees<W: Sink>(source: &[u8], pen: &mut Pen<'_, W>)
     }
 }
 
-/// Writes what follows a tree's `(`, up to its `)`. It then skips white space, and returns the text from there.
-/// It writes each run of unchanged bytes in one piece. In a checked source each tree ends, so it never returns
-/// early.
+/// Writes what follows a tree's `(`, up to its `)` and with it. It then skips white space, and returns the
+/// text from there. It writes each run of unchanged bytes in one piece. In a checked source each tree ends,
+/// so it never returns early.
 fn put_tree<'a, W: Sink>(text: &'a [u8], pen: &mut Pen<'_, W>) -> &'a [u8]
     ensures written { Writes W.Sink pen.old pen.new (tidied_from Outside 1 text.now) }
     ensures rest { result.now ≡ without_space (rest_from Outside 1 text.now) }

@@ -28,9 +28,9 @@ use std::alloc::Allocator;
 pub const READS: u64 = 1 << 40;
 
 /// Reads lines and answers each before the next read, up to `quit` or to the end of the input. A last line
-/// without a line end is answered too. It makes at most [`READS`] reads. It returns `Endless` only after that
-/// number of reads; each of them gave a byte, and none found the end. Before each read the writer holds no
-/// answer back: the contract of [`run_within`] says so for each limit.
+/// without a line end is answered too. It makes at most [`READS`] reads. It returns `Endless` after that
+/// number of reads, if each gave at least one byte. It flushes each answer before it reads again: so the
+/// contract of [`run_within`] says of any number of reads.
 pub fn run<A: Allocator + Copy, R: Source, W: Sink, S: Shelf<A>>(
     alloc: A,
     size: Size,

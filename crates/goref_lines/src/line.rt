@@ -11,7 +11,7 @@ use arrayvec::ArrayVec;
 use memchr::memchr;
 use std::marker::Model;
 
-/// The most bytes that the words of a line have, joined by single spaces.
+/// The most bytes that are kept of a line's words, joined by single spaces.
 pub const LINE_LIMIT: usize = 8192;
 
 /// What is kept of a line as its bytes come in.
@@ -141,7 +141,7 @@ impl Line {
     }
 
     /// Takes a prefix of the bytes, and returns its length. The prefix is words, a gap, or a single `#`. A
-    /// gap may also be before the first word or after the last, and one of controls alone within a word.
+    /// gap is white space and controls, anywhere in the line. One of controls alone ends no word.
     fn push_prefix(&mut self, bytes: &[u8]) -> usize
         requires no_comment { self.old.has_comment ≡ false }
         requires bytes { 0 < length bytes.now }
@@ -234,9 +234,8 @@ fn words_prefix(bytes: &[u8]) -> usize
     words_end(start, bytes.len())
 }
 
-/// Where the words before `place` end. `start` is where the next word would begin. If it is before `place`,
-/// the words end at `place`. Else the byte before `start`, if there is one, is a space, and the words end
-/// before it.
+/// Where the words before `place` end. `start` is the place after the last single space, or 0. If a word begins
+/// there, the words end at `place`. If none does, they end before that space.
 fn words_end(start: usize, place: usize) -> usize
     ensures { result ≡ end_of_words start place }
 {

@@ -8,7 +8,7 @@ use goref::{RunError, ToolError};
 use std::io::Write;
 use thiserror::Error;
 
-/// The exit status where the words are refused.
+/// The exit status where the words are refused, or there is no memory for them.
 pub const WORDS_REFUSED: u8 = 2;
 
 /// The exit status where a stream fails or an input has no end. A tool ends with it also where memory lacks.

@@ -1,4 +1,5 @@
-//! Does the task that the program's words name, or writes a text, and returns the exit status.
+//! Does the task that the program's words name. If they name none, it writes the help, the version or a
+//! refusal. It returns the exit status.
 ghost use Rattle.std.specs.Prelude.{◌≡◌, ◌⊎◌, IfSome, None, map};
 ghost use Rattle.std.specs.String.{string_bytes};
 ghost use Rattle.goref.specs.CommandLine.{texts_of};
@@ -40,7 +41,7 @@ fn refuse_words<E: Write>(errors: &mut E) -> u8
     WORDS_REFUSED
 }
 
-/// Does the task that the words name, or says why they name none.
+/// Does the task that the words name. If they name none, it writes the help, the version or a refusal.
 fn follow_readable<R: Read + Drop, W: Write + Drop, E: Write, S: Shelf<Global>>(
     alloc: Global,
     words: &Vec<&str>,

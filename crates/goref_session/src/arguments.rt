@@ -17,7 +17,8 @@ pub fn int_argument(request: &Request, place: u16) -> Option<u32>
     read_int(request.argument(place)?)
 }
 
-/// The number that an argument spells: `Some(None)` if there is no argument, `None` if it is malformed.
+/// The number that an argument spells, or `Some(None)` where the argument is missing. `None` where it is no
+/// number.
 pub fn optional_int_argument(request: &Request, place: u16) -> Option<Option<u32>>
     ensures { result ≡ number_asked (slice_get request.now.arguments place) }
 {

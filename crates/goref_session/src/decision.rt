@@ -5,7 +5,7 @@ use goref_results::Plays;
 /// What is decided on a command. Its text is written afterwards.
 #[derive(Drop)]
 pub enum Decision {
-    /// Done, with an empty answer.
+    /// Done. The answer has no text.
     Done,
     /// Done, and the session ends.
     Ends,

@@ -1,4 +1,5 @@
-//! The second game of a session. It is a type of its own, and takes memory from the first load on.
+//! The second game of a session, and whether it is the one that is played. The first load takes the memory
+//! for it.
 ghost use Rattle.std.specs.Prelude.{◌≡◌, IfOk, OnErr, Some, false};
 ghost use Rattle.go_game.specs.Standings.{Standing};
 ghost use Rattle.goref_session.specs.Record.{DecidesBytes};

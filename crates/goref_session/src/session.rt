@@ -20,7 +20,7 @@ ghost use Rattle.goref_lines.specs.Words.{has_bytes};
 
 use crate::answer::write_answer;
 use crate::command::{Command, command_asked};
-use crate::commands::record::{ToLoad, record_to_load};
+use crate::commands::record::{ToLoad, bytes_to_load};
 use crate::commands::{handicap, play, setup, telling, time};
 use crate::decision::{Decision, Fact, Refusal};
 use crate::fetched::Fetched;
@@ -32,7 +32,7 @@ use goref_lines::{Line, Request, id_of_cut};
 use std::alloc::Allocator;
 use std::marker::Model;
 
-/// A game that is played by lines.
+/// One or two games, of which lines play one.
 #[derive(Drop)]
 pub struct Session<A: Allocator + Copy> {
     /// The game that a session begins with.
@@ -135,7 +135,7 @@ impl<A: Allocator + Copy> Session<A> {
         ensures { DecidesLoad self.old (load_of request.now.arguments) (content_of fetched.now)
             (record { decision = result; standing = self.new }) }
     {
-        let to_load = match record_to_load(request, fetched) {
+        let to_load = match bytes_to_load(request, fetched) {
             Ok(to_load) => to_load,
             Err(why) => return Decision::Refused(why),
         };
@@ -166,8 +166,8 @@ impl<A: Allocator + Copy> Session<A> {
     }
 }
 
-/// Answers a command over the game that is played. Returns `None` for `loadsgf`. A `Decision` is large, so
-/// this function writes the answer, and the decision isn't returned once more, up to `answer`.
+/// Answers a command over the game that is played. Returns `None` for `loadsgf`. It writes
+/// the answer itself: a `Decision` is large, and to return it to `answer` would move it once more.
 fn answer_on<A: Allocator + Copy, W: Sink>(
     game: &mut Game<A>,
     alloc: A,
@@ -207,8 +207,8 @@ fn write_decision<A: Allocator + Copy, W: Sink>(
     }
 }
 
-/// Decides on a command over the game that is played. Returns `None` for `loadsgf`, which needs both games
-/// and has a function of its own.
+/// Carries a command out on the game that is played, and returns what is to be answered. Returns `None` for
+/// `loadsgf`, which needs both games and has a function of its own.
 fn decide_on<A: Allocator + Copy>(
     game: &mut Game<A>,
     alloc: A,

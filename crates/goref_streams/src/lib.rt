@@ -1,5 +1,5 @@
-//! Streams, such as standard input and output, as devices that count. The output is held back until it is
-//! flushed, or until 16,384 bytes are kept.
+//! Streams, such as standard input and output, as devices. For contracts a device counts its failures, and an
+//! input its reads and ends. An output holds bytes back until it is flushed, or is full and gets more.
 #![tactic(auto)]
 
 ghost use Rattle.std.specs.Prelude.{◌≡◌, ◌≤◌, ◌<◌, ◌+◌, IfOk, None, OnOk, [], length, min};
@@ -18,7 +18,7 @@ pub mod laws;
 /// The output keeps back at most this many bytes. Any diagram or list of chains fits.
 pub const KEPT: usize = 16_384;
 
-/// A stream that is read, as a device that doesn't show its bytes.
+/// A stream that is read, as a device. Contracts don't see its bytes: `left` is `None`.
 #[derive(Drop)]
 pub struct Input<R: Read> {
     stream: R,
@@ -110,8 +110,8 @@ fn read_again<R: Read>(stream: &mut R, buffer: &mut [u8]) -> io::Result<usize>
     Err(io::Error::from(ErrorKind::Interrupted))
 }
 
-/// A stream that is written, as a device that doesn't show its bytes. It keeps bytes until it is full or
-/// flushed. If the stream then fails, the kept bytes are lost.
+/// A stream that is written, as a device. Contracts don't see its bytes: `taken` is `None`. It keeps bytes
+/// until it is flushed, or is full and gets more. If the stream then fails, the kept bytes are lost.
 #[derive(Drop)]
 pub struct Output<W: Write> {
     stream: W,

@@ -22,8 +22,8 @@ impl Board<Open> {
         packed
     }
 
-    /// Writes the colours in two bits a point over a pack, as [`Board::pack`] gives them. Each play makes a
-    /// key of them, and a pack that was returned would be copied into it.
+    /// Writes the colours in two bits a point over a pack, as [`Board::pack`] gives them. Each play writes its
+    /// key's pack so, and spares the copy that `pack` would need.
     pub fn write_pack(&self, packed: &mut Packed)
         ensures { bytes_of packed.new ≡ packed_of (grid_of self.now) }
     {
@@ -44,7 +44,7 @@ impl Board<Open> {
         self.cells.pack()
     }
 
-    /// The last byte, of the points after the last four that fill a byte.
+    /// The last byte: the one to three points after the last full byte, or 0 if there are none.
     fn last_byte(&self) -> u8
         ensures { result ≡ byte_of (grid_of self.now) (self.now.lines * self.now.lines / 4) }
     {

@@ -23,8 +23,8 @@ pub struct ToLoad<'a> {
     pub number: Option<u32>,
 }
 
-/// The record that a request asks for, or why there is none to load.
-pub fn record_to_load<'a, A: Allocator + Copy>(
+/// The fetched bytes and the number that a request asks to load, or why there is nothing to load.
+pub fn bytes_to_load<'a, A: Allocator + Copy>(
     request: &Request,
     fetched: &'a Fetched<A>,
 ) -> Result<ToLoad<'a>, Refusal>

@@ -17,7 +17,7 @@ capture_if_dead-stones-requires-clause-colours g c =
       rest_some = colours.rest_some;
       apart = colours.apart;
       two = still_two (n * n) (IsAdjacent n) (tables_of c.args.cells.now.numbers) (tables_of c.loop-near.cells.numbers)
-          c.args.captured c.args.others c.loop-near.invariant.capturing colours.two;
+          c.args.captured_code c.args.other_code c.loop-near.invariant.capturing colours.two;
     }
 
 pub loop-near-preserved : goal.loop-near-preserved
@@ -31,7 +31,7 @@ loop-near-preserved g c =
     let i = c.loop-near.near-index in
     let j = c.loop-near.stones in
     let k = c.capture_if_dead-stones.result in
-    let own = c.args.captured in
+    let own = c.args.captured_code in
     let after = one.capturing (tables_of mid) inv.capturing.tidy
     (IsCapturing_none (n * n) (IsAdjacent n) (tables_of mid) own inv.capturing.tidy inv.capturing.whole) in
     record {

@@ -17,7 +17,7 @@ pub has_liberty_but-requires-clause-label : goal.has_liberty_but-requires-clause
 has_liberty_but-requires-clause-label g c =
     let n = c.args.size in
     let old = c.args.cells.now.numbers in
-    let is : code_at old c.args.near ≡ c.args.captured = sym c.get.ensures.value ∙ c.if-get-captured.false in
+    let is : code_at old c.args.near ≡ c.args.captured_code = sym c.get.ensures.value ∙ c.if-get-captured_code.false in
     let some = c.requires.colours.taken_some in
     let stone : IsStone (n * n) (tables_of old) c.args.near = (c.requires.near, omega arith) in
     let h = label_small n (IsAdjacent n) (tables_of old) (omega arith) c.requires.tidy c.args.near stone in
@@ -45,7 +45,7 @@ pub returns-clause-capturing : goal.returns-clause-capturing
 returns-clause-capturing g c t tidy capturing =
     let n = c.args.size in
     let old = c.args.cells.now.numbers in
-    let is : code_at old c.args.near ≡ c.args.captured = sym c.get.ensures.value ∙ c.if-get-captured.false in
+    let is : code_at old c.args.near ≡ c.args.captured_code = sym c.get.ensures.value ∙ c.if-get-captured_code.false in
     let some = c.requires.colours.taken_some in
     let stone : IsStone (n * n) (tables_of old) c.args.near = (c.requires.near, omega arith) in
     let none : HasLibertyBut n old c.args.near (label_of old c.args.near) → ⊥ = λ other.
@@ -53,7 +53,7 @@ returns-clause-capturing g c t tidy capturing =
     (subst (λ l. HasLibertyBut n old c.args.near l) (sym c.get-label.ensures.value) other))
     ∙ c.if-has_liberty_but.false) in
     IsCapturing_more (n * n) (IsAdjacent n) (flip n) (inside n) t (tables_of old)
-    (tables_of c.take_off.new.cells.numbers) c.args.captured c.args.near tidy capturing c.take_off.ensures.removed is
+    (tables_of c.take_off.new.cells.numbers) c.args.captured_code c.args.near tidy capturing c.take_off.ensures.removed is
     c.requires.colours.taken_some
     (none_but_its_own n old c.args.near c.requires.tidy stone none)
 
@@ -61,12 +61,12 @@ pub returns-clause-stones : goal.returns-clause-stones
 returns-clause-stones g c =
     let n = c.args.size in
     let old = c.args.cells.now.numbers in
-    let is : code_at old c.args.near ≡ c.args.captured = sym c.get.ensures.value ∙ c.if-get-captured.false in
-    let P : ℕ → Type 0 = λ k. CountsTaken (n * n) (tables_of old) (tables_of c.take_off.new.cells.numbers) c.args.captured
+    let is : code_at old c.args.near ≡ c.args.captured_code = sym c.get.ensures.value ∙ c.if-get-captured_code.false in
+    let P : ℕ → Type 0 = λ k. CountsTaken (n * n) (tables_of old) (tables_of c.take_off.new.cells.numbers) c.args.captured_code
     k in
     subst P (sym c.take_off.ensures.stones)
     (counts_ring (n * n) (IsAdjacent n) (tables_of old) (tables_of c.take_off.new.cells.numbers) c.args.near
-    c.args.captured c.requires.tidy c.take_off.ensures.removed is c.requires.colours.taken_some)
+    c.args.captured_code c.requires.tidy c.take_off.ensures.removed is c.requires.colours.taken_some)
 
 pub returns-clause-few : goal.returns-clause-few
 returns-clause-few g c =

@@ -18,20 +18,20 @@ pub connect-requires-clause-tidy : goal.connect-requires-clause-tidy
 connect-requires-clause-tidy g c =
     let n = c.args.size in
     IsTidy-occupied (n * n) (IsAdjacent n) (inside n) (apart n) (tables_of c.args.cells.now.numbers)
-    (tables_of c.occupy.new.cells.numbers) c.args.point c.code-own.result
+    (tables_of c.occupy.new.cells.numbers) c.args.point c.code-own_code.result
     (tidy-kept n c.args.cells.now.numbers c.requires.kept) c.occupy.ensures.occupied
 
 pub capture_beside-captured-requires-clause-whole : goal.capture_beside-captured-requires-clause-whole
 capture_beside-captured-requires-clause-whole g c =
-    let b = begins c.requires.kept c.requires.point c.requires.empty c.code-own.ensures.value c.code-own.ensures.range
-    c.other.ensures c.code-theirs.ensures.value c.code-theirs.ensures.range in
+    let b = begins c.requires.kept c.requires.point c.requires.empty c.code-own_code.ensures.value c.code-own_code.ensures.range
+    c.other.ensures c.code-other_code.ensures.value c.code-other_code.ensures.range in
     let j = joins c.requires.beside c.occupy.ensures.occupied c.connect.ensures.connected c.connect.ensures.tidy in
     whole_of b j
 
 pub capture_beside-captured-requires-clause-colours : goal.capture_beside-captured-requires-clause-colours
 capture_beside-captured-requires-clause-colours g c =
-    let b = begins c.requires.kept c.requires.point c.requires.empty c.code-own.ensures.value c.code-own.ensures.range
-    c.other.ensures c.code-theirs.ensures.value c.code-theirs.ensures.range in
+    let b = begins c.requires.kept c.requires.point c.requires.empty c.code-own_code.ensures.value c.code-own_code.ensures.range
+    c.other.ensures c.code-other_code.ensures.value c.code-other_code.ensures.range in
     let j = joins c.requires.beside c.occupy.ensures.occupied c.connect.ensures.connected c.connect.ensures.tidy in
     record {
       taken_some = b.theirs_range.0;
@@ -42,8 +42,8 @@ capture_beside-captured-requires-clause-colours g c =
 
 pub capture_if_dead-suicide-requires-clause-colours : goal.capture_if_dead-suicide-requires-clause-colours
 capture_if_dead-suicide-requires-clause-colours g c =
-    let b = begins c.requires.kept c.requires.point c.requires.empty c.code-own.ensures.value c.code-own.ensures.range
-    c.other.ensures c.code-theirs.ensures.value c.code-theirs.ensures.range in
+    let b = begins c.requires.kept c.requires.point c.requires.empty c.code-own_code.ensures.value c.code-own_code.ensures.range
+    c.other.ensures c.code-other_code.ensures.value c.code-other_code.ensures.range in
     let j = joins c.requires.beside c.occupy.ensures.occupied c.connect.ensures.connected c.connect.ensures.tidy in
     let n = c.args.size in
     record {
@@ -51,7 +51,7 @@ capture_if_dead-suicide-requires-clause-colours g c =
       rest_some = b.theirs_range.0;
       apart = λ same. differ b (sym same);
       two = (λ s stone. elim (still_two (n * n) (IsAdjacent n) (tables_of c.connect.new.cells.numbers)
-          (tables_of c.capture_beside-captured.new.cells.numbers) c.code-theirs.result c.code-own.result
+          (tables_of c.capture_beside-captured.new.cells.numbers) c.code-other_code.result c.code-own_code.result
           c.capture_beside-captured.ensures.capturing (two_then b j) s stone) [
             | inl is ↦ inr is
             | inr is ↦ inl is
@@ -60,8 +60,8 @@ capture_if_dead-suicide-requires-clause-colours g c =
 
 pub returns-clause-kept : goal.returns-clause-kept
 returns-clause-kept g c =
-    let b = begins c.requires.kept c.requires.point c.requires.empty c.code-own.ensures.value c.code-own.ensures.range
-    c.other.ensures c.code-theirs.ensures.value c.code-theirs.ensures.range in
+    let b = begins c.requires.kept c.requires.point c.requires.empty c.code-own_code.ensures.value c.code-own_code.ensures.range
+    c.other.ensures c.code-other_code.ensures.value c.code-other_code.ensures.range in
     let j = joins c.requires.beside c.occupy.ensures.occupied c.connect.ensures.connected c.connect.ensures.tidy in
     let t = takes c.capture_beside-captured.ensures.capturing c.capture_beside-captured.ensures.gone
     c.capture_if_dead-suicide.ensures.capturing
@@ -70,8 +70,8 @@ returns-clause-kept g c =
 
 pub returns-clause-colours : goal.returns-clause-colours
 returns-clause-colours g c =
-    let b = begins c.requires.kept c.requires.point c.requires.empty c.code-own.ensures.value c.code-own.ensures.range
-    c.other.ensures c.code-theirs.ensures.value c.code-theirs.ensures.range in
+    let b = begins c.requires.kept c.requires.point c.requires.empty c.code-own_code.ensures.value c.code-own_code.ensures.range
+    c.other.ensures c.code-other_code.ensures.value c.code-other_code.ensures.range in
     let j = joins c.requires.beside c.occupy.ensures.occupied c.connect.ensures.connected c.connect.ensures.tidy in
     let t = takes c.capture_beside-captured.ensures.capturing c.capture_beside-captured.ensures.gone
     c.capture_if_dead-suicide.ensures.capturing
@@ -80,8 +80,8 @@ returns-clause-colours g c =
 
 pub returns-clause-theirs : goal.returns-clause-theirs
 returns-clause-theirs g c =
-    let b = begins c.requires.kept c.requires.point c.requires.empty c.code-own.ensures.value c.code-own.ensures.range
-    c.other.ensures c.code-theirs.ensures.value c.code-theirs.ensures.range in
+    let b = begins c.requires.kept c.requires.point c.requires.empty c.code-own_code.ensures.value c.code-own_code.ensures.range
+    c.other.ensures c.code-other_code.ensures.value c.code-other_code.ensures.range in
     let j = joins c.requires.beside c.occupy.ensures.occupied c.connect.ensures.connected c.connect.ensures.tidy in
     let t = takes c.capture_beside-captured.ensures.capturing c.capture_beside-captured.ensures.gone
     c.capture_if_dead-suicide.ensures.capturing
@@ -90,8 +90,8 @@ returns-clause-theirs g c =
 
 pub returns-clause-own : goal.returns-clause-own
 returns-clause-own g c =
-    let b = begins c.requires.kept c.requires.point c.requires.empty c.code-own.ensures.value c.code-own.ensures.range
-    c.other.ensures c.code-theirs.ensures.value c.code-theirs.ensures.range in
+    let b = begins c.requires.kept c.requires.point c.requires.empty c.code-own_code.ensures.value c.code-own_code.ensures.range
+    c.other.ensures c.code-other_code.ensures.value c.code-other_code.ensures.range in
     let j = joins c.requires.beside c.occupy.ensures.occupied c.connect.ensures.connected c.connect.ensures.tidy in
     let t = takes c.capture_beside-captured.ensures.capturing c.capture_beside-captured.ensures.gone
     c.capture_if_dead-suicide.ensures.capturing
@@ -100,8 +100,8 @@ returns-clause-own g c =
 
 pub returns-clause-edited : goal.returns-clause-edited
 returns-clause-edited g c =
-    let b = begins c.requires.kept c.requires.point c.requires.empty c.code-own.ensures.value c.code-own.ensures.range
-    c.other.ensures c.code-theirs.ensures.value c.code-theirs.ensures.range in
+    let b = begins c.requires.kept c.requires.point c.requires.empty c.code-own_code.ensures.value c.code-own_code.ensures.range
+    c.other.ensures c.code-other_code.ensures.value c.code-other_code.ensures.range in
     let j = joins c.requires.beside c.occupy.ensures.occupied c.connect.ensures.connected c.connect.ensures.tidy in
     let t = takes c.capture_beside-captured.ensures.capturing c.capture_beside-captured.ensures.gone
     c.capture_if_dead-suicide.ensures.capturing

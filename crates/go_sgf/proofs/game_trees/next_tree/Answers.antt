@@ -18,16 +18,16 @@ returns-in-Ok-clause-tree c =
           c.split_at.ensures.back c.in-Ok.ensures.read.2).1,
     )
 
-pub placed-requires : goal.placed-requires
-placed-requires c =
-    left_there _ c.args.source.now c.args.from c.in-Some.begin c.split_at.result.1.now c.in-Err.fault
+pub error_of-requires : goal.error_of-requires
+error_of-requires c =
+    left_there _ c.args.source.now c.args.from c.in-Some.begin c.split_at.result.1.now c.in-Err.stop
     (text_from c.args.source.now c.args.from c.in-Some.begin c.in-Some.ensures.begins
     ∙ ap (λ xs. 40 ∷ xs) (sym c.split_at.ensures.back)) c.in-Err.ensures.place
 
 pub returns-clause-refused : goal.returns-clause-refused
 returns-clause-refused c =
-    rw c.placed.ensures
-    (refused_there _ c.args.source.now c.args.from c.in-Some.begin c.split_at.result.1.now c.in-Err.fault
+    rw c.error_of.ensures
+    (refused_there _ c.args.source.now c.args.from c.in-Some.begin c.split_at.result.1.now c.in-Err.stop
     (λ e. c.in-Err.ensures.memory (ap Err e)) c.in-Some.ensures.begins
     (text_from c.args.source.now c.args.from c.in-Some.begin c.in-Some.ensures.begins
     ∙ ap (λ xs. 40 ∷ xs) (sym c.split_at.ensures.back)) c.in-Err.ensures.place)

@@ -17,15 +17,15 @@ loop-inside-init g c = (
       (λ empty. let h = ap length empty in let e = c.if-is_empty.ensures in let e' = rw h at e in cc),
 )
 
-pub placed-requires : goal.placed-requires
-placed-requires g c =
-    left_by _ c.args.source.now c.loop-inside.invariant.0 c.loop-inside.rest.now c.in-Some.inside.now c.in-Err.fault
+pub error_of-requires : goal.error_of-requires
+error_of-requires g c =
+    left_by _ c.args.source.now c.loop-inside.invariant.0 c.loop-inside.rest.now c.in-Some.inside.now c.in-Err.stop
     c.loop-inside.invariant.3 c.in-Some.ensures.stripped c.in-Err.ensures.place
 
 pub returns-in-Err-clause-refused : goal.returns-in-Err-clause-refused
 returns-in-Err-clause-refused g c =
-    rw c.placed.ensures
-    (refused_by _ c.args.source.now c.loop-inside.invariant.0 c.loop-inside.rest.now c.in-Some.inside.now c.in-Err.fault
+    rw c.error_of.ensures
+    (refused_by _ c.args.source.now c.loop-inside.invariant.0 c.loop-inside.rest.now c.in-Some.inside.now c.in-Err.stop
     c.loop-inside.invariant.3 c.in-Some.ensures.begins c.in-Some.ensures.stripped c.in-Err.ensures.place)
 
 pub loop-inside-smaller : goal.loop-inside-smaller

@@ -39,7 +39,7 @@ loop-depth-preserved g c =
         writes_writes i.written.1 c.put.ensures,
         i.written.2
             ∙ ap (λ xs. i.written.0 ++ xs) (skip.written c.loop-depth.depth c.loop-depth-test.true ∙ piece.written)
-            ∙ sym (append_assoc i.written.0 prefix (tidied_from Outside c.in-Some.now c.in-Some.more.now)),
+            ∙ sym (append_assoc i.written.0 prefix (tidied_from Outside c.in-Some.open c.in-Some.more.now)),
       );
       after = i.after ∙ skip.after c.loop-depth.depth c.loop-depth-test.true ∙ piece.after;
       shorter = omega (arith, i.shorter, skip.shorter, piece.shorter);
