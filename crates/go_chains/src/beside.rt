@@ -3,8 +3,7 @@ ghost use Rattle.go_board.specs.Points.{IsOn, number_of};
 ghost use Rattle.go_chains.specs.inner.Beside.{AreBeside};
 
 use arrayvec::ArrayVec;
-use go_board::laws::points_by_number;
-use go_board::{Point, Size};
+use go_board::{Point, Size, laws};
 
 /// Puts the numbers of the points that share a side with this one into an empty list. Each play and each
 /// question about a play needs them, and a list that was returned would be copied.
@@ -13,7 +12,7 @@ pub fn put_beside(size: Size, p: Point, numbers: &mut ArrayVec<usize, 4>)
     requires empty { numbers.old.items ≡ [] }
     ensures { AreBeside size (number_of size p) numbers.new.items }
 {
-    points_by_number();
+    laws::points_by_number();
     let lines = usize::from(size.lines());
     let point = usize::from(p.index(size));
     let (col, row) = (usize::from(p.col), usize::from(p.row));

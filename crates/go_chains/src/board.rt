@@ -18,14 +18,13 @@ mod packs;
 mod plays;
 
 use crate::cells::Cells;
-use go_board::laws::points_by_number;
 use go_board::rows::{ByColour, Rows, areas_of, with_stone};
-use go_board::{Area, Colour, Grid, Meter, Open, Point, Size};
+use go_board::{Area, Colour, Grid, Meter, Open, Point, Size, laws};
 use std::marker::Model;
 
-/// A board that keeps its chains and their liberties, changed in place by each play. The methods for boards
-/// of every kind `K` (`play`, `rewind`, `is_quiet`, `liberties_with`) get their meter from the caller, and
-/// can't make one. So that meter counts all that they read and write.
+/// A board that keeps its chains and their liberties, changed in place by each play. `play`, `rewind`,
+/// `is_quiet` and `liberties_with` are generic over the kind `K`. Generic code can't make a meter, so the
+/// caller's meter counts all that they read and write.
 #[derive(Drop)]
 pub struct Board<K = Open> {
     size: Size,
@@ -93,7 +92,7 @@ impl Board<Open> {
         requires { IsOn self.now.lines p }
         ensures { result ≡ stone_at (shown self.now) p }
     {
-        points_by_number();
+        laws::points_by_number();
         let mut meter = Meter::new();
         let place = usize::from(p.index(self.size));
         Colour::coded(self.cells.get(place, &mut meter))

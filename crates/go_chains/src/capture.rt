@@ -13,8 +13,8 @@ use crate::masks::has_liberty_but;
 use go_board::{Meter, Size};
 use std::alloc::Allocator;
 
-/// Captures the chain on a point, if it has the colour `captured` and no liberty, and returns the number of its
-/// stones. Its points become liberties of chains of the colour `other_code`.
+/// Captures the chain on a point, if it has the colour `captured_code` and no liberty, and returns the number
+/// of its stones. Its points become liberties of chains of the colour `freed_code`.
 pub fn capture_if_dead<K, A: Allocator + Copy>(
     cells: &mut Cells<K>,
     changes: &mut Vec<LoggedChange, A>,
@@ -22,12 +22,12 @@ pub fn capture_if_dead<K, A: Allocator + Copy>(
     size: Size,
     near: usize,
     captured_code: u64,
-    other_code: u64,
+    freed_code: u64,
 ) -> usize
     requires tidy { AreTidy size cells.old }
     requires whole { AreWhole size cells.old }
     requires near { near < size * size }
-    requires colours { AreColours size cells.old captured_code other_code }
+    requires colours { AreColours size cells.old captured_code freed_code }
     requires room { vec_len changes.old + 5 * MAX_POINTS ≤ vec_capacity changes.old }
     ensures capturing { CapturesMore size cells.old cells.new captured_code }
     ensures gone { TakesDead size cells.old cells.new captured_code near }
@@ -41,11 +41,11 @@ pub fn capture_if_dead<K, A: Allocator + Copy>(
         return 0;
     }
     let label = cells.get(LABELS + near, meter) as usize;
-    // The chain's own point `near` is no liberty.
+    // `near` has a stone, so it excludes no liberty. It only says which word is looked at first.
     if has_liberty_but(cells, meter, size, label, near) {
         return 0;
     }
-    take_off(cells, changes, meter, size, near, captured_code, other_code)
+    take_off(cells, changes, meter, size, near, captured_code, freed_code)
 }
 
 /// Captures the chains of the colour `captured_code` on these points that have no liberty, and returns the
@@ -57,13 +57,13 @@ pub fn capture_beside<K, A: Allocator + Copy>(
     size: Size,
     beside: &[usize],
     captured_code: u64,
-    other_code: u64,
+    freed_code: u64,
 ) -> usize
     requires tidy { AreTidy size cells.old }
     requires whole { AreWhole size cells.old }
     requires few { length beside.now ≤ 4 }
     requires on { (i : ℕ) → i < length beside.now → slice_index beside.now i < size * size }
-    requires colours { AreColours size cells.old captured_code other_code }
+    requires colours { AreColours size cells.old captured_code freed_code }
     requires room { vec_len changes.old + 20 * MAX_POINTS ≤ vec_capacity changes.old }
     ensures capturing { Captures size cells.old cells.new captured_code }
     ensures gone { (i : ℕ) → i < length beside.now
@@ -82,7 +82,7 @@ pub fn capture_beside<K, A: Allocator + Copy>(
             size,
             *near,
             captured_code,
-            other_code,
+            freed_code,
         );
     }
     stones

@@ -30,10 +30,10 @@ pub const LIBERTIES: usize = SIZES + MAX_POINTS;
 /// How many cells a board has, whatever its size.
 pub const CELLS: usize = LIBERTIES + WORDS * MAX_POINTS;
 
-/// The cells of a board: the colour, the label and the ring link of each point, and the size and
-/// the words of liberties of each label. Nothing else reads or writes them, each write is in their
-/// trace, and each read and each write is counted, with a meter of the cells' kind. Beside them is
-/// the pack of the colours, as if the board had the most lines.
+/// The cells of a board: the colour, the label and the ring link of each point, and the size and the words of
+/// liberties of each label. Nothing else reads or writes them, each write is in their trace, and each read
+/// and each write is counted, with a meter of the cells' kind. Beside them is the pack of all colour cells,
+/// by number.
 #[derive(Drop)]
 pub struct Cells<K = Open> {
     numbers: Numbers<K>,
@@ -72,7 +72,7 @@ impl Cells<Open> {
         }
     }
 
-    /// The pack of the colours, as if the board had the most lines. Only open cells have this method, so
+    /// The pack of all colour cells, by number. Only open cells have this method, so
     /// that no play looks at colours that it doesn't count.
     pub fn pack(&self) -> &Packed
         ensures { bytes_of result.now ≡ packed_of (colouring_of MAX_LINES self.now.numbers) }

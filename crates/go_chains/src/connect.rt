@@ -1,4 +1,4 @@
-//! The placed stone's chain takes in the chains of its colour beside it.
+//! The placed stone's chain and those of its colour beside it become one. The larger keeps its label.
 ghost use Rattle.std.specs.Prelude.{◌≤◌, ◌+◌, ◌*◌, vec_capacity, vec_len};
 ghost use Rattle.go_board.specs.Paths.{IsAdjacent};
 ghost use Rattle.go_board.specs.declared.size.TheConstants.{MAX_POINTS};
@@ -14,8 +14,8 @@ use crate::join::join;
 use go_board::{Meter, Size};
 use std::alloc::Allocator;
 
-/// Makes one chain of a stone's and that of a point beside it, where they are two of one colour.
-/// The smaller of the two is relabelled.
+/// Joins the stone's chain and the one on the point beside it, if they have one colour and aren't one chain
+/// already. The smaller of the two is relabelled.
 fn connect_one<K, A: Allocator + Copy>(
     cells: &mut Cells<K>,
     changes: &mut Vec<LoggedChange, A>,

@@ -9,7 +9,7 @@ use crate::change::{Change, LoggedChange};
 use go_board::Meter;
 use std::alloc::Allocator;
 
-/// Writes a number into a cell whose number is known, and logs that if it is another one.
+/// Writes a number into a cell that has the number `old`, and logs the change, if the two differ.
 pub(crate) fn replace<K, A: Allocator + Copy>(
     cells: &mut Cells<K>,
     changes: &mut Vec<LoggedChange, A>,

@@ -80,7 +80,7 @@ fn give_back<K, A: Allocator + Copy>(
 }
 
 /// Takes one stone of the colour `captured_code` off, and makes its point a liberty of the stones of the colour
-/// `other_code` beside it.
+/// `freed_code` beside it.
 fn lift<K, A: Allocator + Copy>(
     cells: &mut Cells<K>,
     changes: &mut Vec<LoggedChange, A>,
@@ -88,19 +88,19 @@ fn lift<K, A: Allocator + Copy>(
     size: Size,
     point: usize,
     captured_code: u64,
-    other_code: u64,
+    freed_code: u64,
 )
     requires point { point < size * size }
     requires taken { code_at cells.old.numbers point ≡ captured_code }
-    requires labels { (s : ℕ) → s < size * size → FitsWith cells.old other_code s }
+    requires labels { (s : ℕ) → s < size * size → FitsWith cells.old freed_code s }
     requires room { vec_len changes.old + 5 ≤ vec_capacity changes.old }
-    ensures lifted { IsLifted size cells.old.numbers cells.new.numbers point other_code }
+    ensures lifted { IsLifted size cells.old.numbers cells.new.numbers point freed_code }
     ensures edited { Edited cells.old cells.new changes.old changes.new meter.old meter.new 5 17 }
 {
     replace(cells, changes, meter, point, captured_code, 0);
     let mut beside = ArrayVec::new();
     put_beside(size, Point::numbered(size, point as u16), &mut beside);
-    give_back(cells, changes, meter, beside.as_slice(), point, other_code);
+    give_back(cells, changes, meter, beside.as_slice(), point, freed_code);
 }
 
 /// Takes the chain of a stone off, and gives the number of its stones.
@@ -111,15 +111,15 @@ pub fn take_off<K, A: Allocator + Copy>(
     size: Size,
     stone: usize,
     captured_code: u64,
-    other_code: u64,
+    freed_code: u64,
 ) -> usize
     requires tidy { AreTidy size cells.old }
     requires whole { AreWhole size cells.old }
     requires stone { HasStone size cells.old stone }
     requires taken { code_at cells.old.numbers stone ≡ captured_code }
-    requires rest { 0 < other_code }
-    requires apart { captured_code ≢ other_code }
-    requires two { HasTwoColours size cells.old captured_code other_code }
+    requires rest { 0 < freed_code }
+    requires apart { captured_code ≢ freed_code }
+    requires two { HasTwoColours size cells.old captured_code freed_code }
     requires room { vec_len changes.old + 5 * MAX_POINTS ≤ vec_capacity changes.old }
     ensures removed { Removes size cells.old cells.new stone }
     ensures stones { result ≡ chain_size cells.old.numbers stone }
@@ -131,7 +131,7 @@ pub fn take_off<K, A: Allocator + Copy>(
     let mut at = stone;
     for _ in 0..stones {
         let next = cells.get(LINKS + at, meter) as usize;
-        lift(cells, changes, meter, size, at, captured_code, other_code);
+        lift(cells, changes, meter, size, at, captured_code, freed_code);
         at = next;
     }
     stones

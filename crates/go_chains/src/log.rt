@@ -90,8 +90,8 @@ fn put_back_changes<K, A: Allocator + Copy>(
 }
 
 /// Makes room for one more play, of at most `most` changes. The first play makes room for `most`, and uses
-/// little of it. To grow that list might copy all of it. So the second play, which finds room for just
-/// `most`, copies the changes in use to a new list with room for two plays.
+/// little of it. If that list grew, all its room might be copied. So the second play, which finds room for
+/// just `most`, makes a list with room for two plays, and copies the changes in use alone.
 pub(crate) fn reserve_play<A: Allocator + Copy>(
     changes: &mut Vec<LoggedChange, A>,
     lengths: &mut Vec<usize, A>,

@@ -44,8 +44,8 @@ fn has_liberty_in<K>(
     cells.get(word_place(label, word), meter) & mask != 0
 }
 
-/// Whether a label has a liberty but this point. Liberties are mostly close by, so the word with the bit of
-/// the point is looked at first.
+/// Whether a label has a liberty other than this point. Liberties are mostly close by, so the word with the
+/// bit of the point is looked at first.
 pub(crate) fn has_liberty_but<K>(
     cells: &Cells<K>,
     meter: &mut Meter<K>,

@@ -27,7 +27,7 @@ fn put_if_empty<K>(cells: &Cells<K>, meter: &mut Meter<K>, near: usize, set: &mu
     }
 }
 
-/// Puts the empty ones among these points into a set that has none.
+/// Takes an empty set, and adds those of these points that are empty.
 pub(crate) fn put_empty<K>(
     cells: &Cells<K>,
     meter: &mut Meter<K>,

@@ -1,5 +1,5 @@
-//! The colours of a board's cells in two bits a point. They have a file of their own, so that no play can look at
-//! a colour that it doesn't count.
+//! The colours of a board's cells in two bits a point. They have a file of their own, so that no play can
+//! look at a colour that it doesn't count.
 ghost use Rattle.std.specs.Prelude.{◌≡◌, ◌≢◌, ◌<◌, ◌≤◌, ℕ, List, replicate, slice_index, slice_set};
 ghost use Rattle.go_board.specs.PackBytes.{bytes_of};
 ghost use Rattle.go_board.specs.Packs.{code_of, colour_coded, packed_of};
@@ -11,7 +11,7 @@ ghost use Rattle.go_chains.specs.inner.Codes.{code_in};
 use go_board::{Colour, Open, Packed};
 use std::marker::{Model, PhantomData};
 
-/// The pack of a board's colours, as if the board had the most lines. A play writes it, and reads
+/// The pack of all colour cells, by number, those past this board's points too. A play writes it, and reads
 /// nothing of it: only open colours have `pack`.
 #[derive(Drop)]
 pub struct PackedColours<K> {

@@ -16,9 +16,8 @@ use crate::cells::Cells;
 use crate::change::LoggedChange;
 use crate::connect::connect;
 use crate::occupy::occupy;
-use go_board::laws::{joined_by_a_path, reaches_by_a_path};
 use go_board::point_set::WORDS;
-use go_board::{Colour, MAX_POINTS, Meter, Size, Taken};
+use go_board::{Colour, MAX_POINTS, Meter, Size, Taken, laws};
 use std::alloc::Allocator;
 
 /// More changes than any play makes: those of the stone, of at most four joins, of the chains
@@ -51,8 +50,8 @@ pub fn place<K, A: Allocator + Copy>(
         Edited cells.old cells.new changes.old changes.new meter.old meter.new most
         (3 * most - (reads_around + 1)) }
 {
-    joined_by_a_path();
-    reaches_by_a_path();
+    laws::joined_by_a_path();
+    laws::reaches_by_a_path();
     let own_code = colour.code();
     let other_code = colour.other().code();
     occupy(cells, changes, meter, size, own_code, point, beside);

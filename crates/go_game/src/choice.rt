@@ -5,8 +5,7 @@ ghost use Rattle.go_game.specs.inner.Trials.{better_of};
 
 use crate::holdings::{Holdings, ahead};
 use crate::{Game, PlayError};
-use go_board::laws::points_by_number;
-use go_board::{Colour, Move, Point, Vertex};
+use go_board::{Colour, Move, Point, Vertex, laws};
 use std::alloc::{AllocError, Allocator};
 
 /// What is found of a play on an empty point.
@@ -234,7 +233,7 @@ impl<A: Allocator + Copy> Game<A> {
             (number_of self.now.standing.lines p) (Some colour) }
         ensures { result ≡ is_legal self.now.standing colour (Vertex.At p) }
     {
-        points_by_number();
+        laws::points_by_number();
         prove!(p.on(self.size()));
         if self.is_first_there(colour, p) {
             return true;

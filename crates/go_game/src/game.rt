@@ -5,10 +5,9 @@ ghost use Rattle.std.specs.Prelude.{◌≡◌, ◌<◌, ◌+◌, ◌*◌, [], po
 use crate::Superko;
 use crate::prisoners::Prisoners;
 use crate::step::Step;
-use go_board::laws::{joined_by_a_path, packs_tell_colourings_apart, points_by_number};
 use go_board::plain::{is_liberty, same_chain};
 use go_board::rows::{ByColour, Rows};
-use go_board::{Area, Colour, Grid, Meter, Move, Point, Size};
+use go_board::{Area, Colour, Grid, Meter, Move, Point, Size, laws};
 use go_chains::{Board, ChainPoints, Log};
 use go_history::History;
 use std::alloc::Allocator;
@@ -87,7 +86,7 @@ impl<A: Allocator + Copy> Game<A> {
         ensures trace { result.trace ≡ [] }
         ensures count { result.count ≡ 0 }
     {
-        packs_tell_colourings_apart();
+        laws::packs_tell_colourings_apart();
         let start = Grid::new(size);
         let superko = Superko::Positional;
         let history = History::new(alloc, superko.key(start.pack(), Colour::Black));
@@ -147,7 +146,7 @@ impl<A: Allocator + Copy> Game<A> {
         ensures rule { self.new.standing ≡ record self.old.standing { rule = superko } }
         ensures others { self.new ≡ record self.old { standing = self.new.standing } }
     {
-        packs_tell_colourings_apart();
+        laws::packs_tell_colourings_apart();
         self.superko = superko;
         let key = superko.key(self.start.pack(), self.first);
         self.history.restart(key);
@@ -212,7 +211,7 @@ impl<A: Allocator + Copy> Game<A> {
             ≡ length self.old.trace + size * size }
         ensures count { self.new.count ≡ self.old.count }
     {
-        packs_tell_colourings_apart();
+        laws::packs_tell_colourings_apart();
         let alloc = *self.steps.allocator();
         self.start = Grid::new(size);
         self.first = Colour::Black;
@@ -247,8 +246,8 @@ impl<A: Allocator + Copy> Game<A> {
         requires q_on { IsOn self.now.standing.lines q }
         ensures { result ≡ are_joined (present self.now.standing) p q }
     {
-        joined_by_a_path();
-        points_by_number();
+        laws::joined_by_a_path();
+        laws::points_by_number();
         let colour = self.colour_at(p);
         if colour != self.colour_at(q) {
             return false;
@@ -315,7 +314,7 @@ impl<A: Allocator + Copy> Game<A> {
         ensures { result ≡ (whole_of self.now.standing).history
             (seen_by self.now.standing.rule (grid.now.colours, mover)) }
     {
-        packs_tell_colourings_apart();
+        laws::packs_tell_colourings_apart();
         prove!(grid.size() == self.size());
         let key = self.superko.key(grid.pack(), mover);
         self.history.look_up(&key)

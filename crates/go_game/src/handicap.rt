@@ -6,8 +6,7 @@ ghost use Rattle.go_board.specs.Reaching.{is_dead};
 ghost use Rattle.go_game.specs.Handicaps.{fixed, greatest, handicap_points, near, crossing, stones_on_board, where_wanted};
 
 use arrayvec::ArrayVec;
-use go_board::laws::one_colour_lives;
-use go_board::{Colour, Grid, Point, Size};
+use go_board::{Colour, Grid, Point, Size, laws};
 
 /// The most handicap stones that a board of this size has places for: none below 7 lines, 4 at 7
 /// and at even sizes, else 9.
@@ -115,7 +114,7 @@ pub fn stones_on(size: Size, points: &[Point]) -> Grid
     ensures alive { length points.now < size * size
         → (k : ℕ) → is_dead size result.colours k ≡ false }
 {
-    one_colour_lives();
+    laws::one_colour_lives();
     let mut grid = Grid::new(size);
     for point in points {
         grid.set(*point, Some(Colour::Black));

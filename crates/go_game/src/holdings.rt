@@ -11,9 +11,8 @@ ghost use Rattle.go_game.specs.Choices.{lead_on};
 ghost use Rattle.go_game.specs.inner.Trials.{AreHoldings};
 
 use go_board::gains::{gain_of, own_held_with, theirs_held_with};
-use go_board::laws::points_by_number;
 use go_board::rows::{ByColour, ROWS, Rows, count_alone, held, put_place, row_and_column};
-use go_board::{Colour, Point};
+use go_board::{Colour, Point, laws};
 use go_chains::Board;
 
 /// By how many points the one area is ahead of the other.
@@ -127,7 +126,7 @@ impl Holdings {
             → colour_at g (row * lines + col) ≡ None
             → result ≡ lead_on lines (slice_set g (row * lines + col) (Some c)) c }
     {
-        points_by_number();
+        laws::points_by_number();
         let mut own = self.own;
         put_place(&mut own, row, col);
         let own_held = own_held_with(&own, &self.theirs, &self.own_held, lines, row, col);

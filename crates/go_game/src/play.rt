@@ -9,16 +9,15 @@ ghost use Rattle.go_game.specs.Standings.{IsLegal, IsOccupied, IsOffBoard, IsRep
 
 use crate::step::Step;
 use crate::{Game, PlayError};
-use go_board::laws::{packs_tell_colourings_apart, points_by_number, taken_and_left};
-use go_board::{Colour, Move, Packed, Point, Taken, Vertex};
+use go_board::{Colour, Move, Packed, Point, Taken, Vertex, laws};
 use go_chains::PlaceError;
 use go_history::{History, Key};
 use std::alloc::Allocator;
 
 impl<A: Allocator + Copy> Game<A> {
-    /// Plays a move: a pass, or a stone on an empty point. The superko rule must allow the position that the
-    /// stone leaves. The move takes the opponent's chains that have no liberty. Then it takes the
-    /// stone's own chain, if that has none. A refused move changes nothing.
+    /// Plays a move: a pass, or a stone on an empty point. The superko rule must allow the position after it.
+    /// The move takes the opponent's chains that have no liberty. Then it takes the stone's own chain, if
+    /// that has none. A refused move changes nothing.
     pub fn play(&mut self, made: Move) -> Result<Taken, PlayError>
         ensures off_board { (result ≡ Err PlayError.OffBoard)
             ↔ IsOffBoard self.old.standing made.vertex }
@@ -54,7 +53,7 @@ impl<A: Allocator + Copy> Game<A> {
         ensures costs { TurnCosts (record { colour = colour; vertex = Vertex.Pass }) result
             self.old self.new }
     {
-        packs_tell_colourings_apart();
+        laws::packs_tell_colourings_apart();
         if self.steps.reserve(1).is_err() {
             return Err(PlayError::Memory);
         }
@@ -92,9 +91,9 @@ impl<A: Allocator + Copy> Game<A> {
         ensures costs { TurnCosts (record { colour = colour; vertex = Vertex.At p }) result
             self.old self.new }
     {
-        taken_and_left();
-        packs_tell_colourings_apart();
-        points_by_number();
+        laws::taken_and_left();
+        laws::packs_tell_colourings_apart();
+        laws::points_by_number();
         let taken = match self.board.play(&mut self.log, &mut self.meter, colour, p) {
             Ok(taken) => taken,
             Err(PlaceError::Occupied) => return Err(PlayError::Occupied),
@@ -105,6 +104,7 @@ impl<A: Allocator + Copy> Game<A> {
             vertex: Vertex::At(p),
         };
         let step = Step { made, taken };
+        // `write_pack` fills the pack of the key in, and so spares a copy.
         let mut key = self.superko.key(Packed::empty(), colour.other());
         self.board.write_pack(&mut key.pack);
         match note_step(&key, &mut self.history, &mut self.steps, step) {
@@ -128,7 +128,7 @@ impl<A: Allocator + Copy> Game<A> {
         ensures after { self.new.standing ≡ without_last 1 self.old.standing }
         ensures back { IfSome result (λ m. IsTakenBack self.old self.new) }
     {
-        packs_tell_colourings_apart();
+        laws::packs_tell_colourings_apart();
         let step = self.steps.pop()?;
         let mut key = self.superko.key(Packed::empty(), step.made.colour.other());
         self.board.write_pack(&mut key.pack);

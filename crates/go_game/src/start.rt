@@ -11,9 +11,8 @@ ghost use Rattle.go_game.specs.inner.Building.{IsFilledTo, most_to_put};
 ghost use Rattle.go_game.specs.Standings.{empty_start, started};
 
 use crate::{Game, SetupError, Superko};
-use go_board::laws::{packs_tell_colourings_apart, points_by_number, reaches_by_a_path};
 use go_board::plain::first_dead;
-use go_board::{Colour, Grid, Meter, Point};
+use go_board::{Colour, Grid, Meter, Point, laws};
 use go_chains::{Board, Log};
 use std::alloc::{AllocError, Allocator};
 
@@ -52,7 +51,7 @@ impl<A: Allocator + Copy> Game<A> {
         ensures writes { length self.new.trace ≤ length self.old.trace
             + 2 * (grid.now.lines * grid.now.lines) + most_to_fill grid.now }
     {
-        packs_tell_colourings_apart();
+        laws::packs_tell_colourings_apart();
         if let Some(p) = first_dead(grid) {
             return Err(SetupError::NoLiberty(p));
         }
@@ -118,8 +117,8 @@ fn put_stone<A: Allocator + Copy>(
     ensures writes { length board.new.trace
         ≤ length board.old.trace + most_to_put grid.now number }
 {
-    points_by_number();
-    reaches_by_a_path();
+    laws::points_by_number();
+    laws::reaches_by_a_path();
     let at = Point::numbered(grid.size(), number);
     match grid.get(at) {
         None => Ok(()),

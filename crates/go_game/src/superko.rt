@@ -7,9 +7,9 @@ use go_history::Key;
 /// Which repetitions are illegal. Passes are legal under both rules.
 #[derive(Clone, Copy, Debug, PartialEq, Eq)]
 pub enum Superko {
-    /// A play may not leave a colouring that came before.
+    /// A play is illegal if the colouring after it came before.
     Positional,
-    /// A play may not leave a colouring that came before with the same colour to move.
+    /// A play is illegal if the colouring after it came before with the same colour to move.
     Situational,
 }
 

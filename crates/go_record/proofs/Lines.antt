@@ -5,11 +5,11 @@ use Rattle.std.proofs.lemmas.List.{append-nil}
 use Rattle.go_board.specs.Colours.{Colouring}
 use Rattle.go_sgf.specs.Record.{Property, Trees}
 use Rattle.go_record.specs.declared.error.RecordError.TheVariants.{BadKomi, BadSize, NotGo}
-use Rattle.go_record.specs.declared.state.Left.{Left}
+use Rattle.go_record.specs.declared.state.Remaining.{Remaining}
 use Rattle.go_record.specs.Games.{IsGameOf, is_go_value, komi_in, lines_in, value_at_root}
 use Rattle.go_sgf.specs.MainLine.{main_line}
 use Rattle.go_record.specs.MainLine.{Event, events_from, events_of, looked_at}
-use Rattle.go_record.specs.inner.Progress.{Says, left_by, seen}
+use Rattle.go_record.specs.inner.Progress.{Says, remaining_by, seen}
 use Rattle.go_record.specs.Walks.{Outcome, SetsUp}
 
 -- one node on: the events of those before it, its own, and those of the later ones
@@ -21,7 +21,7 @@ node_on count after done nodes node later e is =
     ∙ ap (λ (n : ℕ). done ++ (events_of count node ++ events_from n later)) is
     ∙ ap (λ (ns : List (List Property)). done ++ events_from count ns) (sym e)
 
-seen_by : (number : Option ℕ) (events : List Event) → seen (left_by number) events ≡ looked_at number events
+seen_by : (number : Option ℕ) (events : List Event) → seen (remaining_by number) events ≡ looked_at number events
 seen_by None events = refl
 seen_by (Some n) events = refl
 
@@ -50,10 +50,10 @@ module _ (c : Trees) (number : Option ℕ) where
   game_walks n komi outcome e f h walk = rw (e, f, h) walk
 
   -- the game of a walk from its begin
-  pub game_walked : (n m : ℕ) (komi komi' : ℤ) (g : Colouring) (left : Left) (outcome : Outcome) → Says c n komi →
-      m ≡ n → komi' ≡ komi → g ≡ replicate (n * n) None → left ≡ left_by number →
-      SetsUp m komi' g None (seen left (events_from 0 (main_line c) ++ [])) outcome → IsGameOf c number outcome
-  game_walked n m komi komi' g left outcome says is same empty by walk =
+  pub game_walked : (n m : ℕ) (komi komi' : ℤ) (g : Colouring) (remaining : Remaining) (outcome : Outcome) → Says c n komi →
+      m ≡ n → komi' ≡ komi → g ≡ replicate (n * n) None → remaining ≡ remaining_by number →
+      SetsUp m komi' g None (seen remaining (events_from 0 (main_line c) ++ [])) outcome → IsGameOf c number outcome
+  game_walked n m komi komi' g remaining outcome says is same empty by walk =
       game_walks n komi outcome says.go says.size says.komi_said
       (subst (λ (es : List Event). SetsUp n komi (replicate (n * n) None) None es outcome)
       (ap (λ l. seen l (events_from 0 (main_line c) ++ [])) by ∙ seen_by number (events_from 0 (main_line c) ++ [])

@@ -54,10 +54,10 @@ set_first n c g values = record { set = []; split = none_before (points_by_value
     none_before (Some ps) = refl
 
 -- all are set
-pub set_whole : (n : ℕ) (c : Option Colour) (g : Colouring) (values left : List (List ℕ)) (new : Colouring) →
-    left ≡ [] → SetSoFar n c g values left new →
+pub set_whole : (n : ℕ) (c : Option Colour) (g : Colouring) (values remaining : List (List ℕ)) (new : Colouring) →
+    remaining ≡ [] → SetSoFar n c g values remaining new →
     (ps : List Point) × (points_by_values n values ≡ Some ps) × (new ≡ with_points n c g ps)
-set_whole n c g values left new none h = (
+set_whole n c g values remaining new none h = (
   h.set,
   sym h.split ∙ ap (λ (vs : List (List ℕ)). both (Some h.set) (points_by_values n vs)) none
       ∙ ap Some (append-nil h.set),

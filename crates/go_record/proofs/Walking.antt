@@ -14,8 +14,8 @@ use Rattle.go_game.specs.Standings.{GameValue, IsLegal, IsOccupied, IsOffBoard, 
 use Rattle.go_sgf.specs.BoardValues.{vertex_in, points_by_values}
 use Rattle.go_record.specs.declared.error.RecordError.{RecordError}
 use Rattle.go_record.specs.declared.error.RecordError.TheVariants.{BadValue, Memory, SetupAfterMove}
-use Rattle.go_record.specs.declared.state.Left.{Left}
-use Rattle.go_record.specs.declared.state.Left.TheVariants.{All, Moves, Nothing}
+use Rattle.go_record.specs.declared.state.Remaining.{Remaining}
+use Rattle.go_record.specs.declared.state.Remaining.TheVariants.{All, Moves, Nothing}
 use Rattle.go_record.specs.MainLine.{Event, stones, turn, move_met}
 use Rattle.go_record.specs.inner.Progress.{Goes, GoesFrom, Passes, WalkedGame, Stops, Walked, is_nothing, playing, seen}
 use Rattle.go_board.specs.Living.{AreAlive}
@@ -23,27 +23,27 @@ use Rattle.go_record.specs.Walks.{Begins, IsDeadSetup, IsReason, IsRefused, Outc
 
 -- ---- what is looked at
 
-pub seen_over : (left : Left) → is_nothing left ≡ true → (xs ys : List Event) → seen left xs ≡ seen left ys
+pub seen_over : (remaining : Remaining) → is_nothing remaining ≡ true → (xs ys : List Event) → seen remaining xs ≡ seen remaining ys
 seen_over All e xs ys = absurd (true≢false (sym e))
 seen_over (Moves k) e xs ys = absurd (true≢false (sym e))
 seen_over Nothing e xs ys = refl
 
-pub seen_turn : (left : Left) → is_nothing left ≡ false → (node : ℕ) (value : List ℕ) (later : List Event) →
-    seen left (turn node value ∷ later) ≡ turn node value ∷ seen left later
+pub seen_turn : (remaining : Remaining) → is_nothing remaining ≡ false → (node : ℕ) (value : List ℕ) (later : List Event) →
+    seen remaining (turn node value ∷ later) ≡ turn node value ∷ seen remaining later
 seen_turn All e node value later = refl
 seen_turn (Moves zero) e node value later = refl
 seen_turn (Moves (suc k)) e node value later = refl
 seen_turn Nothing e node value later = absurd (true≢false e)
 
-pub seen_stones : (left : Left) → is_nothing left ≡ false →
+pub seen_stones : (remaining : Remaining) → is_nothing remaining ≡ false →
     (node : ℕ) (c : Option Colour) (values : List (List ℕ)) (later : List Event) →
-    seen left (stones node c values ∷ later) ≡ stones node c values ∷ seen left later
+    seen remaining (stones node c values ∷ later) ≡ stones node c values ∷ seen remaining later
 seen_stones All e node c values later = refl
 seen_stones (Moves zero) e node c values later = refl
 seen_stones (Moves (suc k)) e node c values later = refl
 seen_stones Nothing e node c values later = absurd (true≢false e)
 
-seen_none : (left : Left) → seen left [] ≡ []
+seen_none : (remaining : Remaining) → seen remaining [] ≡ []
 seen_none All = refl
 seen_none (Moves zero) = refl
 seen_none (Moves (suc k)) = refl
@@ -130,10 +130,10 @@ module _ (n : ℕ) (komi : ℤ) (g : Colouring) (given : Option Colour) where
 pub passes_nothing : (w : WalkedGame) → Passes w [] w
 passes_nothing w = record { passed = λ later outcome h. h }
 
-pub passes_over : (w : WalkedGame) → is_nothing w.0.left ≡ true → (events : List Event) → Passes w events w
+pub passes_over : (w : WalkedGame) → is_nothing w.0.remaining ≡ true → (events : List Event) → Passes w events w
 passes_over w e events = record {
   passed = λ later outcome h. subst (λ (xs : List Event). GoesFrom w.0 (playing w) xs outcome)
-      (seen_over w.0.left e later (events ++ later)) h;
+      (seen_over w.0.remaining e later (events ++ later)) h;
 }
 
 pub passes_passes : {a b c : WalkedGame} {xs ys : List Event} → Passes a xs b → Passes b ys c → Passes a (xs ++ ys) c
@@ -158,54 +158,54 @@ stops_longer {a} {xs} {e} q ys = record {
 
 -- a walk whose game and events are known
 pub goes_by : (w : WalkedGame) (o : Option GameValue) (xs ys : List Event) (outcome : Outcome) → playing w ≡ o →
-    seen w.0.left xs ≡ ys → GoesFrom w.0 o ys outcome → Goes w xs outcome
+    seen w.0.remaining xs ≡ ys → GoesFrom w.0 o ys outcome → Goes w xs outcome
 goes_by w o xs ys outcome e f h =
-    subst (λ (p : Option GameValue). GoesFrom w.0 p (seen w.0.left xs) outcome) (sym e)
+    subst (λ (p : Option GameValue). GoesFrom w.0 p (seen w.0.remaining xs) outcome) (sym e)
     (subst (λ (zs : List Event). GoesFrom w.0 o zs outcome) (sym f) h)
 
 pub goes_from : (w : WalkedGame) (o : Option GameValue) (xs : List Event) (outcome : Outcome) → playing w ≡ o →
-    Goes w xs outcome → GoesFrom w.0 o (seen w.0.left xs) outcome
-goes_from w o xs outcome e h = subst (λ (p : Option GameValue). GoesFrom w.0 p (seen w.0.left xs) outcome) e h
+    Goes w xs outcome → GoesFrom w.0 o (seen w.0.remaining xs) outcome
+goes_from w o xs outcome e h = subst (λ (p : Option GameValue). GoesFrom w.0 p (seen w.0.remaining xs) outcome) e h
 
 -- one event
 pub passes_event : {w new : WalkedGame} (o p : Option GameValue) (event : Event) → playing w ≡ o → playing new ≡ p →
-    ((later : List Event) → seen w.0.left (event ∷ later) ≡ event ∷ seen new.0.left later) →
+    ((later : List Event) → seen w.0.remaining (event ∷ later) ≡ event ∷ seen new.0.remaining later) →
     ((events : List Event) (outcome : Outcome) → GoesFrom new.0 p events outcome →
     GoesFrom w.0 o (event ∷ events) outcome) → Passes w (event ∷ []) new
 passes_event {w} {new} o p event e f split step = record {
   passed = λ later outcome h.
-      goes_by w o (event ∷ later) (event ∷ seen new.0.left later) outcome e (split later)
-      (step (seen new.0.left later) outcome (goes_from new p later outcome f h));
+      goes_by w o (event ∷ later) (event ∷ seen new.0.remaining later) outcome e (split later)
+      (step (seen new.0.remaining later) outcome (goes_from new p later outcome f h));
 }
 
-pub stops_event : {w : WalkedGame} {error : RecordError} (o : Option GameValue) (left : Left) (event : Event) →
+pub stops_event : {w : WalkedGame} {error : RecordError} (o : Option GameValue) (remaining : Remaining) (event : Event) →
     playing w ≡ o →
-    ((later : List Event) → seen w.0.left (event ∷ later) ≡ event ∷ seen left later) →
+    ((later : List Event) → seen w.0.remaining (event ∷ later) ≡ event ∷ seen remaining later) →
     (error ≢ Memory → (events : List Event) → GoesFrom w.0 o (event ∷ events) (Err error)) → Stops w (event ∷ []) error
-stops_event {w} {error} o left event e split step = record {
-  stopped = λ some later. goes_by w o (event ∷ later) (event ∷ seen left later) (Err error) e (split later)
-      (step some (seen left later));
+stops_event {w} {error} o remaining event e split step = record {
+  stopped = λ some later. goes_by w o (event ∷ later) (event ∷ seen remaining later) (Err error) e (split later)
+      (step some (seen remaining later));
 }
 
 pub passes_turn_playing : (w : WalkedGame) (game : GameValue) → playing w ≡ Some game → (node : ℕ) (value : List ℕ) →
     Passes w (turn node value ∷ []) w
-passes_turn_playing w game e node value = elim (cases_Bool (is_nothing w.0.left)) [
+passes_turn_playing w game e node value = elim (cases_Bool (is_nothing w.0.remaining)) [
   | inl over ↦ passes_over w over (turn node value ∷ [])
-  | inr live ↦ passes_event (Some game) (Some game) (turn node value) e e (seen_turn w.0.left live node value)
+  | inr live ↦ passes_event (Some game) (Some game) (turn node value) e e (seen_turn w.0.remaining live node value)
       (plays_turn game.standing node value)
 ]
 
 -- ---- the end
 
 pub end_playing : (w : WalkedGame) (game : GameValue) → playing w ≡ Some game → Goes w [] (Ok game.standing)
-end_playing w game e = goes_by w (Some game) [] [] (Ok game.standing) e (seen_none w.0.left) (plays_end game.standing)
+end_playing w game e = goes_by w (Some game) [] [] (Ok game.standing) e (seen_none w.0.remaining) (plays_end game.standing)
 
 pub end_started : {T : Type 0} (w : WalkedGame) (r : Result T RecordError) (s : Standing) → playing w ≡ None →
     OnOk r (AreAlive w.0.grid.lines w.0.grid.colours
     × (s ≡ start_of w.0.grid.lines w.0.komi w.0.grid.colours w.0.turn)) → OnOk r (Goes w [] (Ok s))
 end_started w (Ok x) s e h =
     let start : Standing = start_of w.0.grid.lines w.0.komi w.0.grid.colours w.0.turn in
-    goes_by w None [] [] (Ok s) e (seen_none w.0.left)
+    goes_by w None [] [] (Ok s) e (seen_none w.0.remaining)
     (sets_end w.0.grid.lines w.0.komi w.0.grid.colours w.0.turn (Ok s)
     (inl (h.0, subst (λ (t : Standing). Plays start [] (Ok t)) (sym h.1) (plays_end start))))
 end_started w (Err error) s e h = h
@@ -215,7 +215,7 @@ pub end_dead : {T : Type 0} (w : WalkedGame) (r : Result T RecordError) → play
     IfErr r (λ error. error ≢ Memory → Goes w [] (Err error))
 end_dead w (Ok x) e h = h
 end_dead w (Err error) e h = λ some.
-    goes_by w None [] [] (Err error) e (seen_none w.0.left)
+    goes_by w None [] [] (Err error) e (seen_none w.0.remaining)
     (sets_end w.0.grid.lines w.0.komi w.0.grid.colours w.0.turn (Err error) (inr (h some)))
 
 pub reason_of : (s : Standing) (c : Colour) (v : Vertex) (why : PlayError) (r : Result Taken PlayError) → r ≡ Err why →

@@ -14,8 +14,7 @@ use crate::replaying::walk_on;
 use crate::root::{root_of, root_values};
 use crate::verdict::{Stated, Verdict};
 use go_game::Game;
-use go_sgf::laws::one_record;
-use go_sgf::{Checked, Collection, cook_simple, hundredths_of, trim};
+use go_sgf::{Checked, Collection, cook_simple, hundredths_of, laws, trim};
 use std::alloc::{AllocError, Allocator};
 
 /// The verdict on a record: its game's moves and margin, and whether that is the margin that its RE states.
@@ -29,7 +28,7 @@ pub fn judge<A: Allocator + Copy>(
     ensures err { IfErr result
         (λ e. e ≢ Memory → IsGameOf collection.now None (Err e)) }
 {
-    one_record();
+    laws::one_record();
     judge_source(alloc, &collection.checked())
 }
 

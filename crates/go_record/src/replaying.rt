@@ -5,25 +5,24 @@ ghost use Rattle.go_record.specs.declared.error.RecordError.TheVariants.{Memory}
 ghost use Rattle.go_game.specs.Standings.{is_vacant_standing};
 ghost use Rattle.go_record.specs.Games.{IsGameOf};
 ghost use Rattle.go_record.specs.MainLine.{events_from};
-ghost use Rattle.go_record.specs.inner.Progress.{Says, Walked, left_by};
+ghost use Rattle.go_record.specs.inner.Progress.{Says, Walked, remaining_by};
 ghost use Rattle.go_sgf.specs.MainLine.{main_line};
 ghost use Rattle.go_sgf.specs.Record.{Trees};
 ghost use Rattle.go_sgf.specs.Spelling.{OfRecord, Spells};
 
 use crate::error::RecordError;
 use crate::root::{Root, root_of, root_values};
-use crate::state::{Left, Walk};
+use crate::state::{Remaining, Walk};
 use crate::walk::next_number;
 use go_board::Grid;
 use go_game::Game;
-use go_sgf::laws::one_record;
-use go_sgf::{Checked, Collection, MainLine};
+use go_sgf::{Checked, Collection, MainLine, laws};
 use std::alloc::Allocator;
 
 /// The game of a record: that of the main line of its first tree, with its size, komi and start, under the
-/// positional superko rule. With a number the walk ends before the move of that number, counted from 1. 0 is
-/// read as 1. It checks GM, SZ and KM in this order, then each node, and returns the first refusal. If memory
-/// runs out, it returns `Memory` instead.
+/// positional superko rule. With a number the walk ends when it meets the move of that number, counted from
+/// 1, after the set-up in that move's node. 0 is read as 1. It checks GM, SZ and KM in this order, then each
+/// node, and returns the first refusal. If memory runs out, it returns `Memory` instead.
 pub fn replay<A: Allocator + Copy>(
     alloc: A,
     collection: &Collection<'_, A>,
@@ -34,7 +33,7 @@ pub fn replay<A: Allocator + Copy>(
     ensures err { IfErr result
         (λ e. e ≢ Memory → IsGameOf collection.now number (Err e)) }
 {
-    one_record();
+    laws::one_record();
     replay_source(alloc, &collection.checked(), number)
 }
 
@@ -67,7 +66,7 @@ pub fn replay_on<A: Allocator + Copy>(
         (λ e. e ≢ Memory → IsGameOf collection.now number (Err e)) }
     ensures vacant { OnErr result (is_vacant_standing game.new.standing ≡ true) }
 {
-    one_record();
+    laws::one_record();
     replay_source_on(game, &collection.checked(), number)
 }
 
@@ -124,20 +123,20 @@ pub(crate) fn walk_on<A: Allocator + Copy>(
         grid: Grid::new(root.size),
         turn: None,
         has_begun: false,
-        left: left_of(number),
+        remaining: remaining_before(number),
     };
     visit_line(&mut walk, game, source)?;
     walk.finish(game)
 }
 
 /// The events that a walk visits if it ends before the move of this number.
-fn left_of(number: Option<u32>) -> Left
-    ensures { result ≡ left_by number }
+fn remaining_before(number: Option<u32>) -> Remaining
+    ensures { result ≡ remaining_by number }
 {
     match number {
-        None => Left::All,
-        Some(0) => Left::Moves(0),
-        Some(number) => Left::Moves(number - 1),
+        None => Remaining::All,
+        Some(0) => Remaining::Moves(0),
+        Some(number) => Remaining::Moves(number - 1),
     }
 }
 
@@ -150,7 +149,7 @@ fn visit_line<A: Allocator + Copy>(
     ensures { (c : Trees) → Spells source.now c → Walked result (walk.old, game.old)
         (events_from 0 (main_line c)) (walk.new, game.new) }
 {
-    one_record();
+    laws::one_record();
     let mut cursor = MainLine::of(source);
     let mut count = 0;
     while cursor.next_node() {

@@ -29,8 +29,8 @@ pub(crate) struct RootValues<'a> {
     pub(crate) result: &'a [u8],
 }
 
-/// The values at the root of a record. It isn't inlined. Inlined into `judge_source`, it would make the
-/// compiler add code to drop a game that was given away already.
+/// The values at the root of a record. It isn't inlined. If it were, `judge_source` would have code to drop a
+/// game that it doesn't own any more.
 #[inline(never)]
 pub(crate) fn root_values<'a>(source: &Checked<'a>) -> RootValues<'a>
     ensures { OfRecord source.now (IsRootOf result) }
@@ -86,7 +86,7 @@ impl<'a> Found<'a> {
 
     /// Whether a property with each name was found, so that later ones don't count.
     fn is_whole(&self) -> bool
-        ensures { IsTrue result → (left : List Property) (c : Trees) → AreFoundOf self.now left c
+        ensures { IsTrue result → (remaining : List Property) (c : Trees) → AreFoundOf self.now remaining c
             → AreFoundOf self.now [] c }
     {
         self.game.is_some() && self.size.is_some() && self.komi.is_some() && self.result.is_some()

@@ -1,4 +1,4 @@
-//! Stones set up on a grid, and the colour that moves first. None of these functions takes a `Walk`.
+//! Stones set up on a grid, and the colour that moves first.
 ghost use Rattle.std.specs.Prelude.{◌≡◌, ◌≤◌, ℕ, All, IfNone, List, None, OnSome, Some, length};
 ghost use Rattle.go_board.specs.declared.point.Point.{Point};
 ghost use Rattle.go_board.specs.Points.{IsOn};

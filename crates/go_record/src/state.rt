@@ -1,14 +1,14 @@
-//! The types of a walk, in a file of their own. Rattle gives a struct with a ghost field the `ghost use` lines
-//! of its file. Those of `walk.rt` name definitions that need these types, so the types can't be in that file.
+//! The types of a walk. They can't be in `walk.rt`: a struct with a ghost field gets all `ghost use` lines of
+//! its file, and those of `walk.rt` name definitions that need these types.
 ghost use Rattle.go_board.specs.Komi.{IsKomi};
 
 use go_board::{Colour, Grid};
 
 /// Which of the later events a walk visits.
 #[derive(Clone, Copy)]
-pub(crate) enum Left {
+pub(crate) enum Remaining {
     All,
-    /// This number of moves more. Set-up goes on until the move after them is met: with 0 the walk isn't over.
+    /// This number of moves more. Set-up is visited until the next move is met, so with 0 the walk isn't over.
     Moves(u32),
     Nothing,
 }
@@ -21,6 +21,6 @@ pub(crate) struct Walk {
     pub(crate) grid: Grid,
     pub(crate) turn: Option<Colour>,
     pub(crate) has_begun: bool,
-    pub(crate) left: Left,
+    pub(crate) remaining: Remaining,
     pub ghost in_range: { IsKomi komi },
 }

@@ -17,7 +17,7 @@ use crate::error::RecordError;
 use crate::kind::{Kind, kind_of};
 use crate::moves::MovesMet;
 use crate::start::{colour_of, first_mover, set_points};
-use crate::state::{Left, Walk};
+use crate::state::{Remaining, Walk};
 use crate::values::first_value;
 use go_board::{Colour, Grid, Move, Vertex};
 use go_game::{Game, PlayError, SetupError};
@@ -41,7 +41,7 @@ impl Walk {
         ensures onward { length cursor.new ≤ length cursor.old }
     {
         let mut again = cursor.fork();
-        match self.set_up(cursor, node)? {
+        match self.visit_properties(cursor, node)? {
             MovesMet::NoMove => Ok(()),
             MovesMet::OneMove(colour, value) => self.play_unless_over(game, colour, value, node),
             MovesMet::MoreMoves => self.play_moves(game, &mut again, node),
@@ -49,7 +49,7 @@ impl Walk {
     }
 
     /// Visits the set-up properties of a node, and returns the moves that were met.
-    fn set_up<'a>(
+    fn visit_properties<'a>(
         &mut self,
         cursor: &mut MainLine<'a>,
         node: usize,
@@ -67,13 +67,13 @@ impl Walk {
     {
         let mut moves = MovesMet::NoMove;
         while let Some(name) = cursor.next_name() {
-            self.visit_setup(kind_of(name), cursor, node, &mut moves)?;
+            self.visit_property(kind_of(name), cursor, node, &mut moves)?;
         }
         Ok(moves)
     }
 
     /// Visits a property of this kind. It sets up stones at once, and only notes a move.
-    fn visit_setup<'a>(
+    fn visit_property<'a>(
         &mut self,
         kind: Kind,
         cursor: &mut MainLine<'a>,
@@ -143,8 +143,8 @@ impl Walk {
         }
     }
 
-    /// Gives the points of a property's values a colour, or empties them. Its contract also covers a walk that
-    /// is over, so it tests for that, though `visit_line` doesn't call it then.
+    /// Gives the points of a property's values a colour, or empties them. `visit_line` doesn't call it once
+    /// the walk is over. Its contract allows that, so it tests for it.
     fn set_stones(
         &mut self,
         colour: Option<Colour>,
@@ -190,9 +190,9 @@ impl Walk {
 
     /// Whether the walk is over.
     pub(crate) fn is_over(&self) -> bool
-        ensures { result ≡ is_nothing self.now.left }
+        ensures { result ≡ is_nothing self.now.remaining }
     {
-        matches!(self.left, Left::Nothing)
+        matches!(self.remaining, Remaining::Nothing)
     }
 
     /// Plays the move of a value, unless the walk ends before it.
@@ -206,17 +206,17 @@ impl Walk {
         ensures { Walked result (self.old, game.old) (move_met node colour value.now ∷ [])
             (self.new, game.new) }
     {
-        match self.left {
-            Left::All => self.play(game, colour, value, node),
-            Left::Moves(left) => {
-                if left == 0 {
-                    self.left = Left::Nothing;
+        match self.remaining {
+            Remaining::All => self.play(game, colour, value, node),
+            Remaining::Moves(remaining) => {
+                if remaining == 0 {
+                    self.remaining = Remaining::Nothing;
                     return Ok(());
                 }
-                self.left = Left::Moves(left - 1);
+                self.remaining = Remaining::Moves(remaining - 1);
                 self.play(game, colour, value, node)
             }
-            Left::Nothing => Ok(()),
+            Remaining::Nothing => Ok(()),
         }
     }
 
@@ -228,7 +228,7 @@ impl Walk {
         value: &[u8],
         node: usize,
     ) -> Result<(), RecordError>
-        ensures left { self.new.left ≡ self.old.left }
+        ensures remaining { self.new.remaining ≡ self.old.remaining }
         ensures ok { OnOk result ((events : List Event) (outcome : Outcome)
             → GoesFrom self.new (playing (self.new, game.new)) events outcome
             → GoesFrom self.old (playing (self.old, game.old))

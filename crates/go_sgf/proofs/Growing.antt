@@ -13,7 +13,7 @@ use Rattle.go_sgf.specs.declared.record.Tree.{Tree}
 use Rattle.go_sgf.specs.declared.record.Tree.TheFolds.{fold-roll-Tree, fold_out-Tree}
 use Rattle.go_sgf.specs.declared.record.Tree.TheOpen.{Tree-F}
 use Rattle.go_sgf.specs.declared.record.Tree.TheViews.{roll-Tree, out-Tree}
-use Rattle.go_sgf.specs.declared.error.Stop.TheVariants.{Deep}
+use Rattle.go_sgf.specs.declared.error.ReadError.TheVariants.{Deep}
 use Rattle.go_sgf.specs.declared.limits.TheConstants.{MAX_DEPTH}
 use Rattle.go_sgf.proofs.Machine as machine
 use Rattle.go_sgf.proofs.Parts.{SpellsParts-append, no_space_after, rest_le}

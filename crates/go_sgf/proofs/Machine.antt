@@ -10,7 +10,7 @@ use Rattle.go_sgf.specs.Stands.{State, StateAt, step, outside, on_space, on_open
 use Rattle.go_sgf.specs.inner.Outcome.{outcome, outcome_on, IsWithin, here}
 use Rattle.go_sgf.specs.inner.Reads.{begins_space, is_ordinary}
 use Rattle.go_sgf.specs.inner.Reads.{is_letter_first}
-use Rattle.go_sgf.specs.declared.error.Stop.TheVariants.{End, Stray}
+use Rattle.go_sgf.specs.declared.error.ReadError.TheVariants.{End, Stray}
 use Rattle.go_sgf.proofs.Inside.{ordinary_inside}
 use Rattle.go_sgf.proofs.Scanning.{after_space_more, after_space_stop}
 

@@ -9,23 +9,23 @@ use Rattle.go_sgf.specs.Stands.{opened, in_node, named, gap, in_value, after, cl
 use Rattle.go_sgf.specs.inner.Outcome.{outcome, Meets, IsWithin, here}
 use Rattle.go_sgf.specs.inner.Reads.{ReadsValues, ReadsProperty, ReadsNode, ReadsNodes}
 use Rattle.go_sgf.specs.inner.Reads.{is_letter_first}
-use Rattle.go_sgf.specs.declared.error.Stop.{Stop}
-use Rattle.go_sgf.specs.declared.error.Stop.TheVariants.{Memory, End, Stray, Deep}
+use Rattle.go_sgf.specs.declared.error.ReadError.{ReadError}
+use Rattle.go_sgf.specs.declared.error.ReadError.TheVariants.{Memory, End, Stray, Deep}
 use Rattle.go_sgf.specs.declared.limits.TheConstants.{MAX_DEPTH}
 use Rattle.go_sgf.proofs.Machine as machine
 use Rattle.go_sgf.proofs.Parts.{AllByRecursion-push, SpellsParts-append, letter_same, no_space_first, no_space_after, rest_le, length-after_space}
 
 -- ---- exits
 
-pub refuses : {X : Type 0} (f : Stop) (o : Result (List ℕ) Stop) (later : X → Result (List ℕ) Stop) → o ≡ Err f →
+pub refuses : {X : Type 0} (f : ReadError) (o : Result (List ℕ) ReadError) (later : X → Result (List ℕ) ReadError) → o ≡ Err f →
     Meets (Err f) o later
 refuses Memory o later e = tt
 refuses End o later e = e
 refuses (Stray n) o later e = e
 refuses (Deep n) o later e = e
 
-pub passes : {X Y : Type 0} (f : Stop) (o o' : Result (List ℕ) Stop) (later : X → Result (List ℕ) Stop)
-    (later' : Y → Result (List ℕ) Stop) → o ≡ o' → Meets (Err f) o' later' → Meets (Err f) o later
+pub passes : {X Y : Type 0} (f : ReadError) (o o' : Result (List ℕ) ReadError) (later : X → Result (List ℕ) ReadError)
+    (later' : Y → Result (List ℕ) ReadError) → o ≡ o' → Meets (Err f) o' later' → Meets (Err f) o later
 passes Memory o o' later later' e m = tt
 passes End o o' later later' e m = e ∙ m
 passes (Stray n) o o' later later' e m = e ∙ m

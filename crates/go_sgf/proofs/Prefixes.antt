@@ -9,7 +9,7 @@ use Rattle.go_sgf.specs.Stands.{State, StateAt, step, run, stands, opened, whole
 use Rattle.go_sgf.specs.inner.Outcome.{outcome, outcome_on, IsWithin}
 use Rattle.go_sgf.specs.inner.Reads.{begins_space}
 use Rattle.go_sgf.specs.Laws.{FrontsStand}
-use Rattle.go_sgf.specs.declared.error.Stop.TheVariants.{End, Deep}
+use Rattle.go_sgf.specs.declared.error.ReadError.TheVariants.{End, Deep}
 use Rattle.go_sgf.proofs.Machine as machine
 use Rattle.go_sgf.proofs.Outcomes.{tree_outcome}
 use Rattle.go_sgf.proofs.Parts.{SpellsParts-append, after_space-same}

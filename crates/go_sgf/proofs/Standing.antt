@@ -5,8 +5,8 @@ use Rattle.go_sgf.specs.Record.{is_upper_byte, is_lower}
 use Rattle.go_sgf.specs.Spelling.{without_space, is_space}
 use Rattle.go_sgf.specs.Stands.{State, StateAt, step, outside, on_space, on_open, on_close, on_semicolon, on_bracket, on_upper, on_lower, up, run, opened, in_node, low, named, gap, in_value, escape, after, closed, whole, IsUnfinished, IsAtDepth}
 use Rattle.go_sgf.specs.inner.Outcome.{outcome, outcome_on, IsWithin, left_of}
-use Rattle.go_sgf.specs.declared.error.Stop.{Stop}
-use Rattle.go_sgf.specs.declared.error.Stop.TheVariants.{Memory, End, Stray, Deep}
+use Rattle.go_sgf.specs.declared.error.ReadError.{ReadError}
+use Rattle.go_sgf.specs.declared.error.ReadError.TheVariants.{Memory, End, Stray, Deep}
 use Rattle.go_sgf.proofs.Machine as machine
 
 -- ---- where a step leads
@@ -110,14 +110,14 @@ module _ (d : ℕ) (h : 1 ≤ d) where
 -- ---- a fault
 
 -- why it stops at a place, by this fault
-abbrev pub Why : ℕ → Stop → State → ℕ → List ℕ → ℕ → Type 0
+abbrev pub Why : ℕ → ReadError → State → ℕ → List ℕ → ℕ → Type 0
 Why limit Memory s d b at = ⊥
 Why limit End s d b at = at ≡ length b
 Why limit (Stray n) s d b at = (at < length b) × ((k : ℕ) → at < k → run s d (take k b) ≡ None)
 Why limit (Deep n) s d b at = (at < length b) × IsAtDepth (suc limit) (run s d (take (at + 1) b))
 
 -- from a state on the bytes stand up to a place, where this fault is
-pub record FaultIs (limit : ℕ) (s : State) (d : ℕ) (b : List ℕ) (f : Stop) : Type 0 where
+pub record FaultIs (limit : ℕ) (s : State) (d : ℕ) (b : List ℕ) (f : ReadError) : Type 0 where
   pub at : ℕ
   pub left : at + left_of f ≡ length b
   pub unfinished : IsUnfinished (run s d (take at b))
@@ -129,9 +129,9 @@ module _ (limit : ℕ) where
   no_bytes zero = refl
   no_bytes (suc k) = refl
 
-  fault_end : (s : State) (d : ℕ) (f : Stop) → s ≢ whole → d ≤ limit → End ≡ f → FaultIs limit s d [] f
+  fault_end : (s : State) (d : ℕ) (f : ReadError) → s ≢ whole → d ≤ limit → End ≡ f → FaultIs limit s d [] f
   fault_end s d f ne deep e =
-      let P : Stop → Type 0 = λ x. FaultIs limit s d [] x in
+      let P : ReadError → Type 0 = λ x. FaultIs limit s d [] x in
       subst P e (record {
         at = 0;
         left = refl;
@@ -151,10 +151,10 @@ module _ (limit : ℕ) where
   at_start s d b deep zero less h = omega arith
   at_start s d b deep (suc k) less h = omega arith
 
-  fault_here : (s : State) (d c : ℕ) (cs : List ℕ) (f : Stop) → s ≢ whole → d ≤ limit → step s d c ≡ None →
+  fault_here : (s : State) (d c : ℕ) (cs : List ℕ) (f : ReadError) → s ≢ whole → d ≤ limit → step s d c ≡ None →
       Stray (suc (length cs)) ≡ f → FaultIs limit s d (c ∷ cs) f
   fault_here s d c cs f ne deep step_is e =
-      let P : Stop → Type 0 = λ x. FaultIs limit s d (c ∷ cs) x in
+      let P : ReadError → Type 0 = λ x. FaultIs limit s d (c ∷ cs) x in
       subst P e (record {
         at = 0;
         left = omega arith;
@@ -163,11 +163,11 @@ module _ (limit : ℕ) where
         stops = (omega arith, stuck_past s d c cs step_is);
       })
 
-  fault_deep : (s : State) (d c : ℕ) (cs : List ℕ) (f : Stop) (p : StateAt) → s ≢ whole → d ≤ limit →
+  fault_deep : (s : State) (d c : ℕ) (cs : List ℕ) (f : ReadError) (p : StateAt) → s ≢ whole → d ≤ limit →
       step s d c ≡ Some p → p.1 ≡ suc limit →
       Deep (suc (length cs)) ≡ f → FaultIs limit s d (c ∷ cs) f
   fault_deep s d c cs f p ne deep step_is at_limit e =
-      let P : Stop → Type 0 = λ x. FaultIs limit s d (c ∷ cs) x in
+      let P : ReadError → Type 0 = λ x. FaultIs limit s d (c ∷ cs) x in
       let Q : Option StateAt → Type 0 = λ o. IsAtDepth (suc limit) (option_and_then (λ q. run q.0 q.1 []) o) in
       subst P e (record {
         at = 0;
@@ -182,7 +182,7 @@ module _ (limit : ℕ) where
       run s d (c ∷ b) ≡ run p.0 p.1 b
   run_more s d c b p e = rw e refl
 
-  why_later : (s : State) (d c : ℕ) (cs : List ℕ) (p : StateAt) (f : Stop) (at : ℕ) → step s d c ≡ Some p →
+  why_later : (s : State) (d c : ℕ) (cs : List ℕ) (p : StateAt) (f : ReadError) (at : ℕ) → step s d c ≡ Some p →
       Why limit f p.0 p.1 cs at → Why limit f s d (c ∷ cs) (suc at)
   why_later s d c cs p Memory at e w = w
   why_later s d c cs p End at e w = ap suc w
@@ -199,7 +199,7 @@ module _ (limit : ℕ) where
       let same : suc (at + 1) ≡ suc at + 1 = omega arith in
       (omega arith, subst R same deep)
 
-  fault_later : (s : State) (d c : ℕ) (cs : List ℕ) (f : Stop) (p : StateAt) → d ≤ limit → step s d c ≡ Some p →
+  fault_later : (s : State) (d c : ℕ) (cs : List ℕ) (f : ReadError) (p : StateAt) → d ≤ limit → step s d c ≡ Some p →
       FaultIs limit p.0 p.1 cs f → FaultIs limit s d (c ∷ cs) f
   fault_later s d c cs f p deep e i = record {
     at = suc i.at;
@@ -213,7 +213,7 @@ module _ (limit : ℕ) where
       shallow zero less h = omega arith
       shallow (suc k) less h = i.shallow k (omega arith) (rw (run_more s d c (take k cs) p e) at h)
 
-  by_step : (s : State) (d c : ℕ) (cs : List ℕ) (f : Stop) → s ≢ whole → IsWithin limit d → (o : Option StateAt) →
+  by_step : (s : State) (d c : ℕ) (cs : List ℕ) (f : ReadError) → s ≢ whole → IsWithin limit d → (o : Option StateAt) →
       step s d c ≡ o → MayLead d o →
       outcome_on limit o (suc (length cs)) cs (λ p. outcome limit p.0 p.1 cs) ≡ Err f →
       ((s' : State) (d' : ℕ) → s' ≢ whole → IsWithin limit d' → outcome limit s' d' cs ≡ Err f →
@@ -236,7 +236,7 @@ module _ (limit : ℕ) where
     ]
   ]
 
-  pub fault_is : (b : List ℕ) (s : State) (d : ℕ) (f : Stop) → s ≢ whole → IsWithin limit d →
+  pub fault_is : (b : List ℕ) (s : State) (d : ℕ) (f : ReadError) → s ≢ whole → IsWithin limit d →
       outcome limit s d b ≡ Err f → FaultIs limit s d b f
   fault_is [] s d f ne h e =
       let same : Err End ≡ Err f = sym (machine.outcome_end limit s d) ∙ e in

@@ -9,8 +9,8 @@ use Rattle.go_sgf.specs.inner.Outcome.{outcome, left_of, error_at, Meets}
 use Rattle.go_sgf.specs.inner.Reads.{ReadsTree}
 use Rattle.go_sgf.specs.Refusals.{StopsAt, IsReadUpTo, EndsAt, StandsNoLonger, StandsTooDeep, IsRefusal}
 use Rattle.go_sgf.specs.View.{chain}
-use Rattle.go_sgf.specs.declared.error.Stop.{Stop}
-use Rattle.go_sgf.specs.declared.error.Stop.TheVariants.{Memory, End, Stray, Deep}
+use Rattle.go_sgf.specs.declared.error.ReadError.{ReadError}
+use Rattle.go_sgf.specs.declared.error.ReadError.TheVariants.{Memory, End, Stray, Deep}
 use Rattle.go_sgf.specs.declared.limits.TheConstants.{MAX_DEPTH}
 use Rattle.go_sgf.proofs.Growing.{chain-push, depth-push, parts-push}
 use Rattle.go_sgf.proofs.Outcomes.{tree_outcome}
@@ -70,7 +70,7 @@ tree_begins [] ps b r some s = absurd (some refl)
 tree_begins (n ∷ ns) ps b r some s = rw s.1 refl
 
 -- trees and then a fault, and trees and then no tree, aren't both read from one text
-pub two_ways : (before c : Trees) (b at rest inside : List ℕ) (f : Stop) → AreTrees before → depth before ≤ MAX_DEPTH →
+pub two_ways : (before c : Trees) (b at rest inside : List ℕ) (f : ReadError) → AreTrees before → depth before ≤ MAX_DEPTH →
     AreTrees c → depth c ≤ MAX_DEPTH →
     SpellsParts b (parts before) at → SpellsParts b (parts c) rest → is_tree_first rest ≡ false →
     is_tree_first at ≡ true → at ≡ 40 ∷ inside →
@@ -160,13 +160,13 @@ no_longer inside at h zero less = absurd (omega arith)
 no_longer inside at h (suc k) less = h k (omega arith)
 
 -- why it stops, in a text
-abbrev pub WhyIn : Stop → List ℕ → ℕ → Type 0
+abbrev pub WhyIn : ReadError → List ℕ → ℕ → Type 0
 WhyIn Memory text at = ⊥
 WhyIn End text at = EndsAt text at
 WhyIn (Stray n) text at = StandsNoLonger text at
 WhyIn (Deep n) text at = StandsTooDeep text at
 
-why_in : (inside : List ℕ) (f : Stop) (at : ℕ) → Why MAX_DEPTH f opened 1 inside at → WhyIn f (40 ∷ inside) (suc at)
+why_in : (inside : List ℕ) (f : ReadError) (at : ℕ) → Why MAX_DEPTH f opened 1 inside at → WhyIn f (40 ∷ inside) (suc at)
 why_in inside Memory at w = w
 why_in inside End at w = ap suc w
 why_in inside (Stray n) at w = (omega arith, no_longer inside at w.1)
@@ -176,7 +176,7 @@ why_in inside (Deep n) at w =
     (omega arith, subst P same w.1)
 
 -- how far the text of a tree with a fault is read
-pub read_up_to : (inside : List ℕ) (f : Stop) (i : FaultIs MAX_DEPTH opened 1 inside f) →
+pub read_up_to : (inside : List ℕ) (f : ReadError) (i : FaultIs MAX_DEPTH opened 1 inside f) →
     IsReadUpTo (40 ∷ inside) (suc i.at) (WhyIn f)
 read_up_to inside f i = record {
   unfinished = i.unfinished;
@@ -184,7 +184,7 @@ read_up_to inside f i = record {
   stops = why_in inside f i.at i.stops;
 }
 
-stops_at : (source : List ℕ) (ts : List TreeValue) (inside : List ℕ) (f : Stop) (place : ℕ) →
+stops_at : (source : List ℕ) (ts : List TreeValue) (inside : List ℕ) (f : ReadError) (place : ℕ) →
     TreesSoFar source ts (40 ∷ inside) →
     is_tree_first (40 ∷ inside) ≡ true → outcome MAX_DEPTH opened 1 inside ≡ Err f → place + left_of f ≡ length source →
     StopsAt source place (WhyIn f)
@@ -205,7 +205,7 @@ stops_at source ts inside f place far begins e placed =
     }
 
 -- no more bytes are left at a fault than the source has
-left_in : (source : List ℕ) (ts : List TreeValue) (rest inside : List ℕ) (f : Stop) → TreesSoFar source ts rest →
+left_in : (source : List ℕ) (ts : List TreeValue) (rest inside : List ℕ) (f : ReadError) → TreesSoFar source ts rest →
     rest ≡ 40 ∷ inside →
     outcome MAX_DEPTH opened 1 inside ≡ Err f → left_of f ≤ length source
 left_in source ts rest inside f far is e =
@@ -215,9 +215,9 @@ left_in source ts rest inside f far is e =
     let whole : length rest ≤ length (tree_in source) = rest_le (parts (chain ts)) (tree_in source) rest far.spelling in
     omega (arith, length-from_first_tree source, ap length is)
 
-module _ {X : Type 0} (later : X → Result (List ℕ) Stop) (source : List ℕ) (ts : List TreeValue)
+module _ {X : Type 0} (later : X → Result (List ℕ) ReadError) (source : List ℕ) (ts : List TreeValue)
     (rest inside : List ℕ) where
-  pub left_by : (f : Stop) → TreesSoFar source ts rest → rest ≡ 40 ∷ inside →
+  pub left_by : (f : ReadError) → TreesSoFar source ts rest → rest ≡ 40 ∷ inside →
       Meets (Err f) (outcome MAX_DEPTH opened 1 inside) later →
       left_of f ≤ length source
   left_by Memory far is m = omega arith
@@ -225,14 +225,14 @@ module _ {X : Type 0} (later : X → Result (List ℕ) Stop) (source : List ℕ)
   left_by (Stray n) far is m = left_in source ts rest inside (Stray n) far is m
   left_by (Deep n) far is m = left_in source ts rest inside (Deep n) far is m
 
-  stops_here : (f : Stop) (place : ℕ) → TreesSoFar source ts rest → is_tree_first rest ≡ true → rest ≡ 40 ∷ inside →
+  stops_here : (f : ReadError) (place : ℕ) → TreesSoFar source ts rest → is_tree_first rest ≡ true → rest ≡ 40 ∷ inside →
       outcome MAX_DEPTH opened 1 inside ≡ Err f → place + left_of f ≡ length source → StopsAt source place (WhyIn f)
   stops_here f place far begins is e placed =
       let P : List ℕ → Type 0 = λ xs. TreesSoFar source ts xs in
       let Q : List ℕ → Type 0 = λ xs. is_tree_first xs ≡ true in
       stops_at source ts inside f place (subst P is far) (subst Q is begins) e placed
 
-  pub refused_by : (f : Stop) → TreesSoFar source ts rest → is_tree_first rest ≡ true → rest ≡ 40 ∷ inside →
+  pub refused_by : (f : ReadError) → TreesSoFar source ts rest → is_tree_first rest ≡ true → rest ≡ 40 ∷ inside →
       Meets (Err f) (outcome MAX_DEPTH opened 1 inside) later → IsRefusal source (error_at (length source) f)
   refused_by Memory far begins is m = tt
   refused_by End far begins is m = (refl, stops_here End (length source) far begins is m (omega arith))

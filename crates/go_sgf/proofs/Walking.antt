@@ -13,8 +13,8 @@ use Rattle.go_sgf.specs.Spelling.{Part, closing, text, without_space, is_space, 
 use Rattle.go_sgf.specs.Stands.{opened}
 use Rattle.go_sgf.specs.inner.Outcome.{outcome, left_of, error_at, Meets}
 use Rattle.go_sgf.specs.inner.Reads.{ReadsToEnd, begins_space}
-use Rattle.go_sgf.specs.declared.error.Stop.{Stop}
-use Rattle.go_sgf.specs.declared.error.Stop.TheVariants.{Memory, End, Stray, Deep}
+use Rattle.go_sgf.specs.declared.error.ReadError.{ReadError}
+use Rattle.go_sgf.specs.declared.error.ReadError.TheVariants.{Memory, End, Stray, Deep}
 use Rattle.go_sgf.specs.declared.error.SgfError.TheVariants as error
 use Rattle.go_sgf.specs.declared.game_trees.TreeSpan.{TreeSpan}
 use Rattle.go_sgf.specs.declared.limits.TheConstants.{MAX_DEPTH}
@@ -223,7 +223,7 @@ read_there source from begin inside after t b e r =
 
 -- ---- a tree that stops
 
-pub stops_in_first : (source : List ℕ) (from begin : ℕ) (inside : List ℕ) (f : Stop) (place : ℕ) →
+pub stops_in_first : (source : List ℕ) (from begin : ℕ) (inside : List ℕ) (f : ReadError) (place : ℕ) →
     BeginsAt source from begin →
     drop begin source ≡ 40 ∷ inside → outcome MAX_DEPTH opened 1 inside ≡ Err f → place + left_of f ≡ length source →
     StopsInFirst source from place (WhyIn f)
@@ -250,7 +250,7 @@ stops_in_first source from begin inside f place b opens e placed =
     }
 
 -- no more bytes are left at a fault than the source has
-left_in_source : (source : List ℕ) (begin : ℕ) (inside : List ℕ) (f : Stop) → drop begin source ≡ 40 ∷ inside →
+left_in_source : (source : List ℕ) (begin : ℕ) (inside : List ℕ) (f : ReadError) → drop begin source ≡ 40 ∷ inside →
     outcome MAX_DEPTH opened 1 inside ≡ Err f → left_of f ≤ length source
 left_in_source source begin inside f opens e =
     let i : FaultIs MAX_DEPTH opened 1 inside f =
@@ -259,15 +259,15 @@ left_in_source source begin inside f opens e =
     let sized : length source - begin ≡ suc (length inside) = sym (length-drop begin source) ∙ ap length opens in
     omega arith
 
-module _ {X : Type 0} (later : X → Result (List ℕ) Stop) (source : List ℕ) (from begin : ℕ) (inside : List ℕ) where
-  pub left_there : (f : Stop) → drop begin source ≡ 40 ∷ inside →
+module _ {X : Type 0} (later : X → Result (List ℕ) ReadError) (source : List ℕ) (from begin : ℕ) (inside : List ℕ) where
+  pub left_there : (f : ReadError) → drop begin source ≡ 40 ∷ inside →
       Meets (Err f) (outcome MAX_DEPTH opened 1 inside) later → left_of f ≤ length source
   left_there Memory opens m = omega arith
   left_there End opens m = omega arith
   left_there (Stray n) opens m = left_in_source source begin inside (Stray n) opens m
   left_there (Deep n) opens m = left_in_source source begin inside (Deep n) opens m
 
-  pub refused_there : (f : Stop) → f ≢ Memory → BeginsAt source from begin → drop begin source ≡ 40 ∷ inside →
+  pub refused_there : (f : ReadError) → f ≢ Memory → BeginsAt source from begin → drop begin source ≡ 40 ∷ inside →
       Meets (Err f) (outcome MAX_DEPTH opened 1 inside) later → IsRefusalFrom source from (error_at (length source) f)
   refused_there Memory ne b opens m = absurd (ne refl)
   refused_there End ne b opens m =

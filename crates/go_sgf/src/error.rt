@@ -1,5 +1,5 @@
-//! Why a source isn't a record, as an error and as a text. While it reads, the reader uses `Stop`, which counts
-//! the bytes that are left. Its callers get `SgfError`, which counts from the start of the source.
+//! Why a source isn't a record, as an error and as a text. While it reads, the reader uses `ReadError`, which
+//! counts the bytes that are left. Its callers get `SgfError`, which counts from the start of the source.
 ghost use Rattle.std.specs.Prelude.{◌≡◌};
 
 use std::alloc::{AllocError, AllocFailed};
@@ -11,7 +11,7 @@ use std::fmt;
 pub enum SgfError {
     /// No `(` has a `;` after it. White space between them doesn't count.
     NoTree,
-    /// The source ends before a tree does. The place is its length.
+    /// The source ends inside of a tree. The place is the length of the source.
     EndInside(usize),
     /// The first byte that the grammar doesn't allow at its place.
     Unexpected(usize),
@@ -55,7 +55,7 @@ impl From<AllocError> for SgfError {
 
 /// Why reading stops. Unlike those of `SgfError`, its numbers count the bytes that are left there.
 #[derive(Clone, Copy)]
-pub(crate) enum Stop {
+pub(crate) enum ReadError {
     Memory,
     /// The text ends inside of a tree.
     End,
@@ -65,22 +65,22 @@ pub(crate) enum Stop {
     Deep(usize),
 }
 
-impl From<AllocError> for Stop {
-    ghost use Rattle.go_sgf.specs.declared.error.Stop.TheVariants.{Memory};
+impl From<AllocError> for ReadError {
+    ghost use Rattle.go_sgf.specs.declared.error.ReadError.TheVariants.{Memory};
 
     ghost from_gives = { λ _ fault. fault ≡ Memory };
 
-    fn from(_: AllocError) -> Stop {
-        Stop::Memory
+    fn from(_: AllocError) -> ReadError {
+        ReadError::Memory
     }
 }
 
-impl<T: Drop> From<AllocFailed<T>> for Stop {
-    ghost use Rattle.go_sgf.specs.declared.error.Stop.TheVariants.{Memory};
+impl<T: Drop> From<AllocFailed<T>> for ReadError {
+    ghost use Rattle.go_sgf.specs.declared.error.ReadError.TheVariants.{Memory};
 
     ghost from_gives = { λ _ fault. fault ≡ Memory };
 
-    fn from(_: AllocFailed<T>) -> Stop {
-        Stop::Memory
+    fn from(_: AllocFailed<T>) -> ReadError {
+        ReadError::Memory
     }
 }

@@ -11,9 +11,9 @@ use crate::rectangle::{Rectangle, Row};
 use go_board::{Point, Size, Vertex};
 use std::alloc::{AllocError, Allocator};
 
-/// The point of a move, by two lower-case letters: the column from the left and the row from the
-/// top, `a` the first. An empty value is a pass, and so is `tt` on boards where it is no point.
-/// None where the value is neither a point nor a pass. White space at both ends is skipped.
+/// The vertex of a move: a point or a pass. A point has two lower-case letters: the column from the left and
+/// the row from the top, `a` the first. An empty value is a pass, and so is `tt` on boards where it is no
+/// point. None where the value is neither a point nor a pass. White space at both ends is skipped.
 pub fn point_of(value: &[u8], size: Size) -> Option<Vertex>
     ensures value { result ≡ vertex_in size value.now }
     ensures on { IfSome result (IsOnBoard size) }

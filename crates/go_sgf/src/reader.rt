@@ -12,7 +12,7 @@ ghost use Rattle.go_sgf.specs.Stands.{closed, in_node, named, opened};
 ghost use Rattle.go_sgf.specs.View.{chain, trees_of};
 
 use crate::checked::Checked;
-use crate::error::{SgfError, Stop};
+use crate::error::{ReadError, SgfError};
 use crate::few::Few;
 use crate::keep::{Keep, Lists, Nothing};
 use crate::limits::{MAX_DEPTH, MAX_RECORD};
@@ -25,12 +25,12 @@ use crate::values::value;
 use std::alloc::{AllocError, Allocator};
 
 /// Why reading stops at `rest`: `Stray` if a byte comes next, `End` if none does.
-fn unexpected(rest: &[u8]) -> Stop
+fn unexpected(rest: &[u8]) -> ReadError
     ensures { result ≡ here rest.now }
 {
     match rest.split_first() {
-        Some(_) => Stop::Stray(rest.len()),
-        None => Stop::End,
+        Some(_) => ReadError::Stray(rest.len()),
+        None => ReadError::End,
     }
 }
 
@@ -50,14 +50,14 @@ fn values<'a, K: Keep>(
     keep: K,
     list: &mut Few<&'a [u8], K::Alloc>,
     bytes: &'a [u8],
-) -> Result<&'a [u8], Stop>
+) -> Result<&'a [u8], ReadError>
     requires { is_letter_first bytes.now ≡ false }
     ensures read { IfOk result (λ rest. (vs : List (List ℕ))
         × (K.keeps → values_of list.new ≡ values_of list.old ++ vs)
         × ReadsValues bytes.now vs rest.now) }
     ensures place { (d : ℕ) → IsWithin MAX_DEPTH d → Meets result
         (outcome MAX_DEPTH named d bytes.now) (λ rest. outcome MAX_DEPTH in_node d rest.now) }
-    ensures memory { IsErrOf result Stop.Memory → K.keeps }
+    ensures memory { IsErrOf result ReadError.Memory → K.keeps }
 {
     let mut rest = after_space(bytes);
     if !begins_with(rest, b'[') {
@@ -65,7 +65,7 @@ fn values<'a, K: Keep>(
     }
     while let Some(inside) = strip(rest, b'[') {
         let Some((one, more)) = value(inside) else {
-            return Err(Stop::End);
+            return Err(ReadError::End);
         };
         add(keep, list, one)?;
         rest = after_space(more);
@@ -73,19 +73,19 @@ fn values<'a, K: Keep>(
     Ok(rest)
 }
 
-/// Reads a property from its name on into a list, and returns what follows it.
+/// Reads a property, which begins with its name. Adds it to a list, and returns the text after it.
 fn property<'a, K: Keep>(
     keep: K,
     list: &mut Option<Few<nodes::Property<'a, K::Alloc>, K::Alloc>>,
     bytes: &'a [u8],
-) -> Result<&'a [u8], Stop>
+) -> Result<&'a [u8], ReadError>
     requires { is_letter_first bytes.now ≡ true }
     ensures read { IfOk result (λ rest. (p : Property)
         × (K.keeps → list.new ≡ option_map (λ ps. ps ++ p ∷ []) list.old)
         × ReadsProperty bytes.now p rest.now) }
     ensures place { (d : ℕ) → IsWithin MAX_DEPTH d → Meets result
         (outcome MAX_DEPTH in_node d bytes.now) (λ rest. outcome MAX_DEPTH in_node d rest.now) }
-    ensures memory { IsErrOf result Stop.Memory → K.keeps }
+    ensures memory { IsErrOf result ReadError.Memory → K.keeps }
 {
     let (name, after, is_name) = name_at(bytes);
     if !is_name {
@@ -121,13 +121,13 @@ fn node<'a, K: Keep>(
     keep: K,
     list: &mut Few<Node<'a, K::Alloc>, K::Alloc>,
     bytes: &'a [u8],
-) -> Result<&'a [u8], Stop>
+) -> Result<&'a [u8], ReadError>
     ensures read { IfOk result (λ rest. (ps : List Property)
         × (K.keeps → list.new ≡ list.old ++ ps ∷ []) × ReadsNode bytes.now ps rest.now) }
     ensures stopped { IfOk result (λ rest. is_letter_first rest.now ≡ false) }
     ensures place { (d : ℕ) → IsWithin MAX_DEPTH d → Meets result
         (outcome MAX_DEPTH in_node d bytes.now) (λ rest. outcome MAX_DEPTH in_node d rest.now) }
-    ensures memory { IsErrOf result Stop.Memory → K.keeps }
+    ensures memory { IsErrOf result ReadError.Memory → K.keeps }
 {
     let mut properties = no_properties(keep);
     let mut rest = after_space(bytes);
@@ -171,12 +171,12 @@ fn nodes<'a, K: Keep>(
     keep: K,
     list: &mut Few<Node<'a, K::Alloc>, K::Alloc>,
     bytes: &'a [u8],
-) -> Result<&'a [u8], Stop>
+) -> Result<&'a [u8], ReadError>
     ensures read { IfOk result (λ rest. (ns : List (List Property))
         × (K.keeps → list.new ≡ list.old ++ ns) × ReadsNodes bytes.now ns rest.now) }
     ensures place { (d : ℕ) → IsWithin MAX_DEPTH d → Meets result
         (outcome MAX_DEPTH opened d bytes.now) (λ rest. outcome MAX_DEPTH closed d rest.now) }
-    ensures memory { IsErrOf result Stop.Memory → K.keeps }
+    ensures memory { IsErrOf result ReadError.Memory → K.keeps }
 {
     let mut rest = after_space(bytes);
     if !begins_with(rest, b';') {
@@ -185,7 +185,7 @@ fn nodes<'a, K: Keep>(
     while let Some(inside) = strip(rest, b';') {
         rest = node(keep, list, inside)?;
     }
-    // A `[` here follows no name. `tree` would refuse it too, but the contract says that none comes next.
+    // `tree` would refuse a `[` here too. This function does, since its contract says that none comes next.
     if begins_with(rest, b'[') {
         return Err(unexpected(rest));
     }
@@ -242,7 +242,7 @@ pub(crate) fn tree<'a, K: Keep>(
     trees: &mut Option<Vec<Tree<'a, K::Alloc>, K::Alloc>>,
     bytes: &'a [u8],
     depth: usize,
-) -> Result<&'a [u8], Stop>
+) -> Result<&'a [u8], ReadError>
     requires depth { IsWithin MAX_DEPTH depth }
     requires kept { is_some trees.old ≡ true → K.keeps }
     ensures read { IfOk result (λ after. (t : TreeValue)
@@ -251,14 +251,14 @@ pub(crate) fn tree<'a, K: Keep>(
     ensures kept { OnOk result (is_some trees.new ≡ is_some trees.old) }
     ensures place { Meets result (outcome MAX_DEPTH opened depth bytes.now)
         (λ after. outcome_after MAX_DEPTH depth (without_space after.now)) }
-    ensures memory { IsErrOf result Stop.Memory → K.keeps }
+    ensures memory { IsErrOf result ReadError.Memory → K.keeps }
 {
     let mut own = Few::new();
     let mut rest = nodes(keep, &mut own, bytes)?;
     let mut children = no_trees(keep);
     while let Some(inside) = strip(rest, b'(') {
         if depth == MAX_DEPTH {
-            return Err(Stop::Deep(rest.len()));
+            return Err(ReadError::Deep(rest.len()));
         }
         let after = tree(keep, &mut children, inside, depth + 1)?;
         rest = after_space(after);
@@ -271,15 +271,15 @@ pub(crate) fn tree<'a, K: Keep>(
 }
 
 /// The error that callers get where reading stops, in a source of this length.
-pub(crate) fn error_of(stop: Stop, length: usize) -> SgfError
+pub(crate) fn error_of(stop: ReadError, length: usize) -> SgfError
     requires { left_of stop ≤ length }
     ensures { result ≡ error_at length stop }
 {
     match stop {
-        Stop::Memory => SgfError::Memory,
-        Stop::End => SgfError::EndInside(length),
-        Stop::Stray(left) => SgfError::Unexpected(length - left),
-        Stop::Deep(left) => SgfError::TooDeep(length - left),
+        ReadError::Memory => SgfError::Memory,
+        ReadError::End => SgfError::EndInside(length),
+        ReadError::Stray(left) => SgfError::Unexpected(length - left),
+        ReadError::Deep(left) => SgfError::TooDeep(length - left),
     }
 }
 

@@ -2,7 +2,7 @@
 //! isn't inlined, reads a value of any length and with any escapes.
 ghost use Rattle.std.specs.Prelude.{◌≡◌, ◌∷◌, ◌++◌, ℕ, Err, IfNone, IfSome, take};
 ghost use Rattle.go_sgf.specs.inner.Reads.{HasNoEnd, IsBracketAt};
-ghost use Rattle.go_sgf.specs.declared.error.Stop.TheVariants.{End};
+ghost use Rattle.go_sgf.specs.declared.error.ReadError.TheVariants.{End};
 ghost use Rattle.go_sgf.specs.declared.limits.TheConstants.{MAX_DEPTH};
 ghost use Rattle.go_sgf.specs.inner.Outcome.{IsWithin, outcome};
 ghost use Rattle.go_sgf.specs.inner.Tidied.{NeverEnds};

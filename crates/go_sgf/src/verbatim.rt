@@ -1,4 +1,5 @@
-//! A prefix of a tree's text that the canonical spelling has unchanged. `writer.rt` writes it in one piece.
+//! The bytes at the beginning of a tree's text that the canonical spelling keeps as they are. `writer.rt`
+//! writes it in one piece.
 ghost use Rattle.std.specs.Prelude.{◌≡◌, ◌≢◌, ◌≤◌, ◌<◌, ◌+◌, ◌^◌, ◌++◌, ℕ, [], IfNone, IfSome, false, length};
 ghost use Rattle.go_sgf.specs.Spelling.{is_first};
 ghost use Rattle.go_sgf.specs.inner.Tidied.{Outside, StaysTo, rest_from, is_left_out_first, open_after, tidied_from};
@@ -6,9 +7,9 @@ ghost use Rattle.go_sgf.specs.inner.Tidied.{Outside, StaysTo, rest_from, is_left
 use crate::scan::{is_left_out, is_upper};
 use crate::values::value_end;
 
-/// The prefix of a tree's text that the canonical spelling has unchanged, the text after it, and the number
-/// of trees that are open there. `depth` trees are open at the beginning. None where the first byte isn't
-/// written, no tree is open or the text is empty.
+/// The prefix of a tree's text that the canonical spelling keeps as it is, the text after it, and the number
+/// of trees that are open there. `depth` trees are open at the beginning. None if the canonical spelling
+/// leaves the first byte out, if no tree is open, or if the text is empty.
 pub(crate) fn verbatim(text: &[u8], depth: usize) -> Option<(&[u8], &[u8], usize)>
     requires { depth + length text.now ≤ 2 ^ 63 }
     ensures whole { IfSome result (λ r. text.now ≡ r.0.now ++ r.1.now) }
@@ -24,7 +25,7 @@ pub(crate) fn verbatim(text: &[u8], depth: usize) -> Option<(&[u8], &[u8], usize
     if depth == 0 {
         return None;
     }
-    let mut rest = after_properties(text);
+    let mut rest = after_kept(text);
     let mut open = depth;
     while let Some((more, still_open)) = after_next(rest, open) {
         rest = more;
@@ -37,10 +38,9 @@ pub(crate) fn verbatim(text: &[u8], depth: usize) -> Option<(&[u8], &[u8], usize
     Some((prefix, rest, open))
 }
 
-/// Passes over one byte that is written. If a tree is still open then, it passes over the properties that
-/// follow too.
-/// Returns the rest and the number of open trees there. `None` if the byte is left out, no tree is open, or
-/// the text is empty.
+/// Passes over one byte, unless the spelling leaves it out. If a tree is still open then, it also passes over
+/// values, upper-case letters and `;`. Returns the rest and the number of open trees there. `None` if the
+/// byte is left out, no tree is open, or the text is empty.
 #[inline]
 fn after_next(text: &[u8], depth: usize) -> Option<(&[u8], usize)>
     requires bound { depth + length text.now ≤ 2 ^ 63 }
@@ -63,7 +63,7 @@ fn after_next(text: &[u8], depth: usize) -> Option<(&[u8], usize)>
     if open == 0 {
         return Some((more, open));
     }
-    Some((after_properties(more), open))
+    Some((after_kept(more), open))
 }
 
 /// The number of trees that are open after a byte outside of values.
@@ -84,7 +84,7 @@ fn depth_after(byte: u8, depth: usize) -> usize
 /// are, and a record has little else. It uses an index, which is faster than a slice for each byte. It isn't
 /// inlined, so text and index stay in registers.
 #[inline(never)]
-fn after_properties(text: &[u8]) -> &[u8]
+fn after_kept(text: &[u8]) -> &[u8]
     ensures stays { (d : ℕ) → d ≢ 0 → StaysTo Outside d text.now d result.now }
     ensures stopped { is_first 91 result.now ≡ false }
     ensures shorter { length result.now ≤ length text.now }

@@ -1,5 +1,4 @@
-//! The canonical spelling of a record. `write` and `tidy` both write from the source, so one function does
-//! both and takes no memory.
+//! The canonical spelling of a record. `write` calls `tidy`, which writes from the source and takes no memory.
 ghost use Rattle.std.specs.Prelude.{◌≡◌, ◌≤◌, ℕ, List, length};
 ghost use Rattle.go_board.specs.Device.{Sent, failures_after};
 ghost use Rattle.go_board.specs.Pens.{Writes};
@@ -8,7 +7,7 @@ ghost use Rattle.go_sgf.specs.Record.{Trees};
 ghost use Rattle.go_sgf.specs.Spelling.{OfRecord, Spells, canonical, without_space};
 
 use crate::checked::Checked;
-use crate::laws::one_record;
+use crate::laws;
 use crate::record::Collection;
 use crate::scan::{after_left_out, after_space, from_first_tree, inside_tree};
 use crate::verbatim::verbatim;
@@ -25,7 +24,7 @@ pub fn write<A: Allocator + Copy, W: Sink>(
         (canonical collection.now) }
     ensures failures { W.failures writer.new ≡ failures_after result (W.failures writer.old) }
 {
-    one_record();
+    laws::one_record();
     tidy(&collection.checked(), writer)
 }
 
@@ -55,7 +54,7 @@ fn put_trees<W: Sink>(source: &[u8], pen: &mut Pen<'_, W>)
     }
 }
 
-/// Writes what follows a tree's `(`, up to its `)` and with it. It then skips white space, and returns the
+/// Writes a tree's text after its `(`, with its `)`. It then skips white space, and returns the
 /// text from there. It writes each run of unchanged bytes in one piece. In a checked source each tree ends,
 /// so it never returns early.
 fn put_tree<'a, W: Sink>(text: &'a [u8], pen: &mut Pen<'_, W>) -> &'a [u8]

@@ -18,8 +18,7 @@ use crate::error::RunError;
 use crate::shelf::Shelf;
 use go_board::{Failed, Sink, Size, Source, WriteFault};
 use goref_lines::Line;
-use goref_session::laws::some_reply;
-use goref_session::{Fetched, Flow, Session, wants};
+use goref_session::{Fetched, Flow, Session, laws, wants};
 use goref_tools::CHUNK;
 use memchr::memchr;
 use std::alloc::Allocator;
@@ -28,9 +27,9 @@ use std::alloc::Allocator;
 pub const READS: u64 = 1 << 40;
 
 /// Reads lines and answers each before the next read, up to `quit` or to the end of the input. A last line
-/// without a line end is answered too. It makes at most [`READS`] reads. It returns `Endless` after that
-/// number of reads, if each gave at least one byte. It flushes each answer before it reads again: so the
-/// contract of [`run_within`] says of any number of reads.
+/// without a line end is answered too. It makes at most [`READS`] reads. If all of them gave bytes, it
+/// returns `Endless`. It flushes each answer before the next read. The contract of [`run_within`] says so,
+/// since it holds for any limit.
 pub fn run<A: Allocator + Copy, R: Source, W: Sink, S: Shelf<A>>(
     alloc: A,
     size: Size,
@@ -96,7 +95,7 @@ fn run_from<A: Allocator + Copy, R: Source, W: Sink, S: Shelf<A>>(
         (devices_of R.Source W.Sink reader.old writer.old (S.given shelf.old))
         (devices_of R.Source W.Sink reader.new writer.new (S.given shelf.new)) }
 {
-    some_reply();
+    laws::some_reply();
     let mut line = Line::new();
     let mut buffer = [0u8; CHUNK];
     for _ in 0..limit {

@@ -141,7 +141,7 @@ impl Line {
     }
 
     /// Takes a prefix of the bytes, and returns its length. The prefix is words, a gap, or a single `#`. A
-    /// gap is white space and controls, anywhere in the line. One of controls alone ends no word.
+    /// gap is white space and controls, anywhere in the line. A gap without white space doesn't end a word.
     fn push_prefix(&mut self, bytes: &[u8]) -> usize
         requires no_comment { self.old.has_comment ≡ false }
         requires bytes { 0 < length bytes.now }

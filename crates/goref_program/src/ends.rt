@@ -12,7 +12,7 @@ use thiserror::Error;
 pub const WORDS_REFUSED: u8 = 2;
 
 /// The exit status where a stream fails or an input has no end. A tool ends with it also where memory lacks.
-pub const FAULT: u8 = 3;
+pub const DEVICE_OR_MEMORY: u8 = 3;
 
 /// Why a task didn't reach its end.
 #[derive(Clone, Copy, Debug, PartialEq, Eq, Error)]
@@ -31,7 +31,7 @@ impl Fault {
         ensures { result ≡ fault_status self.now }
     {
         match self {
-            Fault::Run(_) => FAULT,
+            Fault::Run(_) => DEVICE_OR_MEMORY,
             Fault::Tool(why) => why.status(),
         }
     }
@@ -81,7 +81,7 @@ pub fn explain<O: Write, E: Write>(error: &clap::Error, output: &mut O, errors: 
         Ok(()) => 0,
         Err(_) => {
             let _ = writeln!(errors, "goref: write fault");
-            FAULT
+            DEVICE_OR_MEMORY
         }
     }
 }

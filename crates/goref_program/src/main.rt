@@ -14,7 +14,7 @@ fn main(rt: HostRuntime) -> ExitCode {
     ExitCode::from(run_program(&rt))
 }
 
-/// Does, on the standard streams, what the program's words ask, and returns the exit status.
+/// Does what the program's words ask, on the standard streams. Returns the exit status.
 fn run_program(rt: &HostRuntime) -> u8 {
     follow_words(
         rt.alloc(),

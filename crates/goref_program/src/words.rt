@@ -11,7 +11,7 @@ use goref::{Shelf, task_of};
 use std::alloc::Global;
 use std::io::{Read, Write};
 
-/// Does, on these streams, what the words ask, and returns the exit status. `None` is for words that can't be
+/// Does what the words ask, on these streams. Returns the exit status. `None` is for words that can't be
 /// read, or for which there is no memory.
 pub fn follow_words<R: Read + Drop, W: Write + Drop, E: Write, S: Shelf<Global>>(
     alloc: Global,

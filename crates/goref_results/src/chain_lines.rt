@@ -14,9 +14,8 @@ ghost use Rattle.goref_results.specs.inner.Texts.{spaced_point};
 ghost use Rattle.goref_results.specs.inner.Seen.{AreSeen, GainsPoints, GainsChain};
 
 use crate::point_text::put_spaced;
-use go_board::laws::{joined_by_a_path, points_by_number};
 use go_board::rows::{ROWS, Rows, has_place, put_place, row_and_column};
-use go_board::{Pen, Point, Sink};
+use go_board::{Pen, Point, Sink, laws};
 use go_game::{ChainPoints, Game};
 use std::alloc::Allocator;
 
@@ -54,8 +53,8 @@ fn put_if_first<A: Allocator + Copy, W: Sink>(
     ensures seen { AreSeen game.now.standing.lines (board_of game.now.standing)
         (number_of game.now.standing.lines at + 1) seen.new }
 {
-    points_by_number();
-    joined_by_a_path();
+    laws::points_by_number();
+    laws::joined_by_a_path();
     if is_first(game, seen, at) {
         pen.put(&[before]);
         put_chain(game, at, seen, pen);
@@ -71,7 +70,7 @@ fn is_first<A: Allocator + Copy>(game: &Game<A>, seen: &Rows, at: Point) -> bool
         (number_of game.now.standing.lines at) seen.now }
     ensures { result ≡ is_first_stone (present game.now.standing) at }
 {
-    points_by_number();
+    laws::points_by_number();
     prove!(at.on(game.size()));
     let (row, col) = row_and_column(at);
     game.colour_at(at).is_some() && !has_place(seen, row, col)
@@ -91,7 +90,7 @@ fn put_chain<A: Allocator + Copy, W: Sink>(
     ensures seen { GainsChain game.now.standing.lines (board_of game.now.standing)
         (number_of game.now.standing.lines at) seen.old seen.new }
 {
-    points_by_number();
+    laws::points_by_number();
     prove!(at.on(game.size()));
     put_stone(game, at, pen);
     put_stones(game.chain_points(at), seen, pen);

@@ -42,8 +42,9 @@ pub fn wants(line: &Line) -> Option<&[u8]>
     }
 }
 
-/// Whether a text may ask for `loadsgf`. A `loadsgf` line has at most an id of digits before its name. So its
-/// first byte above `9` is the `l` of the name. This test settles most lines before they are cut into words.
+/// Whether a text may ask for `loadsgf`. Only an id can come before the name `loadsgf`. Digits and spaces
+/// aren't above `9`. So the first byte above `9` is the name's `l`. This test settles most lines before they
+/// are cut into words.
 fn may_ask_to_load(text: &[u8]) -> bool
     ensures { result ≡ may_load text.now }
 {

@@ -6,7 +6,7 @@ ghost use Rattle.goref_session.specs.Record.{DecidesBytes};
 ghost use Rattle.goref_session.specs.inner.Refusing.{after_load};
 ghost use Rattle.goref_session.specs.inner.Played.{played_of};
 
-use crate::commands::record::{ToLoad, load_into};
+use crate::commands::record::{FetchedFile, load_into};
 use crate::decision::Refusal;
 use go_board::Size;
 use go_game::Game;
@@ -33,8 +33,8 @@ impl<A: Allocator + Copy> Second<A> {
     }
 
     /// Loads a record into the game that isn't played. Then that game is the one that is played, under the
-    /// positional superko rule. The other gives its memory back, but for a small hash table.
-    pub fn load(&mut self, first: &mut Game<A>, to_load: &ToLoad) -> Result<(), Refusal>
+    /// positional superko rule. The game that was played before is cleared, and keeps only a small hash table.
+    pub fn load(&mut self, first: &mut Game<A>, to_load: &FetchedFile) -> Result<(), Refusal>
         ensures decides { (s : Standing) → s ≡ played_of first.old.standing (Some self.old) →
             DecidesBytes s to_load.now.bytes.now to_load.now.number
             (after_load s (played_of first.new.standing (Some self.new)) result) }

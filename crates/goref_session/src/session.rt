@@ -1,6 +1,6 @@
-//! A session has a game and, once it had a file to load, a second one. One of them is played: the session
-//! answers lines over that one. It finds the function that decides on each command, and decides on `loadsgf`
-//! itself, because a load needs both games.
+//! A session begins with one game. The first load adds a second one. Lines act on one of the two, the game
+//! that is played. It finds the function that decides on each command, and decides on `loadsgf` itself,
+//! because a load needs both games.
 ghost use Rattle.std.specs.Prelude.{◌≡◌, IfNone, IfSome, Ok, OnErr, Some, false};
 ghost use Rattle.std.specs.Option.{option_and_then};
 ghost use Rattle.go_board.specs.Device.{failures_after};
@@ -20,7 +20,7 @@ ghost use Rattle.goref_lines.specs.Words.{has_bytes};
 
 use crate::answer::write_answer;
 use crate::command::{Command, command_asked};
-use crate::commands::record::{ToLoad, bytes_to_load};
+use crate::commands::record::{FetchedFile, bytes_to_load};
 use crate::commands::{handicap, play, setup, telling, time};
 use crate::decision::{Decision, Fact, Refusal};
 use crate::fetched::Fetched;
@@ -147,7 +147,7 @@ impl<A: Allocator + Copy> Session<A> {
 
     /// Loads a record. From then on the session plays the record's game. A refusal leaves the session as it
     /// was.
-    fn load(&mut self, to_load: &ToLoad) -> Result<(), Refusal>
+    fn load(&mut self, to_load: &FetchedFile) -> Result<(), Refusal>
         ensures decides { DecidesBytes self.old to_load.now.bytes.now to_load.now.number
             (after_load self.old self.new result) }
         ensures stays { OnErr result (self.new ≡ self.old) }

@@ -5,7 +5,7 @@ use Rattle.std.specs.Io.KnownBytes.{append_known}
 -- an input: the bytes that its stream has left, where it shows them, and the counts of reads, of failures and
 -- of ends found
 pub record Reading : Type 0 where
-  pub left : Option (List ℕ)
+  pub remaining : Option (List ℕ)
   pub pulls : ℕ
   pub failures : ℕ
   pub ends : ℕ

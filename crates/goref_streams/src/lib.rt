@@ -18,7 +18,8 @@ pub mod laws;
 /// The output keeps back at most this many bytes. Any diagram or list of chains fits.
 pub const KEPT: usize = 16_384;
 
-/// A stream that is read, as a device. Contracts don't see its bytes: `left` is `None`.
+/// A stream that is read, as a device. As a [`Source`] it doesn't show its bytes; the calls here say which of
+/// the stream's bytes they take.
 #[derive(Drop)]
 pub struct Input<R: Read> {
     stream: R,
@@ -34,7 +35,7 @@ impl<R: Read> Model for Input<R> {
     ghost Value = { Reading };
 
     ghost view = { λ input. record {
-      left = R.remaining input.stream;
+      remaining = R.remaining input.stream;
       pulls = input.pulls;
       failures = input.failures;
       ends = input.ends;
@@ -45,7 +46,7 @@ impl<R: Read> Input<R> {
     /// A device over this stream. It has read nothing yet.
     pub fn new(stream: R) -> Input<R>
         ensures { result ≡ record {
-          left = R.remaining stream;
+          remaining = R.remaining stream;
           pulls = 0;
           failures = 0;
           ends = 0;
@@ -71,8 +72,8 @@ impl<R: Read> Source for Input<R> {
 
     fn pull(&mut self, buffer: &mut [u8]) -> Result<usize, Failed>
         ensures within { IfOk result (λ n. n ≤ length buffer.new) }
-        ensures read { IfOk result (λ n. Consumes self.old.left self.new.left (take n buffer.new)) }
-        ensures end { IfOk result (λ n. n ≡ 0 → 0 < length buffer.new → IsAtEnd self.new.left) }
+        ensures read { IfOk result (λ n. Consumes self.old.remaining self.new.remaining (take n buffer.new)) }
+        ensures end { IfOk result (λ n. n ≡ 0 → 0 < length buffer.new → IsAtEnd self.new.remaining) }
         ensures pulls { self.new.pulls ≡ self.old.pulls + 1 }
         ensures failures { self.new.failures ≡ failures_after result self.old.failures }
         ensures ends { self.new.ends ≡ ends_after result (length buffer.new) self.old.ends }
@@ -110,7 +111,7 @@ fn read_again<R: Read>(stream: &mut R, buffer: &mut [u8]) -> io::Result<usize>
     Err(io::Error::from(ErrorKind::Interrupted))
 }
 
-/// A stream that is written, as a device. Contracts don't see its bytes: `taken` is `None`. It keeps bytes
+/// A stream that is written, as a device. As a [`Sink`] it doesn't show its bytes. It keeps bytes
 /// until it is flushed, or is full and gets more. If the stream then fails, the kept bytes are lost.
 #[derive(Drop)]
 pub struct Output<W: Write> {

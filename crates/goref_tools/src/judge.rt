@@ -16,7 +16,7 @@ use std::alloc::Allocator;
 
 /// Reads a record up to the end of the input, and writes the verdict on it in three lines: how many moves its
 /// main line has, the score after them, and whether the record states that score. If the input is too long
-/// for a record, the tool reads one byte more than the largest record has, and refuses it. Nothing is written
+/// for a record, the tool stops one byte past the largest record, and refuses the input. Nothing is written
 /// before the whole verdict is there. The tool flushes the writer once, after the last byte.
 ///
 /// # Errors

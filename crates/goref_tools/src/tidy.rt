@@ -13,7 +13,7 @@ use go_sgf::{check, tidy};
 use std::alloc::Allocator;
 
 /// Reads a record up to the end of the input, and writes its canonical spelling. If the input is too long for
-/// a record, the tool reads one byte more than the largest record has, and refuses it. Nothing is written
+/// a record, the tool stops one byte past the largest record, and refuses the input. Nothing is written
 /// before the whole record was read. The tool flushes the writer once, after the last byte.
 ///
 /// # Errors

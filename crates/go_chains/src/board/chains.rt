@@ -14,8 +14,7 @@ use super::Board;
 use crate::cells::{LABELS, SIZES, word_place};
 use crate::chain_points::{ChainPoints, Part};
 use crate::marks::{lowest_on_ring, put_liberties, put_ring};
-use go_board::laws::{joined_by_a_path, liberty_by_a_path, points_by_number};
-use go_board::{Colour, Meter, Open, Point, PointSet};
+use go_board::{Colour, Meter, Open, Point, PointSet, laws};
 
 impl Board<Open> {
     /// Whether two stones are in one chain: a path of their colour joins them.
@@ -26,8 +25,8 @@ impl Board<Open> {
         requires q_stone { HoldsStone self.now q }
         ensures { result ≡ are_joined (shown self.now) p q }
     {
-        points_by_number();
-        joined_by_a_path();
+        laws::points_by_number();
+        laws::joined_by_a_path();
         let mut meter = Meter::new();
         self.label_at(p, &mut meter) == self.label_at(q, &mut meter)
     }
@@ -39,8 +38,8 @@ impl Board<Open> {
         requires p_stone { HoldsStone self.now p }
         ensures { result ≡ has_liberty (shown self.now) p q }
     {
-        points_by_number();
-        liberty_by_a_path();
+        laws::points_by_number();
+        laws::liberty_by_a_path();
         let mut meter = Meter::new();
         let label = self.label_at(p, &mut meter);
         let point = usize::from(q.index(self.size));
@@ -72,8 +71,8 @@ impl Board<Open> {
         requires stone { HoldsStone self.now p }
         ensures { result ≡ stone_count (shown self.now) p }
     {
-        points_by_number();
-        joined_by_a_path();
+        laws::points_by_number();
+        laws::joined_by_a_path();
         let mut meter = Meter::new();
         let label = self.label_at(p, &mut meter);
         self.cells.get(SIZES + label, &mut meter) as u16
@@ -85,8 +84,8 @@ impl Board<Open> {
         requires stone { HoldsStone self.now p }
         ensures { result ≡ liberty_count (shown self.now) p }
     {
-        points_by_number();
-        liberty_by_a_path();
+        laws::points_by_number();
+        laws::liberty_by_a_path();
         let mut meter = Meter::new();
         let size = self.size();
         let label = self.label_at(p, &mut meter);
@@ -105,8 +104,8 @@ impl Board<Open> {
             ≡ point_at self.now.lines result ∷ drop 1 (chain_stones (shown self.now) p) }
         ensures on { result < self.now.lines * self.now.lines }
     {
-        points_by_number();
-        joined_by_a_path();
+        laws::points_by_number();
+        laws::joined_by_a_path();
         let mut meter = Meter::new();
         let label = self.label_at(p, &mut meter);
         let stones = self.cells.get(SIZES + label, &mut meter) as usize;
@@ -149,8 +148,8 @@ impl Board<Open> {
         requires none { set.old ≡ replicate WORDS 0 }
         ensures { points_from self.now.lines set.new 0 ≡ chain_stones (shown self.now) p }
     {
-        points_by_number();
-        joined_by_a_path();
+        laws::points_by_number();
+        laws::joined_by_a_path();
         let mut meter = Meter::new();
         let label = self.label_at(p, &mut meter);
         let stones = self.cells.get(SIZES + label, &mut meter) as usize;
@@ -165,8 +164,8 @@ impl Board<Open> {
         requires none { set.old ≡ replicate WORDS 0 }
         ensures { points_from self.now.lines set.new 0 ≡ chain_liberties (shown self.now) p }
     {
-        points_by_number();
-        liberty_by_a_path();
+        laws::points_by_number();
+        laws::liberty_by_a_path();
         let mut meter = Meter::new();
         let label = self.label_at(p, &mut meter);
         put_liberties(&self.cells, &mut meter, self.size(), label, set);
@@ -180,7 +179,7 @@ impl Board<Open> {
         ensures bound { result < MAX_POINTS }
         ensures kept { IsKept self.now.lines self.now.cells }
     {
-        points_by_number();
+        laws::points_by_number();
         self.cells
             .get(LABELS + usize::from(p.index(self.size)), meter) as usize
     }

@@ -9,8 +9,7 @@ ghost use Rattle.go_chains.specs.Boards.{colouring_of, grid_of};
 
 use super::Board;
 use crate::packed_colours::with_code;
-use go_board::laws::{bytes_make_a_pack, points_by_number};
-use go_board::{Colour, Meter, Open, PACK_BYTES, Packed, Point, packed_byte};
+use go_board::{Colour, Meter, Open, PACK_BYTES, Packed, Point, laws, packed_byte};
 
 impl Board<Open> {
     /// The colours in two bits a point, as `Grid::pack` has them.
@@ -27,7 +26,7 @@ impl Board<Open> {
     pub fn write_pack(&self, packed: &mut Packed)
         ensures { bytes_of packed.new ≡ packed_of (grid_of self.now) }
     {
-        bytes_make_a_pack();
+        laws::bytes_make_a_pack();
         let full = usize::from(self.size().points()) / 4;
         *packed = *self.largest_pack();
         packed.set(full, self.last_byte());
@@ -36,8 +35,8 @@ impl Board<Open> {
         }
     }
 
-    /// The pack of the colours as if the board had the most lines. It has the bytes of this board's points
-    /// except the last byte, and then bytes of points that an earlier board had.
+    /// The pack of all colour cells, by number. Its full bytes are right for this board. Those after them may
+    /// still have stones of an earlier, larger board.
     fn largest_pack(&self) -> &Packed
         ensures { bytes_of result.now ≡ packed_of (colouring_of MAX_LINES self.now.cells) }
     {
@@ -84,7 +83,7 @@ impl Board<Open> {
         ensures { bytes_of result ≡ packed_of (slice_set (grid_of self.now)
             (number_of self.now.lines p) (Some colour)) }
     {
-        points_by_number();
+        laws::points_by_number();
         let size = self.size();
         let point = usize::from(p.index(size));
         let mut packed = self.pack();

@@ -1,4 +1,4 @@
-//! Plays, taking them back, and stones that would take nothing.
+//! Plays a stone, takes plays back, and tells which stones would take nothing.
 ghost use Rattle.std.specs.Prelude.{◌≡◌, ◌<◌, ◌≤◌, ◌+◌, ◌↔◌, IfOk, IsErrOf, IsTrue, OnOk, Some, length, slice_set};
 ghost use Rattle.go_board.specs.Chains.{liberties};
 ghost use Rattle.go_board.specs.Colours.{other};
@@ -16,8 +16,7 @@ use crate::log::{Log, reserve_play, seal};
 use crate::place::{ROOM, place};
 use crate::quiet::{put_lent, takes_nothing};
 use arrayvec::ArrayVec;
-use go_board::laws::{liberty_by_a_path, points_by_number, reaches_by_a_path};
-use go_board::{Colour, Meter, Point, PointSet, Taken};
+use go_board::{Colour, Meter, Point, PointSet, Taken, laws};
 use std::alloc::Allocator;
 
 impl<K> Board<K> {
@@ -42,7 +41,7 @@ impl<K> Board<K> {
             (most_at self.old colour p) }
         ensures kept { IsKept self.new.lines self.new.cells }
     {
-        points_by_number();
+        laws::points_by_number();
         let size = self.size;
         let point = usize::from(p.index(size));
         if self.cells.get(point, meter) != 0 {
@@ -75,9 +74,9 @@ impl<K> Board<K> {
         ensures count { meter.new ≤ meter.old + reads_around }
         ensures onward { meter.old ≤ meter.new }
     {
-        points_by_number();
-        reaches_by_a_path();
-        liberty_by_a_path();
+        laws::points_by_number();
+        laws::reaches_by_a_path();
+        laws::liberty_by_a_path();
         let size = self.size();
         let mut beside = ArrayVec::new();
         put_beside(size, p, &mut beside);
@@ -102,8 +101,8 @@ impl<K> Board<K> {
         ensures count { meter.new ≤ meter.old + reads_around }
         ensures onward { meter.old ≤ meter.new }
     {
-        points_by_number();
-        liberty_by_a_path();
+        laws::points_by_number();
+        laws::liberty_by_a_path();
         let size = self.size();
         let mut beside = ArrayVec::new();
         put_beside(size, p, &mut beside);

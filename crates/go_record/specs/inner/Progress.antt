@@ -10,8 +10,8 @@ use Rattle.go_record.specs.declared.error.RecordError.{RecordError}
 use Rattle.go_record.specs.declared.error.RecordError.TheVariants.{Memory}
 use Rattle.go_record.specs.declared.root.Found.{Found}
 use Rattle.go_record.specs.declared.root.RootValues.{RootValues}
-use Rattle.go_record.specs.declared.state.Left.{Left}
-use Rattle.go_record.specs.declared.state.Left.TheVariants.{All, Moves, Nothing}
+use Rattle.go_record.specs.declared.state.Remaining.{Remaining}
+use Rattle.go_record.specs.declared.state.Remaining.TheVariants.{All, Moves, Nothing}
 use Rattle.go_record.specs.declared.moves.MovesMet.{MovesMet}
 use Rattle.go_record.specs.declared.moves.MovesMet.TheVariants.{NoMove, OneMove, MoreMoves}
 use Rattle.go_record.specs.declared.state.Walk.{Walk}
@@ -20,13 +20,13 @@ use Rattle.go_record.specs.MainLine.{Event, before_move, move_met}
 use Rattle.go_record.specs.Walks.{Outcome, Plays, SetsUp}
 
 -- the later events that are visited
-abbrev pub seen : Left → List Event → List Event
+abbrev pub seen : Remaining → List Event → List Event
 seen All events = events
 seen (Moves k) events = before_move k events
 seen Nothing events = []
 
 -- no later event is visited
-abbrev pub is_nothing : Left → Bool
+abbrev pub is_nothing : Remaining → Bool
 is_nothing All = false
 is_nothing (Moves k) = false
 is_nothing Nothing = true
@@ -50,7 +50,7 @@ playing at = if at.0.has_begun then Some at.1 else None
 
 -- from here on these events have the outcome
 abbrev pub Goes : WalkedGame → List Event → Outcome → Type 0
-Goes at events outcome = GoesFrom at.0 (playing at) (seen at.0.left events) outcome
+Goes at events outcome = GoesFrom at.0 (playing at) (seen at.0.remaining events) outcome
 
 -- Between the two states the walk visited these events.
 pub record Passes (old : WalkedGame) (events : List Event) (new : WalkedGame) : Type 0 where
@@ -70,9 +70,9 @@ pub record Says (c : Trees) (n : ℕ) (komi : ℤ) : Type 0 where
   pub komi_said : komi_in (value_at_root (codes "KM") c) ≡ Some komi
 
 -- the events that are visited by a walk that ends before the move of a number
-abbrev pub left_by : Option ℕ → Left
-left_by None = All
-left_by (Some n) = Moves (n - 1)
+abbrev pub remaining_by : Option ℕ → Remaining
+remaining_by None = All
+remaining_by (Some n) = Moves (n - 1)
 
 -- some values of a property are left, and then these properties and nodes
 abbrev pub IsAmongValues : List ℕ → List Property → List (List Property) → Type 0
@@ -87,15 +87,15 @@ pub record IsRootOf (values : RootValues) (c : Trees) : Type 0 where
 
 -- the first value of the first property with a name: the one that was found, or else that among the properties left
 abbrev pub value_from : List ℕ → Option (Bor (List ℕ)) → List Property → List ℕ
-value_from name None left = value_named name left
-value_from name (Some value) left = value.now
+value_from name None remaining = value_named name remaining
+value_from name (Some value) remaining = value.now
 
 -- the values at the root of a record that were found so far, with these properties of the first node left
-pub record AreFoundOf (found : Found) (left : List Property) (c : Trees) : Type 0 where
-  pub game : value_from (codes "GM") found.game left ≡ value_at_root (codes "GM") c
-  pub size : value_from (codes "SZ") found.size left ≡ value_at_root (codes "SZ") c
-  pub komi : value_from (codes "KM") found.komi left ≡ value_at_root (codes "KM") c
-  pub result_said : value_from (codes "RE") found.result left ≡ value_at_root (codes "RE") c
+pub record AreFoundOf (found : Found) (remaining : List Property) (c : Trees) : Type 0 where
+  pub game : value_from (codes "GM") found.game remaining ≡ value_at_root (codes "GM") c
+  pub size : value_from (codes "SZ") found.size remaining ≡ value_at_root (codes "SZ") c
+  pub komi : value_from (codes "KM") found.komi remaining ≡ value_at_root (codes "KM") c
+  pub result_said : value_from (codes "RE") found.result remaining ≡ value_at_root (codes "RE") c
 
 -- the moves that were met are these; if there are more than one, it says nothing of them
 abbrev pub AreMoves : ℕ → MovesMet → List Event → Type 0

@@ -8,8 +8,7 @@ ghost use Rattle.goref_session.specs.inner.Refusing.{move_refusal};
 use crate::arguments::{colour_argument, vertex_argument};
 use crate::decision::{Decision, Fact, Refusal};
 use go_board::{Colour, Move, VertexError};
-use go_game::laws::legal_by_the_rules;
-use go_game::{Game, PlayError};
+use go_game::{Game, PlayError, laws};
 use goref_lines::Request;
 use goref_results::legal_plays;
 use std::alloc::Allocator;
@@ -36,7 +35,7 @@ fn decide_move<A: Allocator + Copy>(game: &mut Game<A>, made: Move) -> Decision
     ensures { DecidesPlay game.old.standing (Some made.colour) (Some made.vertex)
         (record { decision = result; standing = game.new.standing }) }
 {
-    legal_by_the_rules();
+    laws::legal_by_the_rules();
     match game.play(made) {
         Ok(_) => Decision::Done,
         Err(error) => Decision::Refused(refusal_of(error)),

@@ -17,7 +17,7 @@ capture_if_dead-stones-requires-clause-colours g c =
       rest_some = colours.rest_some;
       apart = colours.apart;
       two = still_two (n * n) (IsAdjacent n) (tables_of c.args.cells.now.numbers) (tables_of c.loop-near.cells.numbers)
-          c.args.captured_code c.args.other_code c.loop-near.invariant.capturing colours.two;
+          c.args.captured_code c.args.freed_code c.loop-near.invariant.capturing colours.two;
     }
 
 pub loop-near-preserved : goal.loop-near-preserved

@@ -11,7 +11,7 @@ returns-clause-lifted g c =
     let P : List ℕ → Type 0 = λ xs. AreBeside n c.args.point xs in
     let Q : ℕ → Type 0 = λ k. AreBeside n k c.put_beside.new.numbers.items in
     IsLifted_given n c.args.cells.now.numbers c.replace.new.cells.numbers c.give_back.new.cells.numbers c.args.point
-    c.args.other_code c.as_slice.result.now (square-le n (omega arith)) c.requires.point
+    c.args.freed_code c.as_slice.result.now (square-le n (omega arith)) c.requires.point
     (subst P (sym c.as_slice.ensures.value) (subst Q c.numbered.ensures.back c.put_beside.ensures))
     c.replace.ensures.written c.give_back.ensures.given
 

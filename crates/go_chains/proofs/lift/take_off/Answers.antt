@@ -26,7 +26,7 @@ overflow_add-at g c =
     ∙ ap (size_of old) c.get-label.ensures.value in
     let t = c.loop-test.true in
     let s = square-le n (omega arith) in
-    let next = is_next n old c.loop.cells.numbers c.args.stone c.args.captured_code c.args.other_code c.loop.counter c.loop.at s
+    let next = is_next n old c.loop.cells.numbers c.args.stone c.args.captured_code c.args.freed_code c.loop.counter c.loop.at s
     c.requires.rest c.requires.apart c.requires.tidy c.requires.stone c.requires.taken (omega arith)
     c.loop.invariant.at c.loop.invariant.lifted in
     let h = next.inside in omega arith
@@ -39,7 +39,7 @@ get-next-requires g c =
     ∙ ap (size_of old) c.get-label.ensures.value in
     let t = c.loop-test.true in
     let s = square-le n (omega arith) in
-    let next = is_next n old c.loop.cells.numbers c.args.stone c.args.captured_code c.args.other_code c.loop.counter c.loop.at s
+    let next = is_next n old c.loop.cells.numbers c.args.stone c.args.captured_code c.args.freed_code c.loop.counter c.loop.at s
     c.requires.rest c.requires.apart c.requires.tidy c.requires.stone c.requires.taken (omega arith)
     c.loop.invariant.at c.loop.invariant.lifted in
     let h = next.inside in omega arith
@@ -51,7 +51,7 @@ lift-requires-clause-point g c =
     let is : c.get-stones.result ≡ size_of old (label_of old c.args.stone) = c.get-stones.ensures.value
     ∙ ap (size_of old) c.get-label.ensures.value in
     let t = c.loop-test.true in
-    (is_next n old c.loop.cells.numbers c.args.stone c.args.captured_code c.args.other_code c.loop.counter c.loop.at
+    (is_next n old c.loop.cells.numbers c.args.stone c.args.captured_code c.args.freed_code c.loop.counter c.loop.at
     (square-le n (omega arith)) c.requires.rest c.requires.apart c.requires.tidy c.requires.stone c.requires.taken
     (omega arith) c.loop.invariant.at c.loop.invariant.lifted).inside
 
@@ -62,7 +62,7 @@ lift-requires-clause-taken g c =
     let is : c.get-stones.result ≡ size_of old (label_of old c.args.stone) = c.get-stones.ensures.value
     ∙ ap (size_of old) c.get-label.ensures.value in
     let t = c.loop-test.true in
-    (is_next n old c.loop.cells.numbers c.args.stone c.args.captured_code c.args.other_code c.loop.counter c.loop.at
+    (is_next n old c.loop.cells.numbers c.args.stone c.args.captured_code c.args.freed_code c.loop.counter c.loop.at
     (square-le n (omega arith)) c.requires.rest c.requires.apart c.requires.tidy c.requires.stone c.requires.taken
     (omega arith) c.loop.invariant.at c.loop.invariant.lifted).own_is
 
@@ -73,7 +73,7 @@ lift-requires-clause-labels g c =
     let is : c.get-stones.result ≡ size_of old (label_of old c.args.stone) = c.get-stones.ensures.value
     ∙ ap (size_of old) c.get-label.ensures.value in
     let t = c.loop-test.true in
-    (is_next n old c.loop.cells.numbers c.args.stone c.args.captured_code c.args.other_code c.loop.counter c.loop.at
+    (is_next n old c.loop.cells.numbers c.args.stone c.args.captured_code c.args.freed_code c.loop.counter c.loop.at
     (square-le n (omega arith)) c.requires.rest c.requires.apart c.requires.tidy c.requires.stone c.requires.taken
     (omega arith) c.loop.invariant.at c.loop.invariant.lifted).labels
 
@@ -97,7 +97,7 @@ loop-preserved g c =
     ∙ ap (size_of old) c.get-label.ensures.value in
     let t = c.loop-test.true in
     let small = square-le n (omega arith) in
-    let next = is_next n old c.loop.cells.numbers c.args.stone c.args.captured_code c.args.other_code i c.loop.at small
+    let next = is_next n old c.loop.cells.numbers c.args.stone c.args.captured_code c.args.freed_code i c.loop.at small
     c.requires.rest c.requires.apart c.requires.tidy c.requires.stone c.requires.taken (omega arith) inv.at
     inv.lifted in
     let at_in = next.inside in
@@ -105,7 +105,7 @@ loop-preserved g c =
       at = c.get-next.ensures.value ∙ inv.lifted.above (LINKS + c.loop.at) (omega arith) (omega arith)
           ∙ ap (next_of old) inv.at ∙ sym (steps-add (next_of old) i 1 c.args.stone);
       lifted = IsRingLifted_more n (next_of old) old c.loop.cells.numbers c.lift.new.cells.numbers c.args.stone i
-          c.args.other_code c.loop.at small c.requires.rest inv.at
+          c.args.freed_code c.loop.at small c.requires.rest inv.at
           (λ j below. (ring_point n old c.args.stone c.args.captured_code c.requires.tidy c.requires.stone c.requires.taken j
           (omega arith)).0) next.apart_of inv.lifted c.lift.ensures.lifted;
       edited = Edited_then inv.edited c.lift.ensures.edited (omega arith) (omega arith) (omega arith);
@@ -119,7 +119,7 @@ returns-clause-removed g c =
     ∙ ap (size_of old) c.get-label.ensures.value in
     let end : c.loop.counter ≡ size_of old (label_of old c.args.stone) =
     (let a = c.loop-test.false in let b = c.loop.auto.counter-end in omega arith) in
-    let P : ℕ → Type 0 = λ k. IsRingLifted n (next_of old) old c.loop.cells.numbers c.args.stone k c.args.other_code in
-    IsRemoved_ring n old c.loop.cells.numbers c.args.stone c.args.captured_code c.args.other_code (square-le n (omega arith))
+    let P : ℕ → Type 0 = λ k. IsRingLifted n (next_of old) old c.loop.cells.numbers c.args.stone k c.args.freed_code in
+    IsRemoved_ring n old c.loop.cells.numbers c.args.stone c.args.captured_code c.args.freed_code (square-le n (omega arith))
     c.requires.rest c.requires.tidy c.requires.whole c.requires.stone c.requires.taken c.requires.two
     (subst P end c.loop.invariant.lifted)

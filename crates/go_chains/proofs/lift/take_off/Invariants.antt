@@ -9,6 +9,6 @@ abbrev pub invariant-loop : goal.invariant-loop
 invariant-loop g l = record {
   at : l.at ≡ steps (next_of l.fn.cells.numbers) l.counter l.fn.stone;
   lifted : IsRingLifted l.fn.size (next_of l.fn.cells.numbers) l.fn.cells.numbers l.cells.numbers l.fn.stone l.counter
-      l.fn.other_code;
+      l.fn.freed_code;
   edited : Edited l.fn.cells l.cells l.fn.changes l.changes l.fn.meter l.meter (5 * l.counter) (2 + 18 * l.counter);
 }

@@ -14,8 +14,8 @@ returns-in_err-visit_line-clause-err g c =
     let p = err_from_is_err_and c.from_residual.result c.from_residual.ensures.1 in
     λ t s says. rw (p.1, p.2) (λ some.
     game_walked t c.args.number c.args.root.now.size c.new.result.lines komi (to_z w64 (of_z w64 komi))
-    c.new.result.colours c.left_of.result (Err c.in_err-visit_line.field-0.0) says c.new.ensures.lines back
-    c.new.ensures.colours c.left_of.ensures
+    c.new.result.colours c.remaining_before.result (Err c.in_err-visit_line.field-0.0) says c.new.ensures.lines back
+    c.new.ensures.colours c.remaining_before.ensures
     ((c.in_err-visit_line.ensures t s).stopped some _))
 
 pub returns-clause-ok : goal.returns-clause-ok
@@ -24,8 +24,8 @@ returns-clause-ok g c =
     let back : to_z w64 (of_z w64 komi) ≡ komi = omega (arith, ints, c.args.root.now.in_range) in
     λ t s says. on_ok c.finish.result
     (λ goes. game_walked t c.args.number c.args.root.now.size c.new.result.lines komi (to_z w64 (of_z w64 komi))
-    c.new.result.colours c.left_of.result (Ok c.finish.new.game.standing) says c.new.ensures.lines back
-    c.new.ensures.colours c.left_of.ensures
+    c.new.result.colours c.remaining_before.result (Ok c.finish.new.game.standing) says c.new.ensures.lines back
+    c.new.ensures.colours c.remaining_before.ensures
     ((c.in_ok-visit_line.ensures t s).passed _ (Ok c.finish.new.game.standing) goes)) c.finish.ensures.ok
 
 pub returns-clause-err : goal.returns-clause-err
@@ -35,5 +35,5 @@ returns-clause-err g c =
     λ t s says. if_err c.finish.result
     (λ e goes some. game_walked t c.args.number c.args.root.now.size c.new.result.lines komi
     (to_z w64 (of_z w64 komi))
-    c.new.result.colours c.left_of.result (Err e) says c.new.ensures.lines back c.new.ensures.colours c.left_of.ensures
+    c.new.result.colours c.remaining_before.result (Err e) says c.new.ensures.lines back c.new.ensures.colours c.remaining_before.ensures
     ((c.in_ok-visit_line.ensures t s).passed _ (Err e) (goes some))) c.finish.ensures.err

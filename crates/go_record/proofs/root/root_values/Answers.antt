@@ -12,7 +12,7 @@ returns-then-not-next_node c =
       of.0,
       of.1,
       c.values.ensures of.0
-          (subst (λ (left : List Property). AreFoundOf c.nothing-found.result left of.0) none
+          (subst (λ (remaining : List Property). AreFoundOf c.nothing-found.result remaining of.0) none
           (c.nothing-found.ensures of.0)),
     )
 
@@ -27,7 +27,7 @@ loop-name-init c =
         next.0,
         next.1,
         ([], next.3),
-        subst (λ (left : List Property). AreFoundOf c.nothing-found.result left of.0) first
+        subst (λ (remaining : List Property). AreFoundOf c.nothing-found.result remaining of.0) first
             (c.nothing-found.ensures of.0),
       ),
     )
@@ -44,7 +44,7 @@ loop-name-preserved c =
         i.1,
         c.first_value-value.ensures.cursor next.1 i.1 (next.0.values, next.4),
         c.keep.ensures next.0 next.1 of.0 next.3 (c.first_value-value.ensures.value next.0.values next.1 i.1 next.4)
-            (subst (λ (left : List Property). AreFoundOf c.loop-name.found left of.0) next.2 i.3),
+            (subst (λ (remaining : List Property). AreFoundOf c.loop-name.found remaining of.0) next.2 i.3),
       ),
     )
 
@@ -55,7 +55,7 @@ returns-then-is_whole c =
     let next = c.in-Some.ensures.next i.2.0 i.0 i.1 i.2.1 in
     let kept = c.keep.ensures next.0 next.1 of.0 next.3
     (c.first_value-value.ensures.value next.0.values next.1 i.1 next.4)
-    (subst (λ (left : List Property). AreFoundOf c.loop-name.found left of.0) next.2 i.3) in
+    (subst (λ (remaining : List Property). AreFoundOf c.loop-name.found remaining of.0) next.2 i.3) in
     (of.0, of.1, c.values-then-is_whole.ensures of.0 (c.if-is_whole.ensures refl next.1 of.0 kept))
 
 pub returns : goal.returns
@@ -66,5 +66,5 @@ returns c =
       of.0,
       of.1,
       c.values-2.ensures of.0
-          (subst (λ (left : List Property). AreFoundOf c.loop-name.found left of.0) end.0 i.3),
+          (subst (λ (remaining : List Property). AreFoundOf c.loop-name.found remaining of.0) end.0 i.3),
     )

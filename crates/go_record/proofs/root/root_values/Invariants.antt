@@ -6,8 +6,8 @@ use Rattle.go_record.proofs.root.root_values.Given as goal
 
 abbrev pub invariant-loop-name : goal.invariant-loop-name
 invariant-loop-name l = OfRecord l.source
-    (λ t. (left : List Property) × (nodes : List (List Property)) × IsAmongValues l.cursor left nodes
-    × AreFoundOf l.found left t)
+    (λ t. (remaining : List Property) × (nodes : List (List Property)) × IsAmongValues l.cursor remaining nodes
+    × AreFoundOf l.found remaining t)
 
 abbrev pub decreases-loop-name : goal.decreases-loop-name
 decreases-loop-name l = length l.cursor

@@ -10,8 +10,8 @@ invariant-loop-value l = record {
   onward : length l.cursor ≤ length l.fn.cursor;
   set : (values : List (List ℕ)) (later : List Property) (nodes : List (List Property)) →
       IsLeft l.fn.cursor values later nodes →
-      (left : List (List ℕ)) × IsLeft l.cursor left later nodes
-      × SetSoFar l.fn.grid.lines l.colour l.fn.grid.colours values left l.grid.colours;
+      (remaining : List (List ℕ)) × IsLeft l.cursor remaining later nodes
+      × SetSoFar l.fn.grid.lines l.colour l.fn.grid.colours values remaining l.grid.colours;
 }
 
 abbrev pub decreases-loop-value : goal.decreases-loop-value

@@ -2,7 +2,7 @@ use Rattle.std.proofs.Common.{◌≡◌, ◌<◌, [], ◌∷◌, ◌++◌, ℕ, 
 use Rattle.std.proofs.lemmas.Result.{err_from_is_err_and}
 use Rattle.std.specs.List.{flat_map}
 use Rattle.std.specs.Prelude.{option_map}
-use Rattle.go_sgf.specs.declared.error.Stop.TheVariants.{Deep}
+use Rattle.go_sgf.specs.declared.error.ReadError.TheVariants.{Deep}
 use Rattle.go_sgf.specs.declared.limits.TheConstants.{MAX_DEPTH}
 use Rattle.go_sgf.specs.inner.Held.{trees_in}
 use Rattle.go_sgf.specs.inner.Outcome.{outcome}

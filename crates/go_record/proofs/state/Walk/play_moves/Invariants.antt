@@ -9,8 +9,8 @@ use Rattle.go_record.proofs.state.Walk.play_moves.Given as goal
 abbrev pub invariant-loop-name : goal.invariant-loop-name
 invariant-loop-name g l = (properties : List Property) (nodes : List (List Property)) →
     IsLeft l.fn.cursor [] properties nodes →
-    (left : List Property) × IsAmongValues l.cursor left nodes
-    × (done : List Event) × (done ++ flat_map (move_event l.node) left ≡ flat_map (move_event l.node) properties)
+    (remaining : List Property) × IsAmongValues l.cursor remaining nodes
+    × (done : List Event) × (done ++ flat_map (move_event l.node) remaining ≡ flat_map (move_event l.node) properties)
     × Passes (l.fn.self, l.fn.game) done (l.self, l.game)
 
 abbrev pub decreases-loop-name : goal.decreases-loop-name

@@ -5,16 +5,16 @@ use Rattle.go_sgf.specs.MainLine.{IsLeft}
 use Rattle.go_sgf.specs.Record.{Property}
 use Rattle.go_record.specs.MainLine.{Event, move_event, setup_event}
 use Rattle.go_record.specs.inner.Progress.{AreMoves, IsAmongValues, Passes}
-use Rattle.go_record.proofs.state.Walk.set_up.Given as goal
+use Rattle.go_record.proofs.state.Walk.visit_properties.Given as goal
 
 abbrev pub invariant-loop-name : goal.invariant-loop-name
 invariant-loop-name l = record {
   onward : length l.cursor ≤ length l.fn.cursor;
   passed : (properties : List Property) (nodes : List (List Property)) → IsLeft l.fn.cursor [] properties nodes →
-      (left : List Property) × IsAmongValues l.cursor left nodes
-      × (done : List Event) × (done ++ flat_map (setup_event l.node) left ≡ flat_map (setup_event l.node) properties)
+      (remaining : List Property) × IsAmongValues l.cursor remaining nodes
+      × (done : List Event) × (done ++ flat_map (setup_event l.node) remaining ≡ flat_map (setup_event l.node) properties)
       × ((game : GameValue) → Passes (l.fn.self, game) done (l.self, game))
-      × (met : List Event) × (met ++ flat_map (move_event l.node) left ≡ flat_map (move_event l.node) properties)
+      × (met : List Event) × (met ++ flat_map (move_event l.node) remaining ≡ flat_map (move_event l.node) properties)
       × AreMoves l.node l.moves met;
 }
 

@@ -1,6 +1,6 @@
 use Rattle.std.proofs.Common.{◌≢◌, ◌≤◌, ◌-◌, ℕ, drop, length}
 use Rattle.go_sgf.specs.inner.Tidied.{Outside, StaysTo}
-use Rattle.go_sgf.proofs.verbatim.after_properties.Given as goal
+use Rattle.go_sgf.proofs.verbatim.after_kept.Given as goal
 
 abbrev pub invariant-loop-place : goal.invariant-loop-place
 invariant-loop-place l = record {

@@ -4,8 +4,8 @@ use Rattle.go_sgf.specs.Record.{IsValue}
 use Rattle.go_sgf.specs.inner.Reads.{IsBracketAt}
 use Rattle.go_sgf.specs.inner.Tidied.{Outside}
 use Rattle.go_sgf.proofs.Passed.{all_stays, nothing_given, semicolon_stays, stays, stays_a_byte, stays_a_value, stays_from_bracket, stays_to_end, upper_stays}
-use Rattle.go_sgf.proofs.verbatim.after_properties.Goals as goal
-use Rattle.go_sgf.proofs.verbatim.after_properties.Goals.{then-byte-eq59, else-byte-eq59}
+use Rattle.go_sgf.proofs.verbatim.after_kept.Goals as goal
+use Rattle.go_sgf.proofs.verbatim.after_kept.Goals.{then-byte-eq59, else-byte-eq59}
 
 pub loop-place-init : goal.loop-place-init
 loop-place-init c = record {

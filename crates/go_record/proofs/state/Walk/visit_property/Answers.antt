@@ -4,7 +4,7 @@ use Rattle.go_record.specs.MainLine.{move_met, turn}
 use Rattle.go_record.specs.inner.Kinds.{move_by, setup_by}
 use Rattle.go_record.specs.declared.kind.Kind.{Kind}
 use Rattle.go_record.specs.inner.Progress.{AreMoves, Walked}
-use Rattle.go_record.proofs.state.Walk.visit_setup.Goals as goal
+use Rattle.go_record.proofs.state.Walk.visit_property.Goals as goal
 
 pub returns-in-Stones-clause-walked : goal.returns-in-Stones-clause-walked
 returns-in-Stones-clause-walked c = λ values later nodes l game.
