@@ -165,7 +165,7 @@ loop-preserved g c =
           (c.in-Ok.ensures.bytes ∙ ap (λ xs. after_bytes xs (g.R.Source.left c.pull.new.self))
           (sym c.split_at.ensures.front));
       progress = rw (c.in-Ok-More.is, c.in-Ok-More.field-0-is) at (c.feed.ensures.proceeds _ now.read _ _ now.progress);
-      many = omega (arith, length-append now.read chunk, c.split_at.ensures.prefix_len, now.many);
+      many = omega (arith, length-append now.read chunk, c.split_at.ensures.front_len, now.many);
       pulls = omega (arith, c.pull.ensures.pulls);
       ends = c.in-Ok.ensures.ends ∙ no_end_found Failed c.in-Ok.count _ _ c.if-count-eq0.false ∙ now.ends;
       read_failures = c.in-Ok.ensures.failures ∙ now.read_failures;

@@ -13,7 +13,7 @@ returns-in_err-extend_from_slice-clause-reads g c =
       length-take-le c.in-Ok.count c.pull.new.buffer c.in-Ok.ensures.within,
       c.in-Ok.ensures.within,
       c.loop-buffer-test.true,
-      c.split_at_mut.ensures.prefix_len,
+      c.split_at_mut.ensures.front_len,
     ))
     now.given c.in-Ok.ensures.bytes
 
