@@ -22,9 +22,9 @@ use go_board::rows::{ByColour, Rows, areas_of, with_stone};
 use go_board::{Area, Colour, Grid, Meter, Open, Point, Size, laws};
 use std::marker::Model;
 
-/// A board that keeps its chains and their liberties, changed in place by each play. `play`, `rewind`,
-/// `is_quiet` and `liberties_with` are generic over the kind `K`. Generic code can't make a meter, so the
-/// caller's meter counts all that they read and write.
+/// A board that keeps its chains and their liberties, changed in place by each play. `K` is the kind of the
+/// meter (`go_board/src/meter.rt`). `play`, `rewind`, `is_quiet` and `liberties_with` are generic over `K`.
+/// Code that is generic over `K` can't make a meter, so these four count with the caller's.
 #[derive(Drop)]
 pub struct Board<K = Open> {
     size: Size,
@@ -73,8 +73,8 @@ impl Board<Open> {
         }
     }
 
-    /// Takes all stones off, and gives the board this size. It writes the colours of the points
-    /// alone, and counts nothing.
+    /// Takes all stones off, and gives the board this size. It empties the colour cells of the new size's
+    /// points. Cells past them keep what they had. It counts nothing.
     pub fn clear(&mut self, size: Size)
         ensures lines { self.new.lines ≡ size }
         ensures colours { grid_of self.new ≡ replicate (size * size) None }

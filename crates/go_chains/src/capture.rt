@@ -20,32 +20,40 @@ pub fn capture_if_dead<K, A: Allocator + Copy>(
     changes: &mut Vec<LoggedChange, A>,
     meter: &mut Meter<K>,
     size: Size,
-    near: usize,
+    point: usize,
     captured_code: u64,
     freed_code: u64,
 ) -> usize
     requires tidy { AreTidy size cells.old }
     requires whole { AreWhole size cells.old }
-    requires near { near < size * size }
+    requires point { point < size * size }
     requires colours { AreColours size cells.old captured_code freed_code }
     requires room { vec_len changes.old + 5 * MAX_POINTS ≤ vec_capacity changes.old }
     ensures capturing { CapturesMore size cells.old cells.new captured_code }
-    ensures gone { TakesDead size cells.old cells.new captured_code near }
+    ensures gone { TakesDead size cells.old cells.new captured_code point }
     ensures stones { TakesStones size cells.old cells.new captured_code result }
     ensures few { result ≤ MAX_POINTS }
-    ensures bound { result ≤ chain_size cells.old.numbers near }
+    ensures bound { result ≤ chain_size cells.old.numbers point }
     ensures edited { Edited cells.old cells.new changes.old changes.new meter.old meter.new
         (5 * result) (WORDS + 5 + 18 * result) }
 {
-    if cells.get(near, meter) != captured_code {
+    if cells.get(point, meter) != captured_code {
         return 0;
     }
-    let label = cells.get(LABELS + near, meter) as usize;
-    // `near` has a stone, so it excludes no liberty. It only says which word is looked at first.
-    if has_liberty_but(cells, meter, size, label, near) {
+    let label = cells.get(LABELS + point, meter) as usize;
+    // `point` has a stone, so it excludes no liberty. It only says which word is looked at first.
+    if has_liberty_but(cells, meter, size, label, point) {
         return 0;
     }
-    take_off(cells, changes, meter, size, near, captured_code, freed_code)
+    take_off(
+        cells,
+        changes,
+        meter,
+        size,
+        point,
+        captured_code,
+        freed_code,
+    )
 }
 
 /// Captures the chains of the colour `captured_code` on these points that have no liberty, and returns the

@@ -1,5 +1,6 @@
 //! All tables of a board in one array of numbers, and where each table begins. A meter counts each read and
-//! each write. Each write is traced, and a write of a colour also changes the pack.
+//! each write. Each write is traced, and a write of a colour also changes the pack. Meter and trace are for
+//! contracts alone: they have no bytes when the program runs.
 ghost use Rattle.std.specs.Prelude.{◌≡◌, ◌<◌, ◌+◌, ◌*◌, ◌++◌, ◌∷◌, [], slice_index, slice_set};
 ghost use Rattle.go_board.specs.PackBytes.{bytes_of};
 ghost use Rattle.go_board.specs.Packs.{packed_of};
@@ -31,9 +32,9 @@ pub const LIBERTIES: usize = SIZES + MAX_POINTS;
 pub const CELLS: usize = LIBERTIES + WORDS * MAX_POINTS;
 
 /// The cells of a board: the colour, the label and the ring link of each point, and the size and the words of
-/// liberties of each label. Nothing else reads or writes them, each write is in their trace, and each read
-/// and each write is counted, with a meter of the cells' kind. Beside them is the pack of all colour cells,
-/// by number.
+/// liberties of each label. Only the methods of this type read or write them. A meter counts each read and
+/// each write, and the trace has each write. `K` is the kind of the meter (`go_board/src/meter.rt`). Beside
+/// the cells is the pack of all colour cells, by number.
 #[derive(Drop)]
 pub struct Cells<K = Open> {
     numbers: Numbers<K>,
@@ -72,8 +73,8 @@ impl Cells<Open> {
         }
     }
 
-    /// The pack of all colour cells, by number. Only open cells have this method, so
-    /// that no play looks at colours that it doesn't count.
+    /// The pack of all colour cells, by number. A play is generic over `K`, and only `Cells<Open>` has this
+    /// method. So a play reads a colour only by `get`, which counts it.
     pub fn pack(&self) -> &Packed
         ensures { bytes_of result.now ≡ packed_of (colouring_of MAX_LINES self.now.numbers) }
     {

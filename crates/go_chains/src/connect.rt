@@ -49,7 +49,7 @@ fn connect_one<K, A: Allocator + Copy>(
     }
 }
 
-/// Makes one chain of a stone's and all chains of its colour beside it.
+/// Joins a stone's chain with all chains of its colour beside it.
 pub fn connect<K, A: Allocator + Copy>(
     cells: &mut Cells<K>,
     changes: &mut Vec<LoggedChange, A>,

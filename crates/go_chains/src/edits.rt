@@ -33,7 +33,7 @@ pub(crate) fn replace<K, A: Allocator + Copy>(
     cells.set(place, number, meter);
 }
 
-/// Writes a number into a cell, and logs that if the cell has another one.
+/// If the cell has another number, writes this one and logs the change.
 pub(crate) fn put<K, A: Allocator + Copy>(
     cells: &mut Cells<K>,
     changes: &mut Vec<LoggedChange, A>,

@@ -89,9 +89,9 @@ fn put_back_changes<K, A: Allocator + Copy>(
     }
 }
 
-/// Makes room for one more play, of at most `most` changes. The first play makes room for `most`, and uses
-/// little of it. If that list grew, all its room might be copied. So the second play, which finds room for
-/// just `most`, makes a list with room for two plays, and copies the changes in use alone.
+/// Makes room for one more play, of at most `most` changes. The first play reserves `most` and uses little.
+/// Growing that list might copy all its room. So the second play makes a new list for two plays, and copies
+/// only the changes in use.
 pub(crate) fn reserve_play<A: Allocator + Copy>(
     changes: &mut Vec<LoggedChange, A>,
     lengths: &mut Vec<usize, A>,

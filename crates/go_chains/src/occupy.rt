@@ -16,7 +16,7 @@ use go_board::point_set::words_of;
 use go_board::{MAX_POINTS, Meter, PointSet, Size};
 use std::alloc::Allocator;
 
-/// Puts a point into a set if it is empty.
+/// If a point is empty, puts it into a set.
 fn put_if_empty<K>(cells: &Cells<K>, meter: &mut Meter<K>, near: usize, set: &mut PointSet)
     requires near { near < MAX_POINTS }
     ensures marked { MarksOne cells.now.numbers set.old set.new near }
@@ -27,7 +27,7 @@ fn put_if_empty<K>(cells: &Cells<K>, meter: &mut Meter<K>, near: usize, set: &mu
     }
 }
 
-/// Takes an empty set, and adds those of these points that are empty.
+/// Adds to `set` the points of `beside` that have no stone. `set` has no point before.
 pub(crate) fn put_empty<K>(
     cells: &Cells<K>,
     meter: &mut Meter<K>,

@@ -27,7 +27,7 @@ pub struct Game<A: Allocator + Copy> {
     /// The board after the last move, and the log of its plays.
     pub(crate) board: Board,
     pub(crate) log: Log<A>,
-    /// What plays, undos and tests of quiet plays read and wrote in the tables. Other questions aren't counted.
+    /// What moves, undos and tests of quiet plays read and wrote in the tables. Other questions aren't counted.
     pub(crate) meter: Meter,
     /// The moves, each with what it took.
     pub(crate) steps: Vec<Step, A>,

@@ -15,7 +15,8 @@ use go_history::{History, Key};
 use std::alloc::Allocator;
 
 impl<A: Allocator + Copy> Game<A> {
-    /// Plays a move: a pass, or a stone on an empty point. The superko rule must allow the position after it.
+    /// Plays a move: a pass, or a stone on an empty point. If the move is a stone, the superko rule must allow
+    /// the position that results.
     /// The move takes the opponent's chains that have no liberty. Then it takes the stone's own chain, if
     /// that has none. A refused move changes nothing.
     pub fn play(&mut self, made: Move) -> Result<Taken, PlayError>
@@ -104,7 +105,7 @@ impl<A: Allocator + Copy> Game<A> {
             vertex: Vertex::At(p),
         };
         let step = Step { made, taken };
-        // `write_pack` fills the pack of the key in, and so spares a copy.
+        // `write_pack` writes into the key's own pack, so no pack is copied.
         let mut key = self.superko.key(Packed::empty(), colour.other());
         self.board.write_pack(&mut key.pack);
         match note_step(&key, &mut self.history, &mut self.steps, step) {

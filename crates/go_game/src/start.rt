@@ -57,6 +57,7 @@ impl<A: Allocator + Copy> Game<A> {
         }
         let size = grid.size();
         self.resize(size);
+        // The game's own log stays empty, so `undo` stops at the start.
         let mut log = Log::new(*self.steps.allocator());
         let Ok(()) = fill(&mut self.board, grid, &mut log) else {
             self.board.clear(size);

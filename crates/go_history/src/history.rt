@@ -165,6 +165,7 @@ fn note_first<A: Allocator + Copy>(
     ensures err { OnErr result ((q : Key) → lookup (key_eq q) first.new.entries
         ≡ lookup (key_eq q) first.old.entries) }
 {
+    // Most keys are new, so it inserts first. If the key was there, it puts the earlier number back.
     let known = first.insert(*key, number)?;
     match known {
         None => Ok(None),

@@ -13,3 +13,4 @@ pub mod Fitting
 pub mod SoundGames
 pub mod Decided
 pub mod Vacant
+pub mod Blanks

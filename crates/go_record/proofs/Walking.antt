@@ -50,10 +50,10 @@ seen_none (Moves (suc k)) = refl
 seen_none Nothing = refl
 
 -- whether a move was met
-pub met : (w : WalkedGame) → w.0.has_begun ≡ true → playing w ≡ Some w.1
+pub met : (w : WalkedGame) → w.0.has_played ≡ true → playing w ≡ Some w.1
 met w e = rw e refl
 
-pub none_met : (w : WalkedGame) → w.0.has_begun ≡ false → playing w ≡ None
+pub none_met : (w : WalkedGame) → w.0.has_played ≡ false → playing w ≡ None
 none_met w e = rw e refl
 
 -- ---- single events
@@ -202,11 +202,11 @@ end_playing w game e = goes_by w (Some game) [] [] (Ok game.standing) e (seen_no
 
 pub end_started : {T : Type 0} (w : WalkedGame) (r : Result T RecordError) (s : Standing) → playing w ≡ None →
     OnOk r (AreAlive w.0.grid.lines w.0.grid.colours
-    × (s ≡ start_of w.0.grid.lines w.0.komi w.0.grid.colours w.0.turn)) → OnOk r (Goes w [] (Ok s))
+    × (s ≡ start_of w.0.grid.lines w.0.komi w.0.grid.colours w.0.given_mover)) → OnOk r (Goes w [] (Ok s))
 end_started w (Ok x) s e h =
-    let start : Standing = start_of w.0.grid.lines w.0.komi w.0.grid.colours w.0.turn in
+    let start : Standing = start_of w.0.grid.lines w.0.komi w.0.grid.colours w.0.given_mover in
     goes_by w None [] [] (Ok s) e (seen_none w.0.remaining)
-    (sets_end w.0.grid.lines w.0.komi w.0.grid.colours w.0.turn (Ok s)
+    (sets_end w.0.grid.lines w.0.komi w.0.grid.colours w.0.given_mover (Ok s)
     (inl (h.0, subst (λ (t : Standing). Plays start [] (Ok t)) (sym h.1) (plays_end start))))
 end_started w (Err error) s e h = h
 
@@ -216,7 +216,7 @@ pub end_dead : {T : Type 0} (w : WalkedGame) (r : Result T RecordError) → play
 end_dead w (Ok x) e h = h
 end_dead w (Err error) e h = λ some.
     goes_by w None [] [] (Err error) e (seen_none w.0.remaining)
-    (sets_end w.0.grid.lines w.0.komi w.0.grid.colours w.0.turn (Err error) (inr (h some)))
+    (sets_end w.0.grid.lines w.0.komi w.0.grid.colours w.0.given_mover (Err error) (inr (h some)))
 
 pub reason_of : (s : Standing) (c : Colour) (v : Vertex) (why : PlayError) (r : Result Taken PlayError) → r ≡ Err why →
     why ≢ play.Memory →
@@ -250,13 +250,13 @@ if_err (Err e) f h = f e h
 
 -- the game that the first move begins
 pub began_setting : (w : WalkedGame) (s : Standing) → playing w ≡ None → AreAlive w.0.grid.lines w.0.grid.colours →
-    s ≡ start_of w.0.grid.lines w.0.komi w.0.grid.colours w.0.turn →
+    s ≡ start_of w.0.grid.lines w.0.komi w.0.grid.colours w.0.given_mover →
     (node : ℕ) (c : Colour) (value : List ℕ) (events : List Event) (outcome : Outcome) →
     Plays s (move_met node c value ∷ events) outcome →
     GoesFrom w.0 (playing w) (move_met node c value ∷ events) outcome
 began_setting w s e alive is node c value events outcome h =
     subst (λ (o : Option GameValue). GoesFrom w.0 o (move_met node c value ∷ events) outcome) (sym e)
-    (sets_move w.0.grid.lines w.0.komi w.0.grid.colours w.0.turn node c value events outcome
+    (sets_move w.0.grid.lines w.0.komi w.0.grid.colours w.0.given_mover node c value events outcome
     (inl (alive, subst (λ (t : Standing). Plays t (move_met node c value ∷ events) outcome) is h)))
 
 pub began_dead : (w : WalkedGame) → playing w ≡ None → (error : RecordError) →
@@ -265,7 +265,7 @@ pub began_dead : (w : WalkedGame) → playing w ≡ None → (error : RecordErro
     GoesFrom w.0 (playing w) (move_met node c value ∷ events) (Err error)
 began_dead w e error dead node c value events =
     subst (λ (o : Option GameValue). GoesFrom w.0 o (move_met node c value ∷ events) (Err error)) (sym e)
-    (sets_move w.0.grid.lines w.0.komi w.0.grid.colours w.0.turn node c value events (Err error) (inr dead))
+    (sets_move w.0.grid.lines w.0.komi w.0.grid.colours w.0.given_mover node c value events (Err error) (inr dead))
 
 -- one element on: the events of those before it, its own, and those of the later ones
 pub one_on : {Y Z : Type 0} (f : Y → List Z) (done : List Z) (ys : List Y) (y : Y) (later : List Y) → ys ≡ y ∷ later →

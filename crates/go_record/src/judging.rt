@@ -35,17 +35,17 @@ pub fn judge<A: Allocator + Copy>(
 /// The verdict on the record that a source spells, as [`judge`] gives it, without lists of its parts.
 pub fn judge_source<A: Allocator + Copy>(
     alloc: A,
-    source: &Checked<'_>,
+    checked: &Checked<'_>,
 ) -> Result<Verdict, RecordError>
-    ensures ok { OfRecord source.now (λ c. IfOk result (IsVerdict c)) }
-    ensures err { OfRecord source.now (λ c. IfErr result
+    ensures ok { OfRecord checked.now (λ c. IfOk result (IsVerdict c)) }
+    ensures err { OfRecord checked.now (λ c. IfErr result
         (λ e. e ≢ Memory → IsGameOf c None (Err e))) }
 {
-    let values = root_values(source);
+    let values = root_values(checked);
     let stated = margin_stated(alloc, values.result)?;
     let root = root_of(&values)?;
     let mut game = Game::new(alloc, root.size);
-    walk_on(&mut game, &root, source, None)?;
+    walk_on(&mut game, &root, checked, None)?;
     let margin = game.margin();
     Ok(Verdict {
         moves: game.move_count(),
@@ -64,8 +64,8 @@ fn compared(stated: Option<i64>, margin: i64) -> Stated
     }
 }
 
-/// The margin that an RE value states, on Black's side. It isn't inlined into `judge_source`: there it would
-/// keep the compiler from seeing that a moved game needn't be emptied.
+/// The margin that an RE value states, on Black's side. It isn't inlined into `judge_source`: there the
+/// compiler would empty more of the room for a `Game`.
 #[inline(never)]
 fn margin_stated<A: Allocator + Copy>(alloc: A, value: &[u8]) -> Result<Option<i64>, AllocError>
     ensures { IfOk result

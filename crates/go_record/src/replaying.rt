@@ -20,9 +20,10 @@ use go_sgf::{Checked, Collection, MainLine, laws};
 use std::alloc::Allocator;
 
 /// The game of a record: that of the main line of its first tree, with its size, komi and start, under the
-/// positional superko rule. With a number the walk ends when it meets the move of that number, counted from
-/// 1, after the set-up in that move's node. 0 is read as 1. It checks GM, SZ and KM in this order, then each
-/// node, and returns the first refusal. If memory runs out, it returns `Memory` instead.
+/// positional superko rule. Moves are counted from 1. With a number the move of that number isn't played, and
+/// the walk ends there, after the set-up in that move's node. 0 is read as 1. It checks GM, SZ and KM in this
+/// order, then each node up to the end of the walk, and returns the first refusal. If memory runs out, it
+/// returns `Memory` instead.
 pub fn replay<A: Allocator + Copy>(
     alloc: A,
     collection: &Collection<'_, A>,
@@ -40,17 +41,17 @@ pub fn replay<A: Allocator + Copy>(
 /// The game of the record that a source spells, as [`replay`] gives it, without lists of its parts.
 pub fn replay_source<A: Allocator + Copy>(
     alloc: A,
-    source: &Checked<'_>,
+    checked: &Checked<'_>,
     number: Option<u32>,
 ) -> Result<Game<A>, RecordError>
-    ensures ok { OfRecord source.now (λ c. IfOk result
+    ensures ok { OfRecord checked.now (λ c. IfOk result
         (λ game. IsGameOf c number (Ok game.standing))) }
-    ensures err { OfRecord source.now (λ c. IfErr result
+    ensures err { OfRecord checked.now (λ c. IfErr result
         (λ e. e ≢ Memory → IsGameOf c number (Err e))) }
 {
-    let root = root_of(&root_values(source))?;
+    let root = root_of(&root_values(checked))?;
     let mut game = Game::new(alloc, root.size);
-    walk_on(&mut game, &root, source, number)?;
+    walk_on(&mut game, &root, checked, number)?;
     Ok(game)
 }
 
@@ -73,16 +74,16 @@ pub fn replay_on<A: Allocator + Copy>(
 /// Replays a record into an existing game, as [`replay_source`] does. After a refusal the game is vacant.
 pub fn replay_source_on<A: Allocator + Copy>(
     game: &mut Game<A>,
-    source: &Checked<'_>,
+    checked: &Checked<'_>,
     number: Option<u32>,
 ) -> Result<(), RecordError>
-    ensures ok { OfRecord source.now (λ c. OnOk result
+    ensures ok { OfRecord checked.now (λ c. OnOk result
         (IsGameOf c number (Ok game.new.standing))) }
-    ensures err { OfRecord source.now (λ c. IfErr result
+    ensures err { OfRecord checked.now (λ c. IfErr result
         (λ e. e ≢ Memory → IsGameOf c number (Err e))) }
     ensures vacant { OnErr result (is_vacant_standing game.new.standing ≡ true) }
 {
-    match replay_into(game, source, number) {
+    match replay_into(game, checked, number) {
         Ok(()) => Ok(()),
         Err(why) => {
             game.clear();
@@ -94,42 +95,42 @@ pub fn replay_source_on<A: Allocator + Copy>(
 /// As [`replay_source_on`], but after a refusal the game is as the walk left it.
 fn replay_into<A: Allocator + Copy>(
     game: &mut Game<A>,
-    source: &Checked<'_>,
+    checked: &Checked<'_>,
     number: Option<u32>,
 ) -> Result<(), RecordError>
-    ensures ok { OfRecord source.now (λ c. OnOk result
+    ensures ok { OfRecord checked.now (λ c. OnOk result
         (IsGameOf c number (Ok game.new.standing))) }
-    ensures err { OfRecord source.now (λ c. IfErr result
+    ensures err { OfRecord checked.now (λ c. IfErr result
         (λ e. e ≢ Memory → IsGameOf c number (Err e))) }
 {
-    let root = root_of(&root_values(source))?;
-    walk_on(game, &root, source, number)
+    let root = root_of(&root_values(checked))?;
+    walk_on(game, &root, checked, number)
 }
 
-/// Walks along a record with these values at its root.
+/// Walks along a record of this size and komi.
 pub(crate) fn walk_on<A: Allocator + Copy>(
     game: &mut Game<A>,
     root: &Root,
-    source: &Checked<'_>,
+    checked: &Checked<'_>,
     number: Option<u32>,
 ) -> Result<(), RecordError>
-    ensures ok { (c : Trees) → Spells source.now c → Says c root.now.size root.now.komi
+    ensures ok { (c : Trees) → Spells checked.now c → Says c root.now.size root.now.komi
         → OnOk result (IsGameOf c number (Ok game.new.standing)) }
-    ensures err { (c : Trees) → Spells source.now c → Says c root.now.size root.now.komi
+    ensures err { (c : Trees) → Spells checked.now c → Says c root.now.size root.now.komi
         → IfErr result (λ e. e ≢ Memory → IsGameOf c number (Err e)) }
 {
     let mut walk = Walk {
         komi: root.komi,
         grid: Grid::new(root.size),
-        turn: None,
-        has_begun: false,
+        given_mover: None,
+        has_played: false,
         remaining: remaining_before(number),
     };
-    visit_line(&mut walk, game, source)?;
+    visit_line(&mut walk, game, checked)?;
     walk.finish(game)
 }
 
-/// The events that a walk visits if it ends before the move of this number.
+/// How many moves a walk plays that ends before the move of this number.
 fn remaining_before(number: Option<u32>) -> Remaining
     ensures { result ≡ remaining_by number }
 {
@@ -144,13 +145,13 @@ fn remaining_before(number: Option<u32>) -> Remaining
 fn visit_line<A: Allocator + Copy>(
     walk: &mut Walk,
     game: &mut Game<A>,
-    source: &Checked<'_>,
+    checked: &Checked<'_>,
 ) -> Result<(), RecordError>
-    ensures { (c : Trees) → Spells source.now c → Walked result (walk.old, game.old)
+    ensures { (c : Trees) → Spells checked.now c → Walked result (walk.old, game.old)
         (events_from 0 (main_line c)) (walk.new, game.new) }
 {
     laws::one_record();
-    let mut cursor = MainLine::of(source);
+    let mut cursor = MainLine::of(checked);
     let mut count = 0;
     while cursor.next_node() {
         walk.visit_node(game, &mut cursor, count)?;

@@ -1,6 +1,6 @@
 //! The values of the first node that hold for the whole game: GM, SZ, KM and RE. One pass over the node finds
-//! the four values. Then the game, the size and the komi are checked, in this order.
-ghost use Rattle.std.specs.Prelude.{◌≡◌, ◌==◌, ◌<◌, Err, IfErr, IfOk, IfSome, IsTrue, ℕ, List, [], ◌∷◌, Option, length, position};
+//! the four values. Then GM, SZ and KM are checked, in this order.
+ghost use Rattle.std.specs.Prelude.{◌≡◌, ◌==◌, Err, IfErr, IfOk, IfSome, IsTrue, ℕ, List, [], ◌∷◌, Option, position};
 ghost use Rattle.go_board.specs.Komi.{IsKomi};
 ghost use Rattle.go_record.specs.inner.Progress.{AreFoundOf, IsRootOf, Says, value_from};
 ghost use Rattle.go_record.specs.Games.{IsGameOf, first_node, is_blank_value, is_go_value, is_number_one, komi_in, lines_in, number_by, number_of_both};
@@ -11,7 +11,8 @@ ghost use Rattle.go_sgf.specs.Spelling.{OfRecord};
 use crate::error::RecordError;
 use crate::values::first_value;
 use go_board::Size;
-use go_sgf::{Checked, MainLine, hundredths_of, is_named, number_of};
+use go_sgf::{Checked, MainLine, hundredths_of, is_named, number_of, trim};
+use memchr::memchr;
 
 /// The number of lines of a board whose record has no SZ.
 pub const USUAL_LINES: u8 = 19;
@@ -29,13 +30,13 @@ pub(crate) struct RootValues<'a> {
     pub(crate) result: &'a [u8],
 }
 
-/// The values at the root of a record. It isn't inlined. If it were, `judge_source` would have code to drop a
-/// game that it doesn't own any more.
+/// The values at the root of a record. It isn't inlined into `judge_source`: there the compiler would empty
+/// more of the room for a `Game`.
 #[inline(never)]
-pub(crate) fn root_values<'a>(source: &Checked<'a>) -> RootValues<'a>
-    ensures { OfRecord source.now (IsRootOf result) }
+pub(crate) fn root_values<'a>(checked: &Checked<'a>) -> RootValues<'a>
+    ensures { OfRecord checked.now (IsRootOf result) }
 {
-    let mut cursor = MainLine::of(source);
+    let mut cursor = MainLine::of(checked);
     let mut found = Found::nothing();
     if !cursor.next_node() {
         return found.values();
@@ -163,9 +164,7 @@ fn is_one(number: Option<u32>) -> bool
 fn is_blank(value: &[u8]) -> bool
     ensures { result ≡ is_blank_value value.now }
 {
-    value
-        .iter()
-        .all(|byte| matches!(*byte, b' ' | b'\t'..=b'\r'))
+    trim(value).is_empty()
 }
 
 /// The size in an SZ value: one number, or two that are equal. A blank value gives 19 lines.
@@ -184,20 +183,13 @@ pub(crate) fn size_of(value: &[u8]) -> Option<Size>
 fn lines_number(value: &[u8]) -> Option<u32>
     ensures { result ≡ number_by value.now (position (λ b. b == 58) value.now) }
 {
-    match colon_in(value) {
+    match memchr(b':', value) {
         Some(place) => {
             let (columns, rows) = value.split_at(place);
             same_number(number_of(columns), number_of(rows.split_at(1).1))
         }
         None => number_of(value),
     }
-}
-
-fn colon_in(value: &[u8]) -> Option<usize>
-    ensures value { result ≡ position (λ b. b == 58) value.now }
-    ensures bound { IfSome result (λ place. place < length value.now) }
-{
-    value.iter().position(|byte| *byte == b':')
 }
 
 fn same_number(columns: Option<u32>, rows: Option<u32>) -> Option<u32>

@@ -8,7 +8,8 @@ use go_board::{Colour, Grid};
 #[derive(Clone, Copy)]
 pub(crate) enum Remaining {
     All,
-    /// This number of moves more. Set-up is visited until the next move is met, so with 0 the walk isn't over.
+    /// This number of moves more are played. With 0 the walk still visits set-up. It is over when it meets the
+    /// next move.
     Moves(u32),
     Nothing,
 }
@@ -19,8 +20,10 @@ pub(crate) enum Remaining {
 pub(crate) struct Walk {
     pub(crate) komi: i64,
     pub(crate) grid: Grid,
-    pub(crate) turn: Option<Colour>,
-    pub(crate) has_begun: bool,
+    /// The colour that the last PL named, until a move was played.
+    pub(crate) given_mover: Option<Colour>,
+    /// Whether the walk played a move, so that the game has begun.
+    pub(crate) has_played: bool,
     pub(crate) remaining: Remaining,
     pub ghost in_range: { IsKomi komi },
 }

@@ -143,8 +143,8 @@ impl Walk {
         }
     }
 
-    /// Gives the points of a property's values a colour, or empties them. `visit_line` doesn't call it once
-    /// the walk is over. Its contract allows that, so it tests for it.
+    /// Gives the points of a property's values a colour, or empties them. No caller reaches this function
+    /// after the end of the walk. Its contract allows such a call, so it tests for the end.
     fn set_stones(
         &mut self,
         colour: Option<Colour>,
@@ -162,7 +162,7 @@ impl Walk {
         if self.is_over() {
             return Ok(());
         }
-        if self.has_begun {
+        if self.has_played {
             return Err(RecordError::SetupAfterMove(node));
         }
         match set_points(&mut self.grid, colour, cursor) {
@@ -176,12 +176,12 @@ impl Walk {
         ensures { (game : GameValue) → Walked result (self.old, game) (turn node value.now ∷ [])
             (self.new, game) }
     {
-        if self.is_over() || self.has_begun {
+        if self.is_over() || self.has_played {
             return Ok(());
         }
         match colour_of(value) {
             Some(colour) => {
-                self.turn = Some(colour);
+                self.given_mover = Some(colour);
                 Ok(())
             }
             None => Err(RecordError::BadValue(node)),
@@ -237,11 +237,11 @@ impl Walk {
             → GoesFrom self.old (playing (self.old, game.old))
             (move_met node colour value.now ∷ events) (Err e)) }
     {
-        if self.has_begun {
+        if self.has_played {
             return play_value(game, colour, value, node);
         }
         self.begin(game)?;
-        self.has_begun = true;
+        self.has_played = true;
         play_value(game, colour, value, node)
     }
 
@@ -249,11 +249,11 @@ impl Walk {
     fn begin<A: Allocator + Copy>(&self, game: &mut Game<A>) -> Result<(), RecordError>
         ensures ok { OnOk result (AreAlive self.now.grid.lines self.now.grid.colours
             × (game.new.standing
-            ≡ start_of self.now.grid.lines self.now.komi self.now.grid.colours self.now.turn)) }
+            ≡ start_of self.now.grid.lines self.now.komi self.now.grid.colours self.now.given_mover)) }
         ensures err { IfErr result (λ e. e ≢ Memory
             → IsDeadSetup self.now.grid.lines self.now.grid.colours (Err e)) }
     {
-        match game.begin_from(&self.grid, first_mover(&self.grid, self.turn)) {
+        match game.begin_from(&self.grid, first_mover(&self.grid, self.given_mover)) {
             Ok(()) => {
                 game.set_komi(self.komi);
                 Ok(())
@@ -268,7 +268,7 @@ impl Walk {
         ensures ok { OnOk result (Goes (self.now, game.old) [] (Ok game.new.standing)) }
         ensures err { IfErr result (λ e. e ≢ Memory → Goes (self.now, game.old) [] (Err e)) }
     {
-        if self.has_begun {
+        if self.has_played {
             return Ok(());
         }
         self.begin(game)

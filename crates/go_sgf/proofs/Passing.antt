@@ -268,17 +268,3 @@ nodes_passed b ns rest far e d h =
     far.place d h
     ∙ machine.in_node_is_closed MAX_DEPTH d rest (no_space_after (flat_map node_parts ns) b rest far.spelling) e
     far.letters
-
-no_parenthesis : (b : List ℕ) → is_first 91 b ≡ true → (is_first 40 b ≡ false) × (is_first 41 b ≡ false)
-no_parenthesis [] e = cc
-no_parenthesis (c ∷ cs) e = let is : c ≡ 91 = eqb-true c 91 e in (rw is refl, rw is refl)
-
--- behind the nodes stands a `[`
-pub bracket_stops : (b : List ℕ) (ns : List (List Property)) (rest : List ℕ) → NodesSoFar b ns rest →
-    is_first 59 rest ≡ false → is_first 91 rest ≡ true →
-    (d : ℕ) → IsWithin MAX_DEPTH d → outcome MAX_DEPTH opened d b ≡ Err (here rest)
-bracket_stops b ns rest far e f d h =
-    let others = no_parenthesis rest f in
-    nodes_passed b ns rest far e d h
-    ∙ machine.closed_stops MAX_DEPTH d rest (no_space_after (flat_map node_parts ns) b rest far.spelling) others.0
-    others.1

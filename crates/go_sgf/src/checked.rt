@@ -9,7 +9,7 @@ use std::marker::Model;
 /// [`Collection::checked`](crate::Collection::checked) make one.
 #[derive(Drop)]
 pub struct Checked<'a> {
-    pub(crate) source: &'a [u8],
+    pub(crate) text: &'a [u8],
 }
 
 impl<'a> Model for Checked<'a> {
@@ -19,17 +19,17 @@ impl<'a> Model for Checked<'a> {
 
     ghost Value = { List ℕ };
 
-    ghost view = { λ c. c.source.now };
+    ghost view = { λ c. c.text.now };
 
-    ghost invariant = { λ c. (t : Trees) × Spells c.source.now t };
+    ghost invariant = { λ c. (t : Trees) × Spells c.text.now t };
 }
 
 impl<'a> Checked<'a> {
-    /// The source.
-    pub fn source(&self) -> &'a [u8]
-        ensures source { result.now ≡ self.now }
+    /// The text of the source.
+    pub fn text(&self) -> &'a [u8]
+        ensures text { result.now ≡ self.now }
         ensures spelled { (c : Trees) × Spells self.now c }
     {
-        self.source
+        self.text
     }
 }

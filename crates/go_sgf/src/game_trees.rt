@@ -7,7 +7,7 @@ ghost use Rattle.go_sgf.specs.Spelling.{tree_in};
 
 use crate::error::SgfError;
 use crate::keep::Nothing;
-use crate::reader::{error_of, tree};
+use crate::reader::{error_of, read_tree};
 use crate::scan::from_first_tree;
 
 /// Where a game tree is in a source. A place is a byte's number in the source, from 0.
@@ -55,7 +55,7 @@ pub fn next_tree(source: &[u8], from: usize) -> Result<Option<TreeSpan>, SgfErro
         return Ok(None);
     };
     let (_, inside) = source.split_at(begin + 1);
-    match tree(Nothing, &mut None, inside, 1) {
+    match read_tree(Nothing, &mut None, inside, 1) {
         Ok(after) => Ok(Some(TreeSpan {
             begin,
             end: source.len() - after.len(),

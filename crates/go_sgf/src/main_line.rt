@@ -28,10 +28,10 @@ impl<'a> Model for MainLine<'a> {
 
 impl<'a> MainLine<'a> {
     /// The cursor along the main line of a record, before its first node.
-    pub fn of(source: &Checked<'a>) -> MainLine<'a>
-        ensures { OfRecord source.now (λ c. IsLeft result [] [] (main_line c)) }
+    pub fn of(checked: &Checked<'a>) -> MainLine<'a>
+        ensures { OfRecord checked.now (λ c. IsLeft result [] [] (main_line c)) }
     {
-        match strip(from_first_tree(source.source()), b'(') {
+        match strip(from_first_tree(checked.text()), b'(') {
             Some(rest) => MainLine { rest },
             None => MainLine { rest: &[] },
         }

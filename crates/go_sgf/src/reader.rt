@@ -46,7 +46,7 @@ fn add<T: Drop, K: Keep>(keep: K, list: &mut Few<T, K::Alloc>, item: T) -> Resul
 }
 
 /// Reads the values after a name into a list, at least one, and returns the text after them.
-fn values<'a, K: Keep>(
+fn read_values<'a, K: Keep>(
     keep: K,
     list: &mut Few<&'a [u8], K::Alloc>,
     bytes: &'a [u8],
@@ -74,7 +74,7 @@ fn values<'a, K: Keep>(
 }
 
 /// Reads a property, which begins with its name. Adds it to a list, and returns the text after it.
-fn property<'a, K: Keep>(
+fn read_property<'a, K: Keep>(
     keep: K,
     list: &mut Option<Few<nodes::Property<'a, K::Alloc>, K::Alloc>>,
     bytes: &'a [u8],
@@ -92,7 +92,7 @@ fn property<'a, K: Keep>(
         return Err(unexpected(after));
     }
     let mut own = Few::new();
-    let rest = values(keep, &mut own, after)?;
+    let rest = read_values(keep, &mut own, after)?;
     add_property(keep, list, name, own)?;
     Ok(rest)
 }
@@ -117,7 +117,7 @@ fn add_property<'a, K: Keep>(
 }
 
 /// Reads a node, after its `;`, into a list, and returns the text after it.
-fn node<'a, K: Keep>(
+fn read_node<'a, K: Keep>(
     keep: K,
     list: &mut Few<Node<'a, K::Alloc>, K::Alloc>,
     bytes: &'a [u8],
@@ -132,7 +132,7 @@ fn node<'a, K: Keep>(
     let mut properties = no_properties(keep);
     let mut rest = after_space(bytes);
     while begins_letter(rest) {
-        rest = property(keep, &mut properties, rest)?;
+        rest = read_property(keep, &mut properties, rest)?;
     }
     add_node(keep, list, properties)?;
     Ok(rest)
@@ -167,7 +167,7 @@ fn add_node<'a, K: Keep>(
 }
 
 /// Reads the nodes of a tree, after its `(`, into a list, at least one, and returns the text after them.
-fn nodes<'a, K: Keep>(
+fn read_nodes<'a, K: Keep>(
     keep: K,
     list: &mut Few<Node<'a, K::Alloc>, K::Alloc>,
     bytes: &'a [u8],
@@ -183,11 +183,7 @@ fn nodes<'a, K: Keep>(
         return Err(unexpected(rest));
     }
     while let Some(inside) = strip(rest, b';') {
-        rest = node(keep, list, inside)?;
-    }
-    // `tree` would refuse a `[` here too. This function does, since its contract says that none comes next.
-    if begins_with(rest, b'[') {
-        return Err(unexpected(rest));
+        rest = read_node(keep, list, inside)?;
     }
     Ok(rest)
 }
@@ -203,7 +199,7 @@ fn no_trees<'a, K: Keep>(keep: K) -> Option<Vec<Tree<'a, K::Alloc>, K::Alloc>>
     }
 }
 
-/// Adds the tree of these nodes and children to a list of trees, if there is one.
+/// If there is a list of trees, adds the tree of these nodes and children to it.
 fn add_tree<'a, A: Allocator + Copy>(
     trees: &mut Option<Vec<Tree<'a, A>, A>>,
     nodes: Few<Node<'a, A>, A>,
@@ -235,9 +231,9 @@ fn push<T: Drop, A: Allocator + Copy>(list: &mut Vec<T, A>, item: T) -> Result<(
     Ok(())
 }
 
-/// Reads a tree at this depth, after its `(`, into a list of trees if there is one, and returns the text
-/// after its `)`.
-pub(crate) fn tree<'a, K: Keep>(
+/// Reads a tree at this depth, from after its `(`. If `trees` is a list, adds the tree to it. Returns the
+/// text after the tree's `)`.
+pub(crate) fn read_tree<'a, K: Keep>(
     keep: K,
     trees: &mut Option<Vec<Tree<'a, K::Alloc>, K::Alloc>>,
     bytes: &'a [u8],
@@ -254,13 +250,13 @@ pub(crate) fn tree<'a, K: Keep>(
     ensures memory { IsErrOf result ReadError.Memory → K.keeps }
 {
     let mut own = Few::new();
-    let mut rest = nodes(keep, &mut own, bytes)?;
+    let mut rest = read_nodes(keep, &mut own, bytes)?;
     let mut children = no_trees(keep);
     while let Some(inside) = strip(rest, b'(') {
         if depth == MAX_DEPTH {
             return Err(ReadError::Deep(rest.len()));
         }
-        let after = tree(keep, &mut children, inside, depth + 1)?;
+        let after = read_tree(keep, &mut children, inside, depth + 1)?;
         rest = after_space(after);
     }
     let Some(after) = strip(rest, b')') else {
@@ -284,7 +280,7 @@ pub(crate) fn error_of(stop: ReadError, length: usize) -> SgfError
 }
 
 /// The trees of a source, one after another.
-fn trees<'a, K: Keep>(
+fn read_trees<'a, K: Keep>(
     keep: K,
     source: &'a [u8],
 ) -> Result<Option<Vec<Tree<'a, K::Alloc>, K::Alloc>>, SgfError>
@@ -304,7 +300,7 @@ fn trees<'a, K: Keep>(
     }
     let mut trees = no_trees(keep);
     while let Some(inside) = inside_tree(rest) {
-        rest = match tree(keep, &mut trees, inside, 1) {
+        rest = match read_tree(keep, &mut trees, inside, 1) {
             Ok(after) => after_space(after),
             Err(stop) => return Err(error_of(stop, source.len())),
         };
@@ -330,7 +326,7 @@ pub fn read<'a, A: Allocator + Copy>(
     ensures read { IfOk result (λ collection. Spells source.now collection) }
     ensures refused { IfErr result (IsRefusal source.now) }
 {
-    let trees = trees(Lists { alloc }, source)?.unwrap();
+    let trees = read_trees(Lists { alloc }, source)?.unwrap();
     Ok(Collection { source, trees })
 }
 
@@ -342,6 +338,6 @@ pub fn check(source: &[u8]) -> Result<Checked<'_>, SgfError>
     ensures refused { IfErr result (IsRefusal source.now) }
     ensures no_memory { IsErrOf result SgfError.Memory → ⊥ }
 {
-    trees(Nothing, source)?;
-    Ok(Checked { source })
+    read_trees(Nothing, source)?;
+    Ok(Checked { text: source })
 }

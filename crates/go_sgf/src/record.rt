@@ -50,9 +50,7 @@ impl<'a, A: Allocator + Copy> Collection<'a, A> {
     pub fn checked(&self) -> Checked<'a>
         ensures { Spells result self.now }
     {
-        Checked {
-            source: self.source,
-        }
+        Checked { text: self.source }
     }
 
     /// The trees, in the source's order. There is at least one.

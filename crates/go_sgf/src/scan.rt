@@ -1,6 +1,6 @@
 //! What a text begins with: white space, letters, a name, a tree. The searches for `]` and `\` are here too.
-//! They test 16 bytes at once, where there are so many. `first_stop` tests four times, and then `memchr2`
-//! searches.
+//! A search tests 16 bytes at once. It tests a rest of fewer bytes one by one. `first_stop` makes at most four
+//! tests. Then `memchr2` searches the rest.
 ghost use Rattle.std.specs.Prelude.{◌≡◌, ◌≢◌, ◌≤◌, ◌*◌, ◌∷◌, ◌++◌, ◌||◌, ◌==◌, ℕ, IfNone, IfSome, Some, false, length, map, min, take, true};
 ghost use Rattle.std.specs.List.{list_all, list_any};
 ghost use Rattle.std.specs.Simd.Lanes.{mask_l};
@@ -140,6 +140,7 @@ fn letters(bytes: &[u8]) -> (&[u8], &[u8])
 }
 
 /// The letters that come first, the bytes after them, and whether one of the letters is an upper-case one.
+/// Without an upper-case letter they are no name.
 #[inline]
 pub(crate) fn name_at(bytes: &[u8]) -> (&[u8], &[u8], bool)
     ensures whole { bytes.now ≡ result.0.now ++ result.1.now }
@@ -206,7 +207,7 @@ fn is_stop(byte: u8) -> bool
 /// The number of bytes that one test looks at.
 const LANES: usize = 16;
 
-/// After this number of tests `memchr2` searches on. Its start costs time.
+/// The number of tests before `memchr2`, which takes time to start.
 const BLOCKS: usize = 4;
 
 /// Which of the bytes are `]` or `\`, as bits.
@@ -251,7 +252,7 @@ fn stop_from(bytes: &[u8], from: usize) -> Option<usize>
     None
 }
 
-/// The place of the first `]`, where it is near and no `\` comes first.
+/// The place of the first `]` within the first 16 bytes, if no `\` comes first.
 #[inline]
 pub(crate) fn near_bracket(bytes: &[u8]) -> Option<usize>
     ensures bracket { IfSome result (λ place. IsBracketAt bytes.now place) }
@@ -279,7 +280,7 @@ fn first_stop(bytes: &[u8]) -> Option<usize>
 }
 
 /// The bytes before the first `]` or `\`, that byte, and the bytes after it.
-pub(crate) fn ordinary(bytes: &[u8]) -> Option<(&[u8], u8, &[u8])>
+pub(crate) fn split_at_stop(bytes: &[u8]) -> Option<(&[u8], u8, &[u8])>
     ensures whole { IfSome result (λ r. bytes.now ≡ r.0.now ++ (r.1 ∷ r.2.now)) }
     ensures prefix { IfSome result (λ r. list_all is_ordinary r.0.now ≡ true) }
     ensures stopped { IfSome result (λ r. is_ordinary r.1 ≡ false) }

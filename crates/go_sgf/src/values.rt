@@ -9,7 +9,7 @@ ghost use Rattle.go_sgf.specs.inner.Tidied.{NeverEnds};
 ghost use Rattle.go_sgf.specs.Record.{IsValue};
 ghost use Rattle.go_sgf.specs.Stands.{in_value};
 
-use crate::scan::{near_bracket, ordinary};
+use crate::scan::{near_bracket, split_at_stop};
 
 /// The value and the text after its `]`, where `bytes` begins just after the value's `[`. None where the value
 /// has no end.
@@ -55,7 +55,7 @@ fn far_end(bytes: &[u8]) -> Option<usize>
     ensures no_end { IfNone result (HasNoEnd bytes.now) }
 {
     let mut read = 0;
-    while let Some((prefix, byte, more)) = ordinary(bytes.split_at(read).1) {
+    while let Some((prefix, byte, more)) = split_at_stop(bytes.split_at(read).1) {
         let place = read + prefix.len();
         if byte == b']' {
             return Some(place);

@@ -1,5 +1,5 @@
-//! The bytes at the beginning of a tree's text that the canonical spelling keeps as they are. `writer.rt`
-//! writes it in one piece.
+//! Finds the longest prefix of a tree's text that the canonical spelling keeps as it is. `writer.rt` writes
+//! that prefix in one piece.
 ghost use Rattle.std.specs.Prelude.{◌≡◌, ◌≢◌, ◌≤◌, ◌<◌, ◌+◌, ◌^◌, ◌++◌, ℕ, [], IfNone, IfSome, false, length};
 ghost use Rattle.go_sgf.specs.Spelling.{is_first};
 ghost use Rattle.go_sgf.specs.inner.Tidied.{Outside, StaysTo, rest_from, is_left_out_first, open_after, tidied_from};
@@ -25,7 +25,7 @@ pub(crate) fn verbatim(text: &[u8], depth: usize) -> Option<(&[u8], &[u8], usize
     if depth == 0 {
         return None;
     }
-    let mut rest = after_kept(text);
+    let mut rest = after_verbatim(text);
     let mut open = depth;
     while let Some((more, still_open)) = after_next(rest, open) {
         rest = more;
@@ -63,7 +63,7 @@ fn after_next(text: &[u8], depth: usize) -> Option<(&[u8], usize)>
     if open == 0 {
         return Some((more, open));
     }
-    Some((after_kept(more), open))
+    Some((after_verbatim(more), open))
 }
 
 /// The number of trees that are open after a byte outside of values.
@@ -84,7 +84,7 @@ fn depth_after(byte: u8, depth: usize) -> usize
 /// are, and a record has little else. It uses an index, which is faster than a slice for each byte. It isn't
 /// inlined, so text and index stay in registers.
 #[inline(never)]
-fn after_kept(text: &[u8]) -> &[u8]
+fn after_verbatim(text: &[u8]) -> &[u8]
     ensures stays { (d : ℕ) → d ≢ 0 → StaysTo Outside d text.now d result.now }
     ensures stopped { is_first 91 result.now ≡ false }
     ensures shorter { length result.now ≤ length text.now }

@@ -15,7 +15,7 @@ use go_board::{Pen, Sink, WriteFault};
 use std::alloc::Allocator;
 
 /// Writes a record in its canonical spelling. It leaves out white space and lower-case letters outside of
-/// values, and writes LF after each tree. On a fault the device took a prefix of that text.
+/// values, and writes LF after each outermost tree. On a fault the device took a prefix of that text.
 pub fn write<A: Allocator + Copy, W: Sink>(
     collection: &Collection<'_, A>,
     writer: &mut W,
@@ -29,15 +29,15 @@ pub fn write<A: Allocator + Copy, W: Sink>(
 }
 
 /// Writes the canonical spelling of the record that a source spells. It leaves out white space and lower-case
-/// letters outside of values, and writes LF after each tree. On a fault the device took a prefix of that
-/// text. It takes no memory.
-pub fn tidy<W: Sink>(source: &Checked<'_>, writer: &mut W) -> Result<(), WriteFault>
-    ensures sent { OfRecord source.now (λ c.
+/// letters outside of values, and writes LF after each outermost tree. On a fault the device took a prefix of
+/// that text. It takes no memory.
+pub fn tidy<W: Sink>(checked: &Checked<'_>, writer: &mut W) -> Result<(), WriteFault>
+    ensures sent { OfRecord checked.now (λ c.
         Sent result (W.taken writer.old) (W.taken writer.new) (canonical c)) }
     ensures failures { W.failures writer.new ≡ failures_after result (W.failures writer.old) }
 {
     let mut pen = Pen::new(writer);
-    put_trees(source.source(), &mut pen);
+    put_trees(checked.text(), &mut pen);
     pen.finish()
 }
 

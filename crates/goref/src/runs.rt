@@ -1,5 +1,5 @@
-//! Runs over the lines of a device or of a text. For each line, a run fetches the file that the line asks
-//! for, writes the answer and flushes it.
+//! A run answers the lines of a device or of a text. For each line it fetches the file that the line asks for,
+//! writes the answer and flushes it.
 ghost use Rattle.std.specs.Prelude.{◌≡◌, ℕ, List, [], ◌∷◌, ◌++◌, Ok, Option, OnOk, false};
 ghost use Rattle.go_board.specs.Device.{failures_after};
 ghost use Rattle.go_game.specs.Standings.{Standing};
@@ -26,10 +26,9 @@ use std::alloc::Allocator;
 /// The most reads that [`run`] makes.
 pub const READS: u64 = 1 << 40;
 
-/// Reads lines and answers each before the next read, up to `quit` or to the end of the input. A last line
-/// without a line end is answered too. It makes at most [`READS`] reads. If all of them gave bytes, it
-/// returns `Endless`. It flushes each answer before the next read. The contract of [`run_within`] says so,
-/// since it holds for any limit.
+/// Reads lines, and answers and flushes each before the next read, up to `quit` or to the end of the input. A
+/// last line without a line end is answered too. It makes at most [`READS`] reads. If all of them gave bytes,
+/// and no line was `quit`, it returns `Endless`. [`run_within`] promises the same for any limit.
 pub fn run<A: Allocator + Copy, R: Source, W: Sink, S: Shelf<A>>(
     alloc: A,
     size: Size,
@@ -61,9 +60,9 @@ pub fn run_within<A: Allocator + Copy, R: Source, W: Sink, S: Shelf<A>>(
     run_from(limit, &mut session, reader, writer, shelf)
 }
 
-/// Answers the lines of a text over a session, up to `quit`. A last line without a line end is answered too,
-/// so a text that is sent in pieces is cut at line ends. On a fault the session is as after the command whose
-/// answer isn't whole, and goes on with the next text.
+/// Answers the lines of a text over a session, up to `quit`. A last line without a line end is answered too.
+/// So a caller that sends a text in pieces must cut it at line ends. After a fault the session has
+/// carried out the command whose answer isn't whole. The caller may use it for the next text.
 pub fn answer_lines<A: Allocator + Copy, W: Sink, S: Shelf<A>>(
     session: &mut Session<A>,
     text: &[u8],
@@ -169,7 +168,7 @@ fn end_line<A: Allocator + Copy, W: Sink, S: Shelf<A>>(
     ensures failures { W.failures writer.new ≡ failures_after result (W.failures writer.old) }
 {
     line.extend(part);
-    let result = respond(session, line, writer, shelf);
+    let result = answer_line(session, line, writer, shelf);
     line.clear();
     result
 }
@@ -190,11 +189,11 @@ fn end_input<A: Allocator + Copy, W: Sink, S: Shelf<A>>(
     ensures held { OnOk result (W.held writer.old ≡ 0 → W.held writer.new ≡ 0) }
     ensures failures { W.failures writer.new ≡ failures_after result (W.failures writer.old) }
 {
-    respond(session, line, writer, shelf)
+    answer_line(session, line, writer, shelf)
 }
 
-/// Fetches the file that a line asks for, answers the line, and flushes the response.
-fn respond<A: Allocator + Copy, W: Sink, S: Shelf<A>>(
+/// Fetches the file that a line asks for, answers the line, and flushes the answer.
+fn answer_line<A: Allocator + Copy, W: Sink, S: Shelf<A>>(
     session: &mut Session<A>,
     line: &Line,
     writer: &mut W,
@@ -208,7 +207,7 @@ fn respond<A: Allocator + Copy, W: Sink, S: Shelf<A>>(
 {
     let fetched = fetch_for(line, shelf);
     match session.answer(line, fetched, writer) {
-        Ok(flow) => flush_response(line, flow, writer),
+        Ok(flow) => flush_answer(line, flow, writer),
         Err(WriteFault) => Err(WriteFault),
     }
 }
@@ -222,8 +221,8 @@ fn fetch_for<A: Allocator + Copy, S: Shelf<A>>(line: &Line, shelf: &mut S) -> Fe
     }
 }
 
-/// Flushes the response to a line, where it has one.
-fn flush_response<W: Sink>(line: &Line, flow: Flow, writer: &mut W) -> Result<Flow, WriteFault>
+/// Flushes the answer to a line, where it has one.
+fn flush_answer<W: Sink>(line: &Line, flow: Flow, writer: &mut W) -> Result<Flow, WriteFault>
     ensures { Flushes W.Sink line.now.text flow result writer.old writer.new }
 {
     if !line.has_words() {

@@ -21,7 +21,7 @@ pub fn do_task<A: Allocator + Copy, R: Read + Drop, W: Write + Drop, S: Shelf<A>
 ) -> Result<(), Fault>
     ensures { IfErr result (IsFaultOf task) }
 {
-    perform(
+    do_on_devices(
         alloc,
         task,
         &mut Input::new(input),
@@ -31,7 +31,7 @@ pub fn do_task<A: Allocator + Copy, R: Read + Drop, W: Write + Drop, S: Shelf<A>
 }
 
 /// Does a task on devices.
-fn perform<A: Allocator + Copy, R: Source, W: Sink, S: Shelf<A>>(
+fn do_on_devices<A: Allocator + Copy, R: Source, W: Sink, S: Shelf<A>>(
     alloc: A,
     task: Task,
     input: &mut R,

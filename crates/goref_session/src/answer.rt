@@ -13,8 +13,8 @@ use go_game::Game;
 use itoa::Buffer;
 use std::alloc::Allocator;
 
-/// Writes the answer to a decision, with this id and facts of the game. On a fault the device has a prefix of
-/// the answer.
+/// Writes the answer that states this decision, with this id. It reads facts from the game. On a fault the
+/// device has a prefix of the answer.
 pub fn write_answer<A: Allocator + Copy, W: Sink>(
     game: &Game<A>,
     id: Option<u32>,

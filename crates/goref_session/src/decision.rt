@@ -2,7 +2,7 @@ use crate::command::Topic;
 use go_board::Vertex;
 use goref_results::Plays;
 
-/// What is decided on a command. Its text is written afterwards.
+/// What is decided on a command, while it is carried out. Its text is written afterwards.
 #[derive(Drop)]
 pub enum Decision {
     /// Done. The answer has no text.

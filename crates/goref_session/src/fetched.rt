@@ -13,7 +13,7 @@ pub enum Fetched<A: Allocator> {
     None,
     /// What the file holds.
     Bytes(Vec<u8, A>),
-    /// There is no such file, or it cannot be read.
+    /// There is no such file, it is no regular file, or it can't be read.
     Missing,
     /// The file has more bytes than a record may have.
     TooLarge,
@@ -43,8 +43,8 @@ pub fn wants(line: &Line) -> Option<&[u8]>
 }
 
 /// Whether a text may ask for `loadsgf`. Only an id can come before the name `loadsgf`. Digits and spaces
-/// aren't above `9`. So the first byte above `9` is the name's `l`. This test settles most lines before they
-/// are cut into words.
+/// aren't above `9`. So in a `loadsgf` line the first byte above `9` is `l`. This test settles most lines
+/// before they are cut into words.
 fn may_ask_to_load(text: &[u8]) -> bool
     ensures { result ≡ may_load text.now }
 {

@@ -1,6 +1,5 @@
-//! A session begins with one game. The first load adds a second one. Lines act on one of the two, the game
-//! that is played. It finds the function that decides on each command, and decides on `loadsgf` itself,
-//! because a load needs both games.
+//! A session has one current game, and lines act on it. The first load adds a second game. This file finds
+//! the function for each command. It carries `loadsgf` out itself, because a load needs both games.
 ghost use Rattle.std.specs.Prelude.{◌≡◌, IfNone, IfSome, Ok, OnErr, Some, false};
 ghost use Rattle.std.specs.Option.{option_and_then};
 ghost use Rattle.go_board.specs.Device.{failures_after};
@@ -20,7 +19,7 @@ ghost use Rattle.goref_lines.specs.Words.{has_bytes};
 
 use crate::answer::write_answer;
 use crate::command::{Command, command_asked};
-use crate::commands::record::{FetchedFile, bytes_to_load};
+use crate::commands::record::{BytesToLoad, bytes_to_load};
 use crate::commands::{handicap, play, setup, telling, time};
 use crate::decision::{Decision, Fact, Refusal};
 use crate::fetched::Fetched;
@@ -32,7 +31,7 @@ use goref_lines::{Line, Request, id_of_cut};
 use std::alloc::Allocator;
 use std::marker::Model;
 
-/// One or two games, of which lines play one.
+/// One or two games, of which one is current.
 #[derive(Drop)]
 pub struct Session<A: Allocator + Copy> {
     /// The game that a session begins with.
@@ -44,11 +43,11 @@ pub struct Session<A: Allocator + Copy> {
 
 impl<A: Allocator + Copy> Model for Session<A> {
     ghost use Rattle.go_game.specs.Standings.{Standing};
-    ghost use Rattle.goref_session.specs.inner.Played.{played_of};
+    ghost use Rattle.goref_session.specs.inner.Current.{current_of};
 
     ghost Value = { Standing };
 
-    ghost view = { λ s. played_of s.first.standing s.second };
+    ghost view = { λ s. current_of s.first.standing s.second };
 }
 
 impl<A: Allocator + Copy> Session<A> {
@@ -63,12 +62,12 @@ impl<A: Allocator + Copy> Session<A> {
         }
     }
 
-    /// The game that is played. What its methods return depends only on the session's standing.
+    /// The current game. What its methods return depends only on the session's standing.
     pub fn game(&self) -> &Game<A>
         ensures { result.now.standing ≡ self.now }
     {
         match &self.second {
-            Some(second) if second.is_played => &second.game,
+            Some(second) if second.is_current => &second.game,
             _ => &self.first,
         }
     }
@@ -99,15 +98,14 @@ impl<A: Allocator + Copy> Session<A> {
         match self.answer_command(&request, writer) {
             Some(told) => told,
             None => {
-                let decision = self.decide_load(&request, &fetched);
+                let decision = self.loadsgf(&request, &fetched);
                 drop(fetched);
                 write_decision(self.game(), request.id(), &decision, writer)
             }
         }
     }
 
-    /// Answers a command. For `loadsgf` it does nothing and returns `None`: `decide_load` handles that
-    /// command.
+    /// Answers a command. For `loadsgf` it does nothing and returns `None`.
     fn answer_command<W: Sink>(
         &mut self,
         request: &Request,
@@ -123,15 +121,20 @@ impl<A: Allocator + Copy> Session<A> {
     {
         let alloc = self.alloc;
         match &mut self.second {
-            Some(second) if second.is_played => answer_on(&mut second.game, alloc, request, writer),
+            Some(second) if second.is_current => answer_on(
+                &mut second.game,
+                alloc,
+                request,
+                writer,
+            ),
             _ => answer_on(&mut self.first, alloc, request, writer),
         }
     }
 
-    /// Decides on `loadsgf`, which needs both games. It isn't inlined: the second game makes its frame large,
-    /// and every line would pay for that.
+    /// `loadsgf`: loads a record, which needs both games. It isn't inlined: the second game makes its frame
+    /// large, and every line would pay for that.
     #[inline(never)]
-    fn decide_load(&mut self, request: &Request, fetched: &Fetched<A>) -> Decision
+    fn loadsgf(&mut self, request: &Request, fetched: &Fetched<A>) -> Decision
         ensures { DecidesLoad self.old (load_of request.now.arguments) (content_of fetched.now)
             (record { decision = result; standing = self.new }) }
     {
@@ -145,9 +148,8 @@ impl<A: Allocator + Copy> Session<A> {
         }
     }
 
-    /// Loads a record. From then on the session plays the record's game. A refusal leaves the session as it
-    /// was.
-    fn load(&mut self, to_load: &FetchedFile) -> Result<(), Refusal>
+    /// Loads a record. Then its game is current. A refusal leaves the session as it was.
+    fn load(&mut self, to_load: &BytesToLoad) -> Result<(), Refusal>
         ensures decides { DecidesBytes self.old to_load.now.bytes.now to_load.now.number
             (after_load self.old self.new result) }
         ensures stays { OnErr result (self.new ≡ self.old) }
@@ -166,8 +168,8 @@ impl<A: Allocator + Copy> Session<A> {
     }
 }
 
-/// Answers a command over the game that is played. Returns `None` for `loadsgf`. It writes
-/// the answer itself: a `Decision` is large, and to return it to `answer` would move it once more.
+/// Answers a command over the current game. Returns `None` for `loadsgf`. It writes the answer itself: a
+/// `Decision` is large, and to return it to `answer` would move it once more.
 fn answer_on<A: Allocator + Copy, W: Sink>(
     game: &mut Game<A>,
     alloc: A,
@@ -182,7 +184,7 @@ fn answer_on<A: Allocator + Copy, W: Sink>(
         ((option_and_then command_of request.now.name ≡ Some Command.Loadsgf)
         × (game.new.standing ≡ game.old.standing) × (writer.new ≡ writer.old)) }
 {
-    let decided = decide_on(game, alloc, request);
+    let decided = carry_out(game, alloc, request);
     match &decided {
         Some(decision) => Some(write_decision(game, request.id(), decision, writer)),
         None => None,
@@ -207,9 +209,9 @@ fn write_decision<A: Allocator + Copy, W: Sink>(
     }
 }
 
-/// Carries a command out on the game that is played, and returns what is to be answered. Returns `None` for
-/// `loadsgf`, which needs both games and has a function of its own.
-fn decide_on<A: Allocator + Copy>(
+/// Carries a command out on the current game, and returns what is to be answered. Returns `None` for
+/// `loadsgf`, which needs both games.
+fn carry_out<A: Allocator + Copy>(
     game: &mut Game<A>,
     alloc: A,
     request: &Request,
@@ -224,23 +226,23 @@ fn decide_on<A: Allocator + Copy>(
     let decision = match command_asked(request) {
         None => Decision::Refused(Refusal::UnknownCommand),
         Some(Command::Asks(topic)) => Decision::Tells(Fact::About(topic)),
-        Some(Command::KnownCommand) => telling::decide_known(request),
+        Some(Command::KnownCommand) => telling::known_command(request),
         Some(Command::Quit) => Decision::Ends,
-        Some(Command::Boardsize) => setup::decide_size(game, request),
-        Some(Command::ClearBoard) => setup::decide_clear(game),
-        Some(Command::Komi) => setup::decide_komi(game, request),
-        Some(Command::Play) => play::decide_play(game, request),
-        Some(Command::Genmove) => play::decide_genmove(game, request),
-        Some(Command::Undo) => play::decide_undo(game),
-        Some(Command::RegGenmove) => play::decide_reg_genmove(game, request),
+        Some(Command::Boardsize) => setup::boardsize(game, request),
+        Some(Command::ClearBoard) => setup::clear_board(game),
+        Some(Command::Komi) => setup::komi(game, request),
+        Some(Command::Play) => play::play(game, request),
+        Some(Command::Genmove) => play::genmove(game, request),
+        Some(Command::Undo) => play::undo(game),
+        Some(Command::RegGenmove) => play::reg_genmove(game, request),
         Some(Command::Loadsgf) => return None,
-        Some(Command::FixedHandicap) => handicap::decide_fixed(game, alloc, request),
-        Some(Command::PlaceFreeHandicap) => handicap::decide_place_free(game, alloc, request),
-        Some(Command::SetFreeHandicap) => handicap::decide_set_free(game, alloc, request),
-        Some(Command::TimeSettings) => time::decide_time_settings(request),
-        Some(Command::TimeLeft) => time::decide_time_left(request),
-        Some(Command::Legal) => play::decide_legal(game, request),
-        Some(Command::Superko) => setup::decide_superko(game, request),
+        Some(Command::FixedHandicap) => handicap::fixed_handicap(game, alloc, request),
+        Some(Command::PlaceFreeHandicap) => handicap::place_free_handicap(game, alloc, request),
+        Some(Command::SetFreeHandicap) => handicap::set_free_handicap(game, alloc, request),
+        Some(Command::TimeSettings) => time::time_settings(request),
+        Some(Command::TimeLeft) => time::time_left(request),
+        Some(Command::Legal) => play::legal(game, request),
+        Some(Command::Superko) => setup::superko(game, request),
     };
     Some(decision)
 }

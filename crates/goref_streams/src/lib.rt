@@ -1,5 +1,6 @@
-//! Streams, such as standard input and output, as devices. For contracts a device counts its failures, and an
-//! input its reads and ends. An output holds bytes back until it is flushed, or is full and gets more.
+//! Streams, such as standard input and output, as devices. For contracts each device counts its failures. An
+//! input also counts its reads, and how often a read found the end. An output holds bytes back until it is
+//! flushed, or is full and gets more.
 #![tactic(auto)]
 
 ghost use Rattle.std.specs.Prelude.{◌≡◌, ◌≤◌, ◌<◌, ◌+◌, IfOk, None, OnOk, [], length, min};

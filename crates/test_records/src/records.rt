@@ -45,7 +45,7 @@ fn tidies(alloc: Global, source: &[u8], most: usize, text: &[u8]) -> bool {
         return false;
     };
     let mut writer = Writer::new(alloc).in_pieces_of(most);
-    checked.source() == source && tidy(&checked, &mut writer) == Ok(()) && writer.bytes() == text
+    checked.text() == source && tidy(&checked, &mut writer) == Ok(()) && writer.bytes() == text
 }
 
 /// Whether a source is written as this text, from its trees and from its bytes alone, however the

@@ -1,4 +1,5 @@
-//! The colours of a board in two bits a point.
+//! The colours of a board in two bits a point. `Open` is the kind of meter that any code may make. A play is
+//! generic over the kind, so it can't call these.
 ghost use Rattle.std.specs.Prelude.{◌≡◌, ◌<◌, ◌≤◌, ◌+◌, ◌*◌, ◌/◌, Some, slice_set};
 ghost use Rattle.go_board.specs.Colours.{colour_at};
 ghost use Rattle.go_board.specs.PackBytes.{bytes_of};
@@ -21,29 +22,30 @@ impl Board<Open> {
         packed
     }
 
-    /// Writes the colours in two bits a point over a pack, as [`Board::pack`] gives them. Each play writes its
-    /// key's pack so, and spares the copy that `pack` would need.
+    /// Writes the colours in two bits a point over a pack, as [`Board::pack`] gives them. A play calls this on
+    /// its key's pack. `pack` would cost one more copy.
     pub fn write_pack(&self, packed: &mut Packed)
         ensures { bytes_of packed.new ≡ packed_of (grid_of self.now) }
     {
         laws::bytes_make_a_pack();
         let full = usize::from(self.size().points()) / 4;
-        *packed = *self.largest_pack();
+        *packed = *self.pack_of_cells();
         packed.set(full, self.last_byte());
         for place in full + 1..PACK_BYTES {
             packed.set(place, 0);
         }
     }
 
-    /// The pack of all colour cells, by number. Its full bytes are right for this board. Those after them may
-    /// still have stones of an earlier, larger board.
-    fn largest_pack(&self) -> &Packed
+    /// The pack of all colour cells: cell n is point n of the present board. A byte has four points. The bytes
+    /// whose four points are all on this board are right. Later bytes may still hold stones of an earlier,
+    /// larger board.
+    fn pack_of_cells(&self) -> &Packed
         ensures { bytes_of result.now ≡ packed_of (colouring_of MAX_LINES self.now.cells) }
     {
         self.cells.pack()
     }
 
-    /// The last byte: the one to three points after the last full byte, or 0 if there are none.
+    /// The byte after the last full one: that of the last point on boards of odd size, else 0.
     fn last_byte(&self) -> u8
         ensures { result ≡ byte_of (grid_of self.now) (self.now.lines * self.now.lines / 4) }
     {

@@ -1,4 +1,5 @@
-//! Plays a stone, takes plays back, and tells which stones would take nothing.
+//! Plays a stone, takes plays back, and tells which stones would take nothing. `K` is the kind of the meter.
+//! Code that is generic over `K` can't make a meter, so it counts with its caller's.
 ghost use Rattle.std.specs.Prelude.{◌≡◌, ◌<◌, ◌≤◌, ◌+◌, ◌↔◌, IfOk, IsErrOf, IsTrue, OnOk, Some, length, slice_set};
 ghost use Rattle.go_board.specs.Chains.{liberties};
 ghost use Rattle.go_board.specs.Colours.{other};

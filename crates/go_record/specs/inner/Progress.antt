@@ -38,7 +38,7 @@ From n komi g given (Some game) events outcome = Plays game.standing events outc
 
 -- from this game on, all of these events have the outcome
 abbrev pub GoesFrom : Walk → Option GameValue → List Event → Outcome → Type 0
-GoesFrom w game events outcome = From w.grid.lines w.komi w.grid.colours w.turn game events outcome
+GoesFrom w game events outcome = From w.grid.lines w.komi w.grid.colours w.given_mover game events outcome
 
 -- a walk, and the game that its moves are played on
 abbrev pub WalkedGame : Type 0
@@ -46,7 +46,7 @@ WalkedGame = Walk × GameValue
 
 -- the game, once a move was met
 abbrev pub playing : WalkedGame → Option GameValue
-playing at = if at.0.has_begun then Some at.1 else None
+playing at = if at.0.has_played then Some at.1 else None
 
 -- from here on these events have the outcome
 abbrev pub Goes : WalkedGame → List Event → Outcome → Type 0

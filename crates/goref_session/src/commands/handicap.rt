@@ -15,7 +15,7 @@ use goref_lines::{ListError, Request, read_stones};
 use std::alloc::Allocator;
 
 /// `fixed_handicap`: begins anew with this number of stones on their places, and answers the places.
-pub fn decide_fixed<A: Allocator + Copy>(
+pub fn fixed_handicap<A: Allocator + Copy>(
     game: &mut Game<A>,
     alloc: A,
     request: &Request,
@@ -26,12 +26,12 @@ pub fn decide_fixed<A: Allocator + Copy>(
 {
     match int_argument(request, 0) {
         None => Decision::Refused(Refusal::SyntaxError),
-        Some(number) => decide_handicap(game, alloc, number),
+        Some(number) => place_handicap(game, alloc, number),
     }
 }
 
 /// `place_free_handicap`: the same, with at most as many stones as have places.
-pub fn decide_place_free<A: Allocator + Copy>(
+pub fn place_free_handicap<A: Allocator + Copy>(
     game: &mut Game<A>,
     alloc: A,
     request: &Request,
@@ -43,12 +43,12 @@ pub fn decide_place_free<A: Allocator + Copy>(
     let greatest = greatest_handicap(game.size());
     match int_argument(request, 0) {
         None => Decision::Refused(Refusal::SyntaxError),
-        Some(number) => decide_handicap(game, alloc, number.min(greatest)),
+        Some(number) => place_handicap(game, alloc, number.min(greatest)),
     }
 }
 
 /// Begins anew with this number of handicap stones on their places, and answers the places.
-fn decide_handicap<A: Allocator + Copy>(game: &mut Game<A>, alloc: A, number: u32) -> Decision
+fn place_handicap<A: Allocator + Copy>(game: &mut Game<A>, alloc: A, number: u32) -> Decision
     ensures { MayDecide game.old.standing (decided_handicap game.old.standing number)
         (record { decision = result; standing = game.new.standing }) }
 {
@@ -65,7 +65,7 @@ fn decide_handicap<A: Allocator + Copy>(game: &mut Game<A>, alloc: A, number: u3
 }
 
 /// `set_free_handicap`: begins anew with stones on the vertices that are listed.
-pub fn decide_set_free<A: Allocator + Copy>(
+pub fn set_free_handicap<A: Allocator + Copy>(
     game: &mut Game<A>,
     alloc: A,
     request: &Request,
@@ -76,13 +76,13 @@ pub fn decide_set_free<A: Allocator + Copy>(
 {
     match read_stones(request.arguments(), game.size()) {
         Err(ListError::Malformed) => Decision::Refused(Refusal::SyntaxError),
-        Err(ListError::Bad) => decide_bad_list(game),
-        Ok(points) => decide_points(game, alloc, points.as_slice()),
+        Err(ListError::Bad) => refuse_list(game),
+        Ok(points) => place_stones(game, alloc, points.as_slice()),
     }
 }
 
 /// A list that no handicap can have is refused for that only in a vacant game.
-fn decide_bad_list<A: Allocator + Copy>(game: &Game<A>) -> Decision
+fn refuse_list<A: Allocator + Copy>(game: &Game<A>) -> Decision
     ensures { result ≡ Decision.Refused (if is_vacant_standing game.now.standing then Refusal.BadVertexList
         else Refusal.BoardNotEmpty) }
 {
@@ -94,7 +94,7 @@ fn decide_bad_list<A: Allocator + Copy>(game: &Game<A>) -> Decision
 }
 
 /// Begins anew with stones on these points, if the game is vacant.
-fn decide_points<A: Allocator + Copy>(game: &mut Game<A>, alloc: A, points: &[Point]) -> Decision
+fn place_stones<A: Allocator + Copy>(game: &mut Game<A>, alloc: A, points: &[Point]) -> Decision
     requires on { All (IsOn game.old.standing.lines) points.now }
     requires few { length points.now < game.old.standing.lines * game.old.standing.lines }
     ensures { MayDecide game.old.standing (decided_stones game.old.standing (Ok points.now))

@@ -14,7 +14,7 @@ use goref_results::legal_plays;
 use std::alloc::Allocator;
 
 /// `play`: makes a move of a colour.
-pub fn decide_play<A: Allocator + Copy>(game: &mut Game<A>, request: &Request) -> Decision
+pub fn play<A: Allocator + Copy>(game: &mut Game<A>, request: &Request) -> Decision
     ensures { DecidesPlay game.old.standing
         (colour_given request.now.arguments 0)
         (vertex_given request.now.arguments 1)
@@ -25,13 +25,13 @@ pub fn decide_play<A: Allocator + Copy>(game: &mut Game<A>, request: &Request) -
         Some(colour) => match vertex_argument(request, 1, game.size()) {
             Err(VertexError::Malformed) => Decision::Refused(Refusal::SyntaxError),
             Err(VertexError::OffBoard) => Decision::Refused(Refusal::IllegalMove),
-            Ok(vertex) => decide_move(game, Move { colour, vertex }),
+            Ok(vertex) => play_move(game, Move { colour, vertex }),
         },
     }
 }
 
 /// Makes a move, if it is legal.
-fn decide_move<A: Allocator + Copy>(game: &mut Game<A>, made: Move) -> Decision
+fn play_move<A: Allocator + Copy>(game: &mut Game<A>, made: Move) -> Decision
     ensures { DecidesPlay game.old.standing (Some made.colour) (Some made.vertex)
         (record { decision = result; standing = game.new.standing }) }
 {
@@ -55,7 +55,7 @@ fn refusal_of(error: PlayError) -> Refusal
 }
 
 /// `genmove`: plays the choice for a colour, and answers it.
-pub fn decide_genmove<A: Allocator + Copy>(game: &mut Game<A>, request: &Request) -> Decision
+pub fn genmove<A: Allocator + Copy>(game: &mut Game<A>, request: &Request) -> Decision
     ensures { MayDecide game.old.standing (decided_genmove game.old.standing
         (colour_given request.now.arguments 0))
         (record { decision = result; standing = game.new.standing }) }
@@ -81,7 +81,7 @@ fn play_choice<A: Allocator + Copy>(game: &mut Game<A>, colour: Colour) -> Decis
 }
 
 /// `reg_genmove`: answers the choice, and doesn't play it.
-pub fn decide_reg_genmove<A: Allocator + Copy>(game: &mut Game<A>, request: &Request) -> Decision
+pub fn reg_genmove<A: Allocator + Copy>(game: &mut Game<A>, request: &Request) -> Decision
     ensures { MayDecide game.old.standing (decided_choice game.old.standing
         (colour_given request.now.arguments 0))
         (record { decision = result; standing = game.new.standing }) }
@@ -96,7 +96,7 @@ pub fn decide_reg_genmove<A: Allocator + Copy>(game: &mut Game<A>, request: &Req
 }
 
 /// `undo`: takes back the last move.
-pub fn decide_undo<A: Allocator + Copy>(game: &mut Game<A>) -> Decision
+pub fn undo<A: Allocator + Copy>(game: &mut Game<A>) -> Decision
     ensures { record { decision = result; standing = game.new.standing }
         ≡ decided_undo game.old.standing game.old.standing.moves }
 {
@@ -107,7 +107,7 @@ pub fn decide_undo<A: Allocator + Copy>(game: &mut Game<A>) -> Decision
 }
 
 /// `goref-legal`: answers the legal plays of a colour.
-pub fn decide_legal<A: Allocator + Copy>(game: &mut Game<A>, request: &Request) -> Decision
+pub fn legal<A: Allocator + Copy>(game: &mut Game<A>, request: &Request) -> Decision
     ensures { MayDecide game.old.standing (decided_legal game.old.standing
         (colour_given request.now.arguments 0))
         (record { decision = result; standing = game.new.standing }) }

@@ -16,9 +16,9 @@ use go_sgf::{SgfError, check};
 use goref_lines::Request;
 use std::alloc::Allocator;
 
-/// The bytes of a file to load, not yet checked. With a number, the game before the move of that number.
+/// The bytes of a file, not yet checked. If there is a number, the load stops before the move of that number.
 #[derive(Clone, Copy)]
-pub struct FetchedFile<'a> {
+pub struct BytesToLoad<'a> {
     pub bytes: &'a [u8],
     pub number: Option<u32>,
 }
@@ -27,7 +27,7 @@ pub struct FetchedFile<'a> {
 pub fn bytes_to_load<'a, A: Allocator + Copy>(
     request: &Request,
     fetched: &'a Fetched<A>,
-) -> Result<FetchedFile<'a>, Refusal>
+) -> Result<BytesToLoad<'a>, Refusal>
     ensures asked { IfOk result (λ to_load. (s : Standing) (d : Decided) →
         DecidesBytes s to_load.bytes.now to_load.number d →
         DecidesLoad s (load_of request.now.arguments) (content_of fetched.now) d) }
@@ -39,7 +39,7 @@ pub fn bytes_to_load<'a, A: Allocator + Copy>(
         return Err(Refusal::SyntaxError);
     };
     match fetched {
-        Fetched::Bytes(bytes) => Ok(FetchedFile {
+        Fetched::Bytes(bytes) => Ok(BytesToLoad {
             bytes: bytes.as_slice(),
             number: load.number,
         }),
@@ -54,7 +54,7 @@ pub fn bytes_to_load<'a, A: Allocator + Copy>(
 /// game stays as it was. After any other refusal it is empty.
 pub fn load_into<A: Allocator + Copy>(
     game: &mut Game<A>,
-    to_load: &FetchedFile,
+    to_load: &BytesToLoad,
 ) -> Result<(), Refusal>
     ensures { (s : Standing) → DecidesBytes s to_load.now.bytes.now to_load.now.number
         (after_load s game.new.standing result) }
@@ -69,7 +69,7 @@ pub fn load_into<A: Allocator + Copy>(
 /// Replays a record into a game. The error tells lack of memory from other refusals.
 fn check_and_replay<A: Allocator + Copy>(
     game: &mut Game<A>,
-    to_load: &FetchedFile,
+    to_load: &BytesToLoad,
 ) -> Result<(), LoadError>
     ensures ok { OnOk result (Loads to_load.now.bytes.now to_load.now.number game.new.standing) }
     ensures cannot { IsErrOf result LoadError.Cannot

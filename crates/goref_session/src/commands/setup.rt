@@ -13,7 +13,7 @@ use goref_lines::Request;
 use std::alloc::Allocator;
 
 /// `boardsize`: begins anew on an empty board of this many lines.
-pub fn decide_size<A: Allocator + Copy>(game: &mut Game<A>, request: &Request) -> Decision
+pub fn boardsize<A: Allocator + Copy>(game: &mut Game<A>, request: &Request) -> Decision
     ensures { record { decision = result; standing = game.new.standing }
         ≡ decided_size game.old.standing
         (int_given request.now.arguments 0) }
@@ -31,7 +31,7 @@ pub fn decide_size<A: Allocator + Copy>(game: &mut Game<A>, request: &Request) -
 }
 
 /// `clear_board`: begins anew on an empty board.
-pub fn decide_clear<A: Allocator + Copy>(game: &mut Game<A>) -> Decision
+pub fn clear_board<A: Allocator + Copy>(game: &mut Game<A>) -> Decision
     ensures { record { decision = result; standing = game.new.standing }
         ≡ comes_to (emptied game.old.standing game.old.standing.lines) }
 {
@@ -40,7 +40,7 @@ pub fn decide_clear<A: Allocator + Copy>(game: &mut Game<A>) -> Decision
 }
 
 /// `komi`: sets the komi.
-pub fn decide_komi<A: Allocator + Copy>(game: &mut Game<A>, request: &Request) -> Decision
+pub fn komi<A: Allocator + Copy>(game: &mut Game<A>, request: &Request) -> Decision
     ensures { record { decision = result; standing = game.new.standing }
         ≡ decided_komi game.old.standing
         (komi_given request.now.arguments 0) }
@@ -55,7 +55,7 @@ pub fn decide_komi<A: Allocator + Copy>(game: &mut Game<A>, request: &Request) -
 }
 
 /// `goref-superko`: sets the superko rule, if there is no move.
-pub fn decide_superko<A: Allocator + Copy>(game: &mut Game<A>, request: &Request) -> Decision
+pub fn superko<A: Allocator + Copy>(game: &mut Game<A>, request: &Request) -> Decision
     ensures { record { decision = result; standing = game.new.standing }
         ≡ decided_superko game.old.standing game.old.standing.moves
         (rule_given request.now.arguments 0) }

@@ -8,7 +8,7 @@ use crate::decision::{Decision, Fact, Refusal};
 use goref_lines::Request;
 
 /// `known_command`: answers whether a name is that of a command.
-pub fn decide_known(request: &Request) -> Decision
+pub fn known_command(request: &Request) -> Decision
     ensures { (s : Standing) → record { decision = result; standing = s }
         ≡ decided_known s (slice_get request.now.arguments 0) }
 {

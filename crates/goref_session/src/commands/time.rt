@@ -9,7 +9,7 @@ use crate::decision::{Decision, Refusal};
 use goref_lines::Request;
 
 /// `time_settings`: main time, byo-yomi time and its stones.
-pub fn decide_time_settings(request: &Request) -> Decision
+pub fn time_settings(request: &Request) -> Decision
     ensures { (s : Standing) → record { decision = result; standing = s } ≡ decided_settings s
         (int_given request.now.arguments 0)
         (int_given request.now.arguments 1)
@@ -26,7 +26,7 @@ pub fn decide_time_settings(request: &Request) -> Decision
 }
 
 /// `time_left`: a colour, its time and its stones.
-pub fn decide_time_left(request: &Request) -> Decision
+pub fn time_left(request: &Request) -> Decision
     ensures { (s : Standing) → record { decision = result; standing = s } ≡ decided_left s
         (colour_given request.now.arguments 0)
         (int_given request.now.arguments 1)

@@ -17,10 +17,10 @@ pub has_liberty_but-requires-clause-label : goal.has_liberty_but-requires-clause
 has_liberty_but-requires-clause-label g c =
     let n = c.args.size in
     let old = c.args.cells.now.numbers in
-    let is : code_at old c.args.near ≡ c.args.captured_code = sym c.get.ensures.value ∙ c.if-get-captured_code.false in
+    let is : code_at old c.args.point ≡ c.args.captured_code = sym c.get.ensures.value ∙ c.if-get-captured_code.false in
     let some = c.requires.colours.taken_some in
-    let stone : IsStone (n * n) (tables_of old) c.args.near = (c.requires.near, omega arith) in
-    let h = label_small n (IsAdjacent n) (tables_of old) (omega arith) c.requires.tidy c.args.near stone in
+    let stone : IsStone (n * n) (tables_of old) c.args.point = (c.requires.point, omega arith) in
+    let h = label_small n (IsAdjacent n) (tables_of old) (omega arith) c.requires.tidy c.args.point stone in
     let e = c.get-label.ensures.value in omega arith
 
 pub take_off-requires-clause-rest : goal.take_off-requires-clause-rest
@@ -45,33 +45,33 @@ pub returns-clause-capturing : goal.returns-clause-capturing
 returns-clause-capturing g c t tidy capturing =
     let n = c.args.size in
     let old = c.args.cells.now.numbers in
-    let is : code_at old c.args.near ≡ c.args.captured_code = sym c.get.ensures.value ∙ c.if-get-captured_code.false in
+    let is : code_at old c.args.point ≡ c.args.captured_code = sym c.get.ensures.value ∙ c.if-get-captured_code.false in
     let some = c.requires.colours.taken_some in
-    let stone : IsStone (n * n) (tables_of old) c.args.near = (c.requires.near, omega arith) in
-    let none : HasLibertyBut n old c.args.near (label_of old c.args.near) → ⊥ = λ other.
+    let stone : IsStone (n * n) (tables_of old) c.args.point = (c.requires.point, omega arith) in
+    let none : HasLibertyBut n old c.args.point (label_of old c.args.point) → ⊥ = λ other.
     true≢false (sym (c.has_liberty_but.ensures.other.1
-    (subst (λ l. HasLibertyBut n old c.args.near l) (sym c.get-label.ensures.value) other))
+    (subst (λ l. HasLibertyBut n old c.args.point l) (sym c.get-label.ensures.value) other))
     ∙ c.if-has_liberty_but.false) in
     IsCapturing_more (n * n) (IsAdjacent n) (flip n) (inside n) t (tables_of old)
-    (tables_of c.take_off.new.cells.numbers) c.args.captured_code c.args.near tidy capturing c.take_off.ensures.removed is
+    (tables_of c.take_off.new.cells.numbers) c.args.captured_code c.args.point tidy capturing c.take_off.ensures.removed is
     c.requires.colours.taken_some
-    (none_but_its_own n old c.args.near c.requires.tidy stone none)
+    (none_but_its_own n old c.args.point c.requires.tidy stone none)
 
 pub returns-clause-stones : goal.returns-clause-stones
 returns-clause-stones g c =
     let n = c.args.size in
     let old = c.args.cells.now.numbers in
-    let is : code_at old c.args.near ≡ c.args.captured_code = sym c.get.ensures.value ∙ c.if-get-captured_code.false in
+    let is : code_at old c.args.point ≡ c.args.captured_code = sym c.get.ensures.value ∙ c.if-get-captured_code.false in
     let P : ℕ → Type 0 = λ k. CountsTaken (n * n) (tables_of old) (tables_of c.take_off.new.cells.numbers) c.args.captured_code
     k in
     subst P (sym c.take_off.ensures.stones)
-    (counts_ring (n * n) (IsAdjacent n) (tables_of old) (tables_of c.take_off.new.cells.numbers) c.args.near
+    (counts_ring (n * n) (IsAdjacent n) (tables_of old) (tables_of c.take_off.new.cells.numbers) c.args.point
     c.args.captured_code c.requires.tidy c.take_off.ensures.removed is c.requires.colours.taken_some)
 
 pub returns-clause-few : goal.returns-clause-few
 returns-clause-few g c =
     let n = c.args.size in
     let old = c.args.cells.now.numbers in
-    let h = size_small n (IsAdjacent n) (tables_of old) (omega arith) c.requires.tidy c.args.near
+    let h = size_small n (IsAdjacent n) (tables_of old) (omega arith) c.requires.tidy c.args.point
     c.take_off.ensures.removed.stone in
     let e = c.take_off.ensures.stones in omega arith

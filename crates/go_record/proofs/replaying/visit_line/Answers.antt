@@ -13,7 +13,7 @@ use Rattle.go_record.proofs.replaying.visit_line.Goals as goal
 pub loop-cursor-init : goal.loop-cursor-init
 loop-cursor-init g c = λ t s.
     let of = c.of-cursor.ensures in
-    let same = c.one_record.ensures c.args.source.now of.0 t of.1 s in (
+    let same = c.one_record.ensures c.args.checked.now of.0 t of.1 s in (
       main_line t,
       subst (λ (u : Trees). IsLeft c.of-cursor.result [] [] (main_line u)) same of.2,
       [],

@@ -7,7 +7,7 @@ use Rattle.go_record.specs.inner.Progress.{Passes}
 use Rattle.go_record.proofs.replaying.visit_line.Given as goal
 
 abbrev pub invariant-loop-cursor : goal.invariant-loop-cursor
-invariant-loop-cursor g l = (t : Trees) → Spells l.source t → (remaining : List (List Property)) × IsLeft l.cursor [] [] remaining
+invariant-loop-cursor g l = (t : Trees) → Spells l.checked t → (remaining : List (List Property)) × IsLeft l.cursor [] [] remaining
     × (done : List Event) × (done ++ events_from l.count remaining ≡ events_from 0 (main_line t))
     × Passes (l.fn.walk, l.fn.game) done (l.walk, l.game)
 

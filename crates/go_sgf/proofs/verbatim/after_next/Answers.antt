@@ -24,17 +24,17 @@ returns-clause-stays c =
     c.in_ok-byte.more.now =
     rw c.depth_after-open.ensures.open
     (byte_stays c.args.depth byte c.in_ok-byte.more.now c.if-depth-eq0.false (sym c.if-is_left_out.ensures) bracket) in
-    rw whole (stays_on one (c.after_kept.ensures.stays c.depth_after-open.result c.if-open-eq0.false))
+    rw whole (stays_on one (c.after_verbatim.ensures.stays c.depth_after-open.result c.if-open-eq0.false))
 
 pub returns-clause-bound : goal.returns-clause-bound
 returns-clause-bound c =
     omega (
       arith,
       c.depth_after-open.ensures.bound,
-      c.after_kept.ensures.shorter,
+      c.after_verbatim.ensures.shorter,
       ap length c.in_ok-byte.ensures.cases.0,
     )
 
 pub returns-clause-shorter : goal.returns-clause-shorter
 returns-clause-shorter c =
-    omega (arith, c.after_kept.ensures.shorter, ap length c.in_ok-byte.ensures.cases.0)
+    omega (arith, c.after_verbatim.ensures.shorter, ap length c.in_ok-byte.ensures.cases.0)

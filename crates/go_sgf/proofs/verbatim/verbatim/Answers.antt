@@ -4,7 +4,7 @@ use Rattle.go_sgf.proofs.verbatim.verbatim.Goals as goal
 
 pub loop-more-init : goal.loop-more-init
 loop-more-init c =
-    let passed = c.after_kept-rest.ensures in
+    let passed = c.after_verbatim-rest.ensures in
     let stays = passed.stays c.args.depth c.if-depth-eq0.false in
     record {
       stays = stays;

@@ -6,10 +6,10 @@ use Rattle.go_sgf.proofs.writer.tidy.Goals as goal
 
 pub returns-clause-sent : goal.returns-clause-sent
 returns-clause-sent g c =
-    let s = c.source.ensures.spelled in
+    let s = c.text.ensures.spelled in
     let w = c.put_trees.ensures in
     let taken = g.W.Sink.taken in
-    let text = w.2 s.0 (subst (λ (b : List ℕ). Spells b s.0) (sym c.source.ensures.source) s.1) in
+    let text = w.2 s.0 (subst (λ (b : List ℕ). Spells b s.0) (sym c.text.ensures.text) s.1) in
     let told = finished_pen (rw text at w.1) c.new-pen.ensures.fresh c.new-pen.ensures.writer refl c.finish.result
     c.finish.ensures.value in (
       s.0,

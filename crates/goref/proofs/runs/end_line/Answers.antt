@@ -8,5 +8,5 @@ pub returns-clause-proceeds : goal.returns-clause-proceeds
 returns-clause-proceeds g c = λ start read given taken p.
     let now : c.extend.new.self ≡ kept (unfinished_line read ++ c.args.part.now) =
     c.extend.ensures (unfinished_line read) p.keeps in
-    rw c.clear.ensures (proceeds p c.args.part.now c.requires c.respond-result.result
-    (rw now at c.respond-result.ensures.responds))
+    rw c.clear.ensures (proceeds p c.args.part.now c.requires c.answer_line-result.result
+    (rw now at c.answer_line-result.ensures.responds))

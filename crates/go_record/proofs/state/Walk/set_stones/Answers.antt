@@ -19,7 +19,7 @@ returns-in-None-clause-walked c = λ vs later nodes l game.
     let live : is_nothing w.0.remaining ≡ false = sym c.is_over.ensures ∙ c.if-is_over.false in
     stops_event None w.0.remaining (stones c.args.node c.args.colour vs) (none_met w c.if-self.false)
     (seen_stones w.0.remaining live c.args.node c.args.colour vs)
-    (λ other events. sets_stones_bad w.0.grid.lines w.0.komi w.0.grid.colours w.0.turn c.args.node c.args.colour vs
+    (λ other events. sets_stones_bad w.0.grid.lines w.0.komi w.0.grid.colours w.0.given_mover c.args.node c.args.colour vs
     events (c.in-None.ensures.bad vs later nodes l))
 
 pub returns-in-Some-clause-walked : goal.returns-in-Some-clause-walked
@@ -30,6 +30,6 @@ returns-in-Some-clause-walked c = λ vs later nodes l game.
     let set = c.in-Some.ensures.set vs later nodes l in
     passes_event {w = w} None None (stones c.args.node c.args.colour vs) none none
     (seen_stones w.0.remaining live c.args.node c.args.colour vs)
-    (λ events outcome h. sets_stones w.0.grid.lines w.0.komi w.0.grid.colours w.0.turn c.args.node c.args.colour vs
+    (λ events outcome h. sets_stones w.0.grid.lines w.0.komi w.0.grid.colours w.0.given_mover c.args.node c.args.colour vs
     set.0 events outcome set.1
     (rw (c.set_points.ensures.lines, set.2) at h))

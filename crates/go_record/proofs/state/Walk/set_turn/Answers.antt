@@ -22,7 +22,7 @@ returns-in-Some c = λ game.
     let live : is_nothing w.0.remaining ≡ false = sym c.is_over.ensures ∙ c.if-is_over.false in
     passes_event {w = w} None None (turn c.args.node c.args.value.now) none none
     (seen_turn w.0.remaining live c.args.node c.args.value.now)
-    (λ events outcome h. sets_turn w.0.grid.lines w.0.komi w.0.grid.colours w.0.turn c.args.node c.args.value.now
+    (λ events outcome h. sets_turn w.0.grid.lines w.0.komi w.0.grid.colours w.0.given_mover c.args.node c.args.value.now
     c.in-Some.colour events outcome
     (sym c.colour_of.ensures ∙ c.in-Some.is) h)
 
@@ -33,5 +33,5 @@ returns-in-None c = λ game.
     let live : is_nothing w.0.remaining ≡ false = sym c.is_over.ensures ∙ c.if-is_over.false in
     stops_event None w.0.remaining (turn c.args.node c.args.value.now) none
     (seen_turn w.0.remaining live c.args.node c.args.value.now)
-    (λ some events. sets_turn_bad w.0.grid.lines w.0.komi w.0.grid.colours w.0.turn c.args.node c.args.value.now events
+    (λ some events. sets_turn_bad w.0.grid.lines w.0.komi w.0.grid.colours w.0.given_mover c.args.node c.args.value.now events
     (sym c.colour_of.ensures ∙ c.in-None.is))

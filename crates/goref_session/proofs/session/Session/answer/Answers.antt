@@ -36,7 +36,7 @@ returns-in-Some-clause-answered g c =
 pub returns-in-None-clause-answered : goal.returns-in-None-clause-answered
 returns-in-None-clause-answered g c =
     let whole = sym c.is_long.ensures ∙ c.if-is_long.false in
-    let d : Decided = record { decision = c.decide_load-decision.result; standing = c.decide_load-decision.new.self } in
+    let d : Decided = record { decision = c.loadsgf-decision.result; standing = c.loadsgf-decision.new.self } in
     let asked : c.of-request.result ≡ asked_by (words c.args.line.now.text) =
     c.of-request.ensures ∙ ap (λ (text : List ℕ). asked_by (words text)) c.text-text.ensures.value in
     let loads = none_gives c.answer_command.result _ c.in-None.is c.answer_command.ensures.loads in
@@ -46,7 +46,7 @@ returns-in-None-clause-answered g c =
       whole,
       subst (λ (r : Asked). Decides c.args.self.now r (content_of c.args.fetched) d) asked
           (decided_load c.args.self.now c.answer_command.new.self c.of-request.result (content_of c.args.fetched) d
-          loads.0 loads.1 c.decide_load-decision.ensures),
+          loads.0 loads.1 c.loadsgf-decision.ensures),
     ))
     (c.id.ensures ∙ ap (λ (r : Asked). r.id) asked ∙ whole_id c.args.line.now whole)
     (told_at c.write_decision-in-None.result c.id.result d.decision c.game-in-None.result.now.standing d.standing _ _ _

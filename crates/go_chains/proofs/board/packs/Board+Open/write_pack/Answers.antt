@@ -14,18 +14,18 @@ pub loop-place-init : goal.loop-place-init
 loop-place-init c =
     let n = c.args.self.now.lines in
     let cells = c.args.self.now.cells in
-    let bytes = bytes_of c.largest_pack.result.now in
+    let bytes = bytes_of c.pack_of_cells.result.now in
     let full = c.from-full.result / 4 in
     let f : ℕ → ℕ = byte_of (grid_of c.args.self.now) in
     let small = c.size.ensures.kept.small in
     let all : c.from-full.result ≡ n * n = c.from-full.ensures ∙ c.points.ensures.value
     ∙ ap (λ (k : ℕ). k * k) c.size.ensures.lines in
-    let whole : length bytes ≡ PACK_BYTES = ap length c.largest_pack.ensures ∙ length-pack _ in
+    let whole : length bytes ≡ PACK_BYTES = ap length c.pack_of_cells.ensures ∙ length-pack _ in
     let last : c.last_byte.result ≡ f full = c.last_byte.ensures ∙ ap (λ (k : ℕ). f (k / 4)) (sym all) in
     let set : bytes_of c.set.new.self ≡ slice_set bytes full (f full) = c.set.ensures
     ∙ ap (slice_set bytes full) last in
     let prefix : (k : ℕ) → k < full → slice_index_or bytes k 0 ≡ f k = λ k low.
-    largest-at n cells bytes k small (square-le n small) (omega (arith, all)) c.largest_pack.ensures in
+    largest-at n cells bytes k small (square-le n small) (omega (arith, all)) c.pack_of_cells.ensures in
     record {
       whole = ap length set ∙ length-set bytes full _ ∙ whole;
       done = λ k low. ap (λ (b : List ℕ). slice_index_or b k 0) set

@@ -1,5 +1,0 @@
-use Rattle.std.proofs.Common.{rules}
-use Rattle.goref_session.proofs.commands.setup.decide_size.Goals as goal
-
-pub returns-in-Some-of : goal.returns-in-Some-of
-returns-in-Some-of g c = search rules

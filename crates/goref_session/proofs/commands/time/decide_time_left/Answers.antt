@@ -1,5 +1,0 @@
-use Rattle.std.proofs.Common.{rules}
-use Rattle.goref_session.proofs.commands.time.decide_time_left.Goals as goal
-
-pub returns-in-Some-Some-Some : goal.returns-in-Some-Some-Some
-returns-in-Some-Some-Some c = search rules
