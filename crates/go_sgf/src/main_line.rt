@@ -66,6 +66,7 @@ impl<'a> MainLine<'a> {
     /// The name of the node's next property, as it is written. It first skips the values that are left of the
     /// property before. Where the node has no more properties, it skips white space and
     /// returns none.
+    #[inline]
     pub fn next_name(&mut self) -> Option<&'a [u8]>
         ensures next { (values : List (List ℕ)) (properties : List Property)
             (nodes : List (List Property)) → IsLeft self.old values properties nodes
@@ -80,6 +81,7 @@ impl<'a> MainLine<'a> {
 
     /// The property's next value, without its brackets. Where the property has no more values, it
     /// skips white space and returns none.
+    #[inline]
     pub fn next_value(&mut self) -> Option<&'a [u8]>
         ensures next { (values : List (List ℕ)) (properties : List Property)
             (nodes : List (List Property)) → IsLeft self.old values properties nodes

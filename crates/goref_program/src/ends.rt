@@ -2,7 +2,6 @@
 ghost use Rattle.std.specs.Prelude.{◌≡◌};
 ghost use Rattle.clap.specs.Values.{kind_of};
 ghost use Rattle.goref_program.specs.Status.{IsStatusOfText, end_status, fault_status};
-ghost use Rattle.goref_program.specs.declared.ends.Fault.TheVariants.{Run, Tool};
 
 use goref::{RunError, ToolError};
 use std::io::Write;
@@ -34,22 +33,6 @@ impl Fault {
             Fault::Run(_) => DEVICE_OR_MEMORY,
             Fault::Tool(why) => why.status(),
         }
-    }
-}
-
-impl From<RunError> for Fault {
-    ghost from_gives = { λ why fault. fault ≡ Run why };
-
-    fn from(why: RunError) -> Fault {
-        Fault::Run(why)
-    }
-}
-
-impl From<ToolError> for Fault {
-    ghost from_gives = { λ why fault. fault ≡ Tool why };
-
-    fn from(why: ToolError) -> Fault {
-        Fault::Tool(why)
     }
 }
 

@@ -43,9 +43,8 @@ fn do_on_devices<A: Allocator + Copy, R: Source, W: Sink, S: Shelf<A>>(
         (devices_of R.Source W.Sink input.new output.new (S.given shelf.new)) }
 {
     match task {
-        Task::Gtp(size) => run(alloc, size, input, output, shelf)?,
-        Task::Judge => judge_run(alloc, input, output)?,
-        Task::Tidy => tidy_run(alloc, input, output)?,
+        Task::Gtp(size) => run(alloc, size, input, output, shelf).map_err(Fault::Run),
+        Task::Judge => judge_run(alloc, input, output).map_err(Fault::Tool),
+        Task::Tidy => tidy_run(alloc, input, output).map_err(Fault::Tool),
     }
-    Ok(())
 }
