@@ -1,6 +1,6 @@
 /* Times the library for other languages: bench ROUNDS FILE..
  * The files are read first. Then each function goes over all of them, by one thread and by four at
- * once, and the least time of so many rounds is printed, in microseconds a file. The first is no
+ * once, and the least time of all rounds is printed, in microseconds a file. The first is no
  * function of the library: it reckons with numbers alone, so it tells what four threads come to on
  * this machine where they share nothing at all. */
 #include <goref.h>
@@ -60,7 +60,7 @@ static double now(void)
     return 1e6 * time.tv_sec + 1e-3 * time.tv_nsec;
 }
 
-/* The least time in which so many threads each go over all records. */
+/* The least time in which `threads` threads each go over all records. */
 static double least(struct work *work, int threads, int rounds)
 {
     double best = 0;

@@ -1,6 +1,6 @@
 /* Times sessions of the library: sessions ROUNDS
  * A game is 250 plays on distinct points of 19 lines in a drawn order, so each of them is legal. The
- * least of so many rounds is printed, in microseconds of a processor for a line. */
+ * least of all rounds is printed, in microseconds of a processor for a line. */
 #include <goref.h>
 #include <malloc.h>
 #include <stdio.h>
@@ -65,7 +65,7 @@ static size_t resident(void)
 
 static goref_session games[GAMES];
 
-/* Opens so many games. */
+/* Opens a number of games. */
 static void open_games(int count)
 {
     for (int game = 0; game < count; game++)
@@ -105,7 +105,7 @@ static void answer_games(void)
             exit(1);
 }
 
-/* The games of a text of so many of them. */
+/* Goes over the games of an archive of `count` games. */
 static void go_over(const char *archive, size_t size, int count)
 {
     size_t begin, end = 0;

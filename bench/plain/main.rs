@@ -1,7 +1,7 @@
 //! A plain program to compare `goref gtp` with: it reads `boardsize` with the lines that it is built for,
 //! `clear_board`, `play`, `undo`, `genmove`, `loadsgf` and `quit`, and answers as goref does, a line that is too long too.
-//! `plain script ROUNDS` writes lines for both: so many times the same 300 random plays, all of them legal,
-//! and 300 undos. `plain records FOLDER COUNT MOVES` writes records of so many random games of so many moves
+//! `plain script ROUNDS` writes lines for both: ROUNDS times the same 300 random plays, all of them legal,
+//! and 300 undos. `plain records FOLDER COUNT MOVES` writes records of COUNT random games of MOVES moves
 //! into a folder. Nothing of it is proved.
 
 mod board;

@@ -4,7 +4,7 @@
 use crate::board::{LINES, POINTS};
 use crate::game::Game;
 
-/// The next value behind a `[`, and what stands behind its `]`.
+/// The next value after a `[`, and what follows its `]`.
 fn value_of(text: &[u8]) -> Option<(&[u8], &[u8])> {
     let mut end = 0;
     while *text.get(end)? != b']' {
@@ -44,22 +44,22 @@ pub fn game_of(text: &[u8]) -> Option<Game> {
     let mut game = Game::new();
     let mut name: &[u8] = &[];
     let mut rest = text;
-    while let Some((byte, behind)) = rest.split_first() {
-        rest = behind;
+    while let Some((byte, after)) = rest.split_first() {
+        rest = after;
         match byte {
             b')' => break,
             b'[' => {
-                let (value, behind) = value_of(behind)?;
-                rest = behind;
+                let (value, after) = value_of(after)?;
+                rest = after;
                 if !pass(&mut game, name, value) {
                     return None;
                 }
             }
             b'A'..=b'Z' => {
-                let letters = behind.iter().take_while(|it| it.is_ascii_uppercase());
+                let letters = after.iter().take_while(|it| it.is_ascii_uppercase());
                 let count = letters.count();
-                name = &text[text.len() - behind.len() - 1..][..count + 1];
-                rest = &behind[count..];
+                name = &text[text.len() - after.len() - 1..][..count + 1];
+                rest = &after[count..];
             }
             _ => {}
         }
@@ -67,7 +67,7 @@ pub fn game_of(text: &[u8]) -> Option<Game> {
     Some(game)
 }
 
-/// The record of a game of so many random moves in turn, as a seed gives it.
+/// The record of a game of `moves` random moves in turn, as a seed gives it.
 pub fn random_record(seed: u64, moves: usize) -> String {
     let mut game = Game::new();
     let mut text = format!("(;GM[1]FF[4]SZ[{LINES}]KM[6.5]PB[Black]PW[White]");

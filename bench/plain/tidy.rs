@@ -66,9 +66,9 @@ impl<'a> Record<'a> {
         self.properties.push(Property { name, first_value });
         rest = after_space(rest);
         while let Some(inside) = rest.strip_prefix(b"[") {
-            let (value, behind) = value_of(inside)?;
+            let (value, after) = value_of(inside)?;
             self.values.push(value);
-            rest = after_space(behind);
+            rest = after_space(after);
         }
         (self.values.len() as u32 > first_value).then_some(rest)
     }
@@ -144,7 +144,7 @@ impl<'a> Record<'a> {
         }
     }
 
-    /// Writes `)` for each tree that is deeper than is to stay open, and LF behind an outermost one.
+    /// Writes `)` for each tree that is deeper than is to stay open, and LF after an outermost one.
     fn close(depth: usize, open: usize, out: &mut Vec<u8>) {
         for _ in open..depth {
             out.push(b')');

@@ -1,5 +1,5 @@
 // Writes a record of a legal game whose positions lie side by side in a map that is hashed as a history's first keys
-// are: of the packs' hashes the bits from 6 on, so many of them, are 0 where a play with that is found.
+// are: of the packs' hashes the bits from 6 on, BITS of them, are 0 where a play with that is found.
 //
 //     crowd LINES MOVES BITS SEED
 //

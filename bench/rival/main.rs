@@ -217,7 +217,7 @@ impl Session {
     }
 }
 
-/// Reads up to the end of a line that is too long, and leaves what was read behind it; how much that is.
+/// Reads up to the end of a line that is too long, and leaves what was read after it; how much that is.
 fn pass_over(input: &mut impl Read, room: &mut [u8]) -> io::Result<usize> {
     loop {
         let count = input.read(&mut room[..ROOM - 1])?;

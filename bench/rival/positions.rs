@@ -92,7 +92,7 @@ impl Positions {
         self.list.truncate(self.list.len() - 1);
     }
 
-    /// Takes the last position out of the set. It was put in as the last one, so no other was put behind it on the way
+    /// Takes the last position out of the set. It was put in as the last one, so no other was put after it on the way
     /// from its hash, and its slot is emptied without more.
     pub fn forget_last(&mut self) {
         let slot = self.last().slot;
@@ -134,8 +134,8 @@ impl Positions {
         Some(slot)
     }
 
-    /// Makes the set twice as long. Positions are put in again from the first to the last, so that the last stands
-    /// behind all others still.
+    /// Makes the set twice as long. Positions are put in again from the first to the last, so that the last still
+    /// stands after all others.
     fn grow(&mut self) {
         self.slots = vec![0; 2 * self.slots.len()];
         let mask = self.slots.len() - 1;

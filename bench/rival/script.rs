@@ -27,13 +27,13 @@ impl Random {
         ((self.0 >> 33) as usize) % end
     }
 
-    /// Whether something happens that does so so many times in a hundred.
+    /// Whether something happens that happens this number of times in a hundred.
     fn is_in(&mut self, hundredths: usize) -> bool {
         self.below(100) < hundredths
     }
 }
 
-/// Writes so many games on a board of so many lines: plays, each legal, and a new start behind each game.
+/// Writes a number of games on a board of `lines` lines: plays, each legal, and a new start after each game.
 pub fn write(lines: usize, games: usize, seed: u64) -> io::Result<()> {
     let mut out = BufWriter::new(io::stdout().lock());
     let mut random = Random(seed);

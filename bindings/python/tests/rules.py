@@ -4,7 +4,7 @@ LETTERS = "ABCDEFGHJKLMNOPQRSTUVWXYZ"
 
 
 class Model:
-    """A board of so many lines; points are columns and rows from the lower left corner, from 0."""
+    """A board of `size` lines; points are columns and rows from the lower left corner, from 0."""
 
     def __init__(self, size, black=(), white=()):
         self.size = size

@@ -59,7 +59,7 @@ fn play_on<A: Allocator + Copy>(
     sum
 }
 
-/// Plays and takes back games of so many moves each, one after another, in so many rounds.
+/// Plays and takes back games of `length` moves each, one after another, `rounds` times.
 #[unsafe(no_mangle)]
 pub extern "C" fn goref_bench_chains(
     alloc: Global,

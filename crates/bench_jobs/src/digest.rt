@@ -1,7 +1,7 @@
 use std::io::{self, Write};
 
-/// A stream that keeps a number of all that was written to it, eight bytes at a time where there are
-/// so many (after FNV-1a, whose constants these are).
+/// A stream that keeps a number of all that was written to it, eight bytes at a time where eight
+/// are left (after FNV-1a, whose constants these are).
 #[derive(Drop)]
 pub struct Digest {
     number: u64,

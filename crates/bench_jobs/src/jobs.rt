@@ -26,7 +26,7 @@ enum Kind {
     Replays,
     /// Collections are tidied.
     Tidies,
-    /// A game of so many plays for each time, undone.
+    /// One game, with a thousand random plays for each time, taken back whole.
     Long,
 }
 
@@ -71,7 +71,7 @@ const DRAWN: u32 = 500;
 /// How many plays a long game has for each time.
 const PLAYS: u32 = 1_000;
 
-/// Does a job so many times with a seed, and gives the digest of all answers.
+/// Does a job a number of times with a seed, and gives the digest of all answers.
 pub fn done(alloc: Global, job: &Job, times: u32, seed: u32) -> Option<u64> {
     let mut random = Random::new(seed);
     let mut digest = Digest::new();
@@ -148,7 +148,7 @@ fn drawn_records(alloc: Global, random: &mut Random) -> Result<Vec<Vec<u8>>, All
     Ok(drawn)
 }
 
-/// Records one behind the other.
+/// Records one after the other.
 fn collection(
     alloc: Global,
     drawn: &Vec<Vec<u8>>,

@@ -40,14 +40,14 @@ impl From<WriteFault> for LongError {
     }
 }
 
-/// After more refused plays than these, one behind the other, some plays are taken back: a full board on
+/// After more refused plays than these in a row, some plays are taken back: a full board on
 /// which nearly any play would repeat is left that way.
 const REFUSED: u32 = 20;
 
 /// How many plays are taken back then.
 const BACK: usize = 60;
 
-/// Plays so many random moves, and takes all back.
+/// Plays a number of random moves, and takes all back.
 pub fn play_long(
     alloc: Global,
     moves: u32,
@@ -135,7 +135,7 @@ fn vacant(game: &Game<Global>, random: &mut Random) -> Option<Point> {
     None
 }
 
-/// The point behind this one in point order, and behind the last one the first.
+/// The point after this one in point order, and after the last one the first.
 fn after(at: Point) -> Point {
     if at.col < 18 {
         return Point {

@@ -32,7 +32,7 @@ impl Random {
         self.draw() % count
     }
 
-    /// Whether the next number is one of so many.
+    /// Whether the next number is a multiple of the count.
     pub fn one_in(&mut self, count: u32) -> bool
         requires { 0 < count }
     {

@@ -99,7 +99,7 @@ fn put_stone<A: Allocator + Copy>(
     Ok(())
 }
 
-/// Moves of which the main line has so many, with variations where the record has any, and all that
+/// Moves, a number of them on the main line, with variations where the record has any, and all that
 /// closes the trees.
 fn put_moves<A: Allocator + Copy>(
     text: &mut Vec<u8, A>,

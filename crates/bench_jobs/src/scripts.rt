@@ -19,7 +19,7 @@ pub enum Script {
     Questions,
 }
 
-/// The lines of so many games, one game's after the other.
+/// The lines of a number of games, one game's after the other.
 #[derive(Drop)]
 pub struct Lines {
     script: Script,
@@ -130,7 +130,7 @@ impl Lines {
     }
 
     /// A play of a referee's game as it is seen from the present side, now and then taken back and
-    /// played again, and a diagram behind each fortieth.
+    /// played again, and a diagram after each fortieth.
     fn put_from_side(&mut self, place: usize) -> Result<(), AllocError> {
         let Some((colour, at)) = self.plays.get(place).copied() else {
             return Ok(());

@@ -12,7 +12,7 @@ fn value_of<'a, A: Allocator + Copy>(node: &Node<'a, A>, name: &[u8]) -> Option<
     property.values().first().copied()
 }
 
-/// Prints how many nodes each tree has, behind as many spaces as it is deep.
+/// Prints how many nodes each tree has, after as many spaces as it is deep.
 fn show<A: Allocator + Copy>(rt: &HostRuntime, tree: &Tree<'_, A>, depth: usize) -> io::Result<()> {
     println!(rt; "{:depth$}{} nodes", "", tree.nodes().len())?;
     if depth < MAX_DEPTH {

@@ -1,4 +1,4 @@
--- Tests that compute, and the facts behind them.
+-- Tests that compute, and the facts that they decide.
 use Rattle.std.proofs.Common.{arith, ◌≡◌, ◌<◌, ◌+◌, ◌*◌, ◌∙◌, Bool, true, true≢false, ℕ, Option, Some, None, Contains, get_or, length, refl, sym, ap}
 use Rattle.std.specs.List.{list_any}
 use Rattle.std.proofs.lemmas.List.Folds.{Any-from_list_any, list_any_at}

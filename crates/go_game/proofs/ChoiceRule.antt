@@ -105,7 +105,7 @@ module _ (s : Standing) (c : Colour)
           (h.first (point_at s.lines q) (legal_at q legal)
           (subst (λ k. k < number_of s.lines p) (sym number) before))
 
-  -- there is a best one among so many points, if one of them may be played
+  -- there is a best one among the first points, if one of them may be played
   best_to : (i : ℕ) → (best : Option Trial) × IsBestTrial s c i best
   best_to zero = (None, λ p below. absurd (omega arith))
   best_to (suc i) =

@@ -40,7 +40,7 @@ after_more n cells c Pass plays next rest tail turn = ap (λ (l : List (List Cha
 after_more n cells c (At p) plays next rest tail turn =
     ap (λ (l : List (List Change)). plays_after (At p) (l ++ tail)) turn.1
 
--- one move more has its changes behind those of the earlier ones
+-- one move more has its changes after those of the earlier ones
 changes_push : (n : ℕ) (first : List ℕ) (moves : List Move) (plays : List (List Change)) (last : List ℕ) (m : Move)
     (tail : List (List Change))
     → WentThrough n first moves plays last → changes_of (moves ++ m ∷ []) (plays ++ tail) ≡ changes_of moves plays
@@ -165,7 +165,7 @@ logged_later old new count most onward logged = record {
   ticked = let each = logged.ticked in omega (arith, each, onward);
 }
 
--- behind a move there is one to take back
+-- after a move there is one to take back
 pub taken_some : {P : Type 0} (X : Type 0) (s t : Standing) (m : Move) (o : Option Move) → t ≡ with_move s m →
     IfNone o ((t.moves ≡ []) × X) → IfSome o (λ _. P) → P
 taken_some X s t m None played none some =

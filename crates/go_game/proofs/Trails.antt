@@ -29,7 +29,7 @@ went_kept n first (m ∷ moves) plays last kept went =
     let all = went_kept n went.0 moves went.1 last one.0 went.3 in
     (all.0, all.1 ∙ ap (λ (g : Colouring). board n g moves) one.1)
 
--- more plays behind a turn's own
+-- more plays after a turn's own
 turn_longer : (n : ℕ) (cells : List ℕ) (c : Colour) (v : Vertex) (plays : List (List Change)) (next : List ℕ)
     (rest tail : List (List Change))
     → IsTurn n cells c v plays next rest → IsTurn n cells c v (plays ++ tail) next (rest ++ tail)
@@ -67,7 +67,7 @@ pub record LastTurn (n : ℕ) (first : List ℕ) (moves : List Move) (m : Move) 
   pub went : WentThrough n first moves prefix before
   pub turn : IsTurn n before m.colour m.vertex tail last []
 
--- a turn's own plays before those behind it
+-- a turn's own plays before those after it
 turn_apart : (n : ℕ) (cells : List ℕ) (c : Colour) (v : Vertex) (plays : List (List Change)) (next : List ℕ)
     (rest prefix tail : List (List Change))
     → IsTurn n cells c v plays next rest → rest ≡ prefix ++ tail → (own : List (List Change)) × (plays ≡ own ++ tail)

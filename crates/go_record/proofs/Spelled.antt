@@ -144,7 +144,7 @@ point_after ds es h =
     lt-ltb (length ds) (length (ds ++ 46 ∷ es)) (rw length-append (omega arith)) in
     rw (e, low) refl
 
--- what stands before and behind a point
+-- what stands before and after a point
 pub record HasParts (t w d : List ℕ) : Type 0 where
   pub whole : whole_part t ≡ w
   pub decimals : decimals_in t ≡ d
@@ -179,7 +179,7 @@ value_two w x y = fold-append (λ value c. 10 * value + (c - 48)) 0 w (x ∷ y �
 equal_is : (a b : ℕ) → (a == b) ≡ true → a ≡ b
 equal_is a b e = grind (arith, common_steps, e)
 
--- the decimals of so many hundredths, behind whole ones
+-- the decimals of a number of hundredths, after whole ones
 size_with : (n q r : ℕ) (w : List ℕ) → IsDecimal q w → 100 * q + r ≡ n → r < 100 → n ≤ MAX_KOMI →
     size_of_number (w ++ decimals_of r) ≡ Some n
 size_with n q r w is sum low few = elim (cases_Bool (r == 0)) [

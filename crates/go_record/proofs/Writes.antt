@@ -127,7 +127,7 @@ moves_text-is n (m ∷ ms) =
     ∙ ap (λ xs. xs ++ nodes_text (map (move_node n) ms)) (move_text-is n m.colour m.vertex)
     ∙ ap (λ xs. move_text n m ++ xs) (moves_text-is n ms)
 
--- what stands behind the colour to move first
+-- what follows the colour to move first
 abbrev pub tail_text : Standing → List ℕ
 tail_text s =
     stones_text s (codes "AB") Black

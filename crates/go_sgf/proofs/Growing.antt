@@ -151,7 +151,7 @@ tree_more d h less b ns ts ts' rest inside t more far e f r place =
       place = far.place ∙ into_child MAX_DEPTH d h less rest inside f ∙ place ∙ out_of_child MAX_DEPTH d h.0 more;
     })
 
--- behind the last child
+-- after the last child
 pub tree_whole : (d : ℕ) (b : List ℕ) (ns : List (List Property)) (ts : List TreeValue) (at rest after : List ℕ) →
     ReadsNodes b ns at → TreeSoFar d b ns ts rest →
     rest ≡ 41 ∷ after → ReadsToEnd d b (ns, chain ts) after

@@ -40,7 +40,7 @@ split_further n b prefix rest h e =
     ap (take (n + length prefix)) whole ∙ take_at (take n b ++ prefix) rest (n + length prefix) long in
     (prefix_is, whole ∙ ap (λ xs. xs ++ rest) (sym prefix_is))
 
--- the byte behind what stands there
+-- the byte after what stands there
 pub byte_at : (n : ℕ) (b prefix : List ℕ) (c : ℕ) (more : List ℕ) → n ≤ length b → drop n b ≡ prefix ++ (c ∷ more) →
     (n + length prefix < length b) × (get_or b (n + length prefix) 0 ≡ c)
 byte_at n b prefix c more h e =

@@ -77,7 +77,7 @@ none_from p xs i found room is empty before k low high passes = elim (cases_lt k
   | inr above ↦ true≢false (sym passes ∙ none_from_empty_mask p xs i 16 0 room (sym is ∙ empty) k above high)
 ]
 
--- the place of the first byte that passes, from that among the bytes behind a place up to which none passes
+-- the place of the first byte that passes, where none passes up to a place, from its place among the bytes that follow
 pub first_after : (p : ℕ → Bool) (xs : List ℕ) (i k : ℕ) → i ≤ length xs → Nowhere (Passes p xs) 0 i →
     NoneBefore (Passes p (drop i xs)) 0 (length (drop i xs)) k × Passes p (drop i xs) k →
     NoneBefore (Passes p xs) 0 (length xs) (i + k) × Passes p xs (i + k)

@@ -14,11 +14,11 @@ use Rattle.go_sgf.proofs.Unambiguous.{letter_no_bracket, letters_same, value_sam
 
 -- ---- what a text begins with
 
--- the parts behind the properties of a node
+-- the parts after the properties of a node
 abbrev pub node_rest : List (List Property) → Trees → List Part → List Part
 node_rest own children later = flat_map node_parts own ++ (parts children ++ (closing ∷ later))
 
--- the parts behind the values of a property
+-- the parts after the values of a property
 abbrev pub property_rest : List Property → List (List Property) → Trees → List Part → List Part
 property_rest ps own children later = flat_map property_parts ps ++ node_rest own children later
 
@@ -269,7 +269,7 @@ node_next b inside ns l e =
 
 -- ---- children
 
--- behind a tree's `(`
+-- after a tree's `(`
 tree_left : (ms : List (List Property)) (cs l : Trees) (ps : List Part) (inside rest : List ℕ) →
     AreTrees (tree ms cs l) →
     SpellsParts inside ((flat_map node_parts ms ++ (parts cs ++ (closing ∷ parts l))) ++ ps) rest →

@@ -11,7 +11,7 @@ abbrev pub ListedSoFar : ℕ → List (Bor (List ℕ)) → ℕ → List Point �
 ListedSoFar n values at ps = both (Some ps) (points_by_values n (values_of (drop at values))) ≡ points_by_values n
     (values_of values)
 
--- behind the last value
+-- after the last value
 pub all_listed : (n : ℕ) (values : List (Bor (List ℕ))) (at : ℕ) (ps : List Point) → length values ≤ at →
     ListedSoFar n values at ps →
     Some ps ≡ points_by_values n (values_of values)

@@ -168,13 +168,13 @@ module _ (limit : ℕ) where
   closed_stops d (c ∷ cs) e f g = stuck closed d c cs
       (outside_none closed d c (λ h. (cc)) (λ h. (cc)) (λ h. (cc)) (λ _. refl) (λ _. refl) (λ _. refl) (λ _. refl))
 
-  -- behind a value, where no value follows
+  -- after a value, where no value follows
   pub after_is_in_node : (d : ℕ) (b : List ℕ) → begins_space b ≡ false → is_first 91 b ≡ false →
       outcome limit after d b ≡ outcome limit in_node d b
   after_is_in_node d [] e f = outcome_end after d ∙ sym (outcome_end in_node d)
   after_is_in_node d (c ∷ cs) e f = one_step after in_node d c cs (rw (e, f) refl)
 
-  -- behind the last node
+  -- after the last node
   pub in_node_is_closed : (d : ℕ) (b : List ℕ) → begins_space b ≡ false → is_first 59 b ≡ false →
       is_letter_first b ≡ false →
       outcome limit in_node d b ≡ outcome limit closed d b

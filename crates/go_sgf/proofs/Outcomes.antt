@@ -12,7 +12,7 @@ use Rattle.go_sgf.proofs.Machine as machine
 use Rattle.go_sgf.proofs.Parts.{SpellsParts-split, bracket_no_letter, name_letter}
 use Rattle.go_sgf.proofs.Passing.{values_begin, value_passed}
 
--- how far a tree is read: behind a child, behind a property's values, or before a node's first property
+-- how far a tree is read: after a child, after a property's values, or before a node's first property
 data Stage : Type 0 where
   AfterChild : Stage
   AfterValues : Stage
@@ -23,7 +23,7 @@ state_of AfterChild = closed
 state_of AfterValues = after
 state_of BeforeFirst = in_node
 
--- not behind a child
+-- not after a child
 abbrev IsInNode : Stage → Type 0
 IsInNode AfterChild = ⊥
 IsInNode _ = Unit {0}
@@ -110,7 +110,7 @@ module _ (limit : ℕ) where
       let later = later_nodes d h first.0 first.1 ns split.0 r i.1 split.2 in
       (later.0, semicolon_outcome d h o k b s.0 s.1 ∙ first.2 ∙ later.1)
 
-  -- the nodes of a tree, behind its `(`
+  -- the nodes of a tree, after its `(`
   nodes_outcome : (d : ℕ) → IsWithin limit d → (ns : List (List Property)) (b r : List ℕ) → ns ≢ [] →
       AllByRecursion (AllByRecursion IsProperty) ns →
       SpellsParts b (flat_map node_parts ns) r → (o' : Stage)
@@ -163,21 +163,21 @@ module _ (limit : ℕ) where
       let rest = SpellsParts-split (parts children) (closing ∷ parts later) split.0 r split.2 in
       let heads = nodes_outcome (suc d) within nodes s.0 split.0 i.0 i.1 split.1 in
       let inner = children_outcome children (suc d) within heads.0 split.0 rest.0 i.2 (omega arith) rest.1 in
-      let behind = rest.2 in
-      let closed_is = closing_outcome (suc d) within inner.0 rest.0 (without_space behind.0)
-      (behind.0, behind.1, refl) in
-      let after_is : outcome_after limit (suc d) (without_space behind.0) ≡ outcome limit closed d
-      (without_space behind.0) =
+      let last = rest.2 in
+      let closed_is = closing_outcome (suc d) within inner.0 rest.0 (without_space last.0)
+      (last.0, last.1, refl) in
+      let after_is : outcome_after limit (suc d) (without_space last.0) ≡ outcome limit closed d
+      (without_space last.0) =
       let more : suc d ≡ d + 1 = omega arith in
-      ap (λ k. outcome_after limit k (without_space behind.0)) more
-      ∙ out_of_child limit d h.0 (without_space behind.0) in
-      let others = children_outcome later d h AfterChild behind.0 r i.3 (omega arith) behind.2 in (
+      ap (λ k. outcome_after limit k (without_space last.0)) more
+      ∙ out_of_child limit d h.0 (without_space last.0) in
+      let others = children_outcome later d h AfterChild last.0 r i.3 (omega arith) last.2 in (
         others.0,
         opening_outcome d h (omega arith) o b s.0 s.1 ∙ heads.1 ∙ inner.1 ∙ closed_is ∙ after_is
-            ∙ sym (machine.closed_white limit d h behind.0) ∙ others.1,
+            ∙ sym (machine.closed_white limit d h last.0) ∙ others.1,
       )
 
-  -- a tree, behind its `(`
+  -- a tree, after its `(`
   pub tree_outcome : (d : ℕ) → IsWithin limit d → (nodes : List (List Property)) (children : Trees) (b r : List ℕ) →
       nodes ≢ [] →
       AllByRecursion (AllByRecursion IsProperty) nodes → AreTrees children → depth children + d ≤ limit →

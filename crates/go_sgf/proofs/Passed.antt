@@ -127,7 +127,7 @@ name_given d (c ∷ cs) b h =
 
 -- ---- bytes inside of a value
 
--- inside of a value, behind a `\` or not
+-- inside of a value, after a `\` or not
 abbrev inside_spot : Bool → Spot
 inside_spot e = if e then Escaped else Inside
 
@@ -144,7 +144,7 @@ inside_given d false (c ∷ cs) b h =
     let g = given_byte Inside d c (cs ++ b) in rw other at g in
     given_then (c ∷ []) cs first (inside_given d (c == 92) cs b both.1)
 
--- from behind a `[` to behind the `]`
+-- from after a `[` to after the `]`
 value_given : (d : ℕ) (v more : List ℕ) → IsValue v →
     Gives Inside (suc d) (v ++ (93 ∷ more)) Outside (suc d) more (v ++ (93 ∷ []))
 value_given d v more h = given_then v (93 ∷ []) (inside_given d false v (93 ∷ more) h) (given_byte Inside d 93 more)
@@ -305,7 +305,7 @@ left_out_after c cs e (suc d) some = (left_out_given d c cs e).after
 
 -- ---- parts
 
--- a part behind white space
+-- a part after white space
 spaced : (d e : ℕ) (b prefix more x : List ℕ) → without_space b ≡ prefix ++ more →
     Gives Outside (suc d) (prefix ++ more) Outside e more x → Gives Outside (suc d) b Outside e more x
 spaced d e b prefix more x same g =
@@ -417,7 +417,7 @@ trees_given (tree nodes children later) d b rest h s =
     body.1)
     (trees_given later d body.0 rest h.3 body.2))
 
--- a tree from behind its `(` on
+-- a tree from after its `(` on
 pub tree_given : (b rest : List ℕ) (t : TreeValue) → ReadsTree 1 b t rest →
     (tree_text t.0 t.1 ≡ 40 ∷ tidied_from Outside 1 b) × (rest ≡ without_space (rest_from Outside 1 b))
 tree_given b rest t r =

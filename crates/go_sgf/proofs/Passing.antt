@@ -49,7 +49,7 @@ shorter c b inside rest e h = omega (arith, ap length e)
 
 -- ---- values
 
--- the bytes of a value behind `[` up to `]`
+-- the bytes of a value after `[` up to `]`
 pub value_spelled : (b v inside more : List ℕ) → b ≡ 91 ∷ inside → inside ≡ v ++ (93 ∷ more) →
     SpellsParts b (value_part v ∷ []) (without_space more)
 value_spelled b v inside more e f =
@@ -157,13 +157,13 @@ property_shorter b p rest r =
     ∙ length-append p.name r.spelling.0 in
     omega (arith, length-after_space b)
 
--- a name, and the values behind it
-pub property_whole : (b n behind : List ℕ) (vs : List (List ℕ)) (rest : List ℕ) → b ≡ n ++ behind →
+-- a name, and the values that follow it
+pub property_whole : (b n tail : List ℕ) (vs : List (List ℕ)) (rest : List ℕ) → b ≡ n ++ tail →
     list_all is_letter_byte n ≡ true → list_any is_upper_byte n ≡ true →
-    is_letter_first b ≡ true → ReadsValues behind vs rest → ReadsProperty b (record { name = n; values = vs }) rest
-property_whole b n behind vs rest e f g letter r = record {
+    is_letter_first b ≡ true → ReadsValues tail vs rest → ReadsProperty b (record { name = n; values = vs }) rest
+property_whole b n tail vs rest e f g letter r = record {
   fit = record { named = (f, g); some = r.some; inside = r.inside };
-  spelling = (behind, letter_same b letter ∙ e, r.spelling);
+  spelling = (tail, letter_same b letter ∙ e, r.spelling);
 }
 
 -- properties of a node read so far

@@ -19,7 +19,7 @@ use Rattle.go_sgf.proofs.Standing.{MayLead, step_leads, run_more}
 
 -- ---- the end of a tree
 
--- from a state on the bytes stand unfinished up to a place, where the tree is whole, and this is left behind it
+-- from a state on the bytes stand unfinished up to a place, where the tree is whole, and this is left after it
 pub record WholeIs (s : State) (d : ℕ) (b r : List ℕ) : Type 0 where
   pub at : ℕ
   pub within : at ≤ length b
@@ -100,7 +100,7 @@ after_space-append (c ∷ cs) xs e = elim (cases_Bool (is_space c)) [
   | inr w ↦ rw (after_space_stop c cs w, after_space_stop c (cs ++ xs) w) refl
 ]
 
--- more of the text behind what is spelled
+-- more of the text after what is spelled
 SpellsParts-longer : (ps : List Part) (b r xs : List ℕ) → begins_space xs ≡ false → SpellsParts b ps r →
     SpellsParts (b ++ xs) ps (r ++ xs)
 SpellsParts-longer [] b r xs e h = after_space-append b xs e ∙ ap (λ ys. ys ++ xs) h
@@ -116,7 +116,7 @@ ends_some b e =
     let is : without_space b ++ (41 ∷ []) ≡ [] = sym (after_space-append b (41 ∷ []) refl) ∙ e in
     push_some (without_space b) 41 is
 
--- a tree's `)` behind its nodes and its children, and what follows it
+-- a tree's `)` after its nodes and its children, and what follows it
 pub tree_closed : (nodes : List (List Property)) (children : Trees) (ps : List Part) (inner after r : List ℕ) →
     SpellsParts inner (flat_map node_parts nodes ++ parts children) [] → SpellsParts after ps r →
     SpellsParts (inner ++ (41 ∷ after)) (flat_map node_parts nodes ++ (parts children ++ (closing ∷ ps))) r

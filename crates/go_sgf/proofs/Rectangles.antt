@@ -232,7 +232,7 @@ row_more row k =
     ap (flat_map row) (range_more k) ∙ flat_map-append row (range_with_len 0 k) (k ∷ [])
     ∙ ap (λ xs. flat_map row (range_with_len 0 k) ++ xs) (append-nil (row k))
 
--- one row more behind others
+-- one row more after others
 pub row_pushed : {X : Type 0} (row : ℕ → List X) (k : ℕ) (old now new one : List X) → now ≡ old
     ++ flat_map row (range_with_len 0 k) → one ≡ row k →
     new ≡ now ++ one → new ≡ old ++ flat_map row (range_with_len 0 (k + 1))

@@ -11,7 +11,7 @@ use Rattle.go_sgf.proofs.Parts.{SpellsParts-split, after_space-same, no_space_af
 use Rattle.go_sgf.proofs.Passed.{tree_given}
 use Rattle.go_sgf.proofs.Stops.{from_tree_begins, tree_begins, begins_no_space}
 
--- a first tree, and the parts behind it
+-- a first tree, and the parts that follow it
 first_split : (nodes : List (List Property)) (children later : Trees) (ps : List Part) (b end : List ℕ) →
     SpellsParts b ((flat_map node_parts nodes ++ (parts children ++ (closing ∷ parts later))) ++ ps) end →
     (mid : List ℕ) × SpellsParts b (flat_map node_parts nodes ++ (parts children ++ (closing ∷ []))) mid

@@ -79,7 +79,7 @@ letters_same (c ∷ cs) (d ∷ ds) a b h k e f g =
     (and_parts (is_letter_byte d) (list_all is_letter_byte ds) k).1 tail f g in
     (cc (later.0), later.1)
 
--- behind a name comes no letter
+-- no letter follows a name
 no_letter : (vs : List (List ℕ)) (b r : List ℕ) → vs ≢ [] → SpellsParts b (map value_part vs) r →
     is_letter_first b ≡ false
 no_letter [] b r some s = absurd (some refl)
@@ -112,7 +112,7 @@ no_bracket (p ∷ ps) b r i w s e = no_bracket_at p b s.0 i.0 (sym (after_space-
     no_bracket_at : (p : Property) (b more : List ℕ) → IsProperty p → b ≡ p.name ++ more → is_first 91 b ≡ false
     no_bracket_at p b more h is = rw is (letter_no_bracket (p.name ++ more) (name_letter p.name more h.named))
 
--- what begins a node's rest, behind its properties: no letter and no `[`
+-- what begins a node's rest, after its properties: no letter and no `[`
 pub record EndsNode (b : List ℕ) : Type 0 where
   pub letter : is_letter_first b ≡ false
   pub bracket : is_first 91 b ≡ false
@@ -142,7 +142,7 @@ properties_same (p ∷ ps) (q ∷ qs) b r u i j s t e f =
 
 -- ---- nodes
 
--- what begins a tree's rest, behind its nodes
+-- what begins a tree's rest, after its nodes
 pub record EndsNodes (b : List ℕ) : Type 0 where
   pub node : EndsNode b
   pub semicolon : is_first 59 b ≡ false
@@ -227,7 +227,7 @@ trees_same (tree ns cs later) (tree ms ds after) b r u i j s t e f =
     (close_ends (parts after) right'.0 u (no_space_after (parts ds) left.0 right'.0 right'.1) right'.2) in
     let close = left'.2 in
     let close' = right'.2 in
-    let behind : 41 ∷ close.0 ≡ 41 ∷ close'.0 = sym close.1 ∙ ap without_space children.1 ∙ close'.1 in
+    let parts_after : 41 ∷ close.0 ≡ 41 ∷ close'.0 = sym close.1 ∙ ap without_space children.1 ∙ close'.1 in
     let rest : close.0 ≡ close'.0 = cc in
     let R : List ℕ → Type 0 = λ x. SpellsParts x (parts after) u in
     let others = trees_same later after close.0 r u i.3 j.3 close.2 (subst R (sym rest) close'.2) e f in (

@@ -23,7 +23,7 @@ some_content (Some name) = (missing, (name, missing) ∷ [], refl)
 abbrev pub SomeConversation : Standing → List (List ℕ) → Type 0
 SomeConversation s lines = (asked : List Pair) × (text : List ℕ) × Conversation s lines asked text
 
--- a reply that ends the session, or one behind which it goes on
+-- a reply that ends the session, or one after which it goes on
 pub some_more : (s : Standing) (line : List ℕ) (lines : List (List ℕ)) (content : Content) (asked : List Pair)
     (reply : Said) (stop : Bool) →
     AsksShelf (wanted (kept line)) content asked → Reply s (kept line) content reply → reply.ends ≡ stop →

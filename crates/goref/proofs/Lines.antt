@@ -10,7 +10,7 @@ use Rattle.memchr.specs.Find.{IsFirstByte, is_byte}
 use Rattle.goref.specs.Lines.{is_line_end, all_but_last, last_part, complete_lines, unfinished_line, if_any, lines}
 use Rattle.goref.specs.inner.Progress.{HasNoEnd}
 
--- the parts with others behind them, the last of them going on in the first of the others
+-- the parts followed by others, the last of them going on in the first of the others
 abbrev going_on : List (List ℕ) → List ℕ → List (List ℕ) → List (List ℕ)
 going_on parts first rest = all_but_last parts ++ (last_part parts ++ first) ∷ rest
 

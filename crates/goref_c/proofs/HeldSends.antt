@@ -1,4 +1,4 @@
--- What is behind a handle may go to another thread.
+-- What a handle leads to may go to another thread.
 use denote.Builtin.{u8}
 use denote.Param.Send.{IsSend, sendable, view_send}
 use Rattle.std.proofs.Crossing.{Vec-send, frees, send}

@@ -1,4 +1,4 @@
--- The first word of a text, and what stands behind it.
+-- The first word of a text, and what follows it.
 use Rattle.std.proofs.Common.{◌≡◌, ◌∙◌, ℕ, suc, ◌+◌, Bool, true, false, not, cond, nat_eq, List, [], ◌∷◌, length, take, drop, refl, sym, ap, arith}
 use Rattle.std.specs.Prelude.{filter}
 use Rattle.std.specs.List.{slice_split, onto_first, prefix_len}
@@ -41,7 +41,7 @@ words_after_spaces (b ∷ text) =
     words_after_spaces-cons (is_plain_space b) b text _ refl (words_after_spaces text)
     ∙ ap words (sym (after_spaces-cons (is_plain_space b) b text (prefix_len is_plain_space text)))
 
--- the parts of a text are its first word, and others that have the words behind it
+-- the parts of a text are its first word, and others that have the words after it
 abbrev HasFirst : List ℕ → ℕ → List (List ℕ) → Type 0
 HasFirst text n parts = (rest : List (List ℕ)) × (parts ≡ take n text ∷ rest)
     × (filter has_bytes rest ≡ words (drop n text))
@@ -57,7 +57,7 @@ has_first [] = ([], refl, refl)
 has_first (b ∷ text) = has_first-cons (is_plain_space b) b text (word_len text) (slice_split is_plain_space text) refl
     refl (has_first text)
 
--- no word is left only where nothing stands behind the first spaces
+-- no word is left only where nothing follows the first spaces
 blank_is_empty-cons : (s : Bool) (b : ℕ) (text after : List ℕ) → is_plain_space b ≡ s →
     (first_word after ≡ [] → after ≡ []) →
     first_word (cond s after (b ∷ text)) ≡ [] → cond s after (b ∷ text) ≡ []

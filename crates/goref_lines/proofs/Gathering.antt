@@ -15,7 +15,7 @@ use Rattle.goref_lines.specs.declared.stones.ListError.TheVariants.{Bad}
 use Rattle.goref_lines.specs.Stones.{are_distinct, is_free_handicap, point_on, points_on, stones_at, stones_of, with_first}
 use Rattle.goref_lines.specs.inner.Gathered.{AreApart, Gathered, may_follow, comes_from, gathers}
 
--- a number that stands among others is not distinct behind them
+-- a number that stands among others is not distinct after them
 twice : (xs ys : List ℕ) (y : ℕ) → list_any (λ x. x == y) xs ≡ true → are_distinct (xs ++ y ∷ ys) ≡ false
 twice [] ys y e = cc
 twice (x ∷ xs) ys y e = grind (arith, common_steps, nat_tests, list_any-append, twice xs ys y)

@@ -20,7 +20,7 @@ abbrev pub has_parts : List (List ℕ) → Bool
 has_parts [] = false
 has_parts (part ∷ parts) = true
 
--- a byte behind an empty last part is a new word
+-- a byte after an empty last part is a new word
 filter_new : (b : ℕ) (parts : List (List ℕ)) → ends_empty parts ≡ true →
     filter has_bytes (onto_last b parts) ≡ filter has_bytes parts ++ (b ∷ []) ∷ []
 filter_new b [] e = refl
@@ -41,7 +41,7 @@ onto_last_after : (b : ℕ) (word : List ℕ) (ws : List (List ℕ)) → HasPart
 onto_last_after b word [] h = cc h.2
 onto_last_after b word (w ∷ ws) h = refl
 
--- a byte behind another goes to the last word
+-- a byte after another goes to the last word
 filter_last : (b : ℕ) (parts : List (List ℕ)) → ends_empty parts ≡ false →
     filter has_bytes (onto_last b parts) ≡ onto_last b (filter has_bytes parts)
 filter_last b [] e = cc
@@ -108,7 +108,7 @@ ends_empty_is prefix b true e = ap ends_empty (slice_split_push_yes is_plain_spa
 ends_empty_is prefix b false e = ap ends_empty (slice_split_push_no is_plain_space prefix b e)
     ∙ ends_empty-onto_last b (slice_split is_plain_space prefix)
 
--- a space stands behind a word
+-- a space follows a word
 abbrev pub has_trailing_space : List ℕ → Bool
 has_trailing_space text = has_bytes (single_spaced text) && ends_with_space text
 

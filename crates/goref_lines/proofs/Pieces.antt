@@ -140,7 +140,7 @@ has_bytes_after [] true b = refl
 has_bytes_after [] false b = refl
 has_bytes_after (c ∷ text) has_space b = refl
 
--- behind a text with words, which ends with a space where one is due, these bytes join as they are
+-- after a text with words, which ends with a space where one is due, these bytes join as they are
 abbrev Joins : Bool → List ℕ → List ℕ → Type 0
 Joins has_space bytes text = (single_spaced (text ++ bytes) ≡ single_spaced text ++ with_space has_space bytes)
     × (has_trailing_space (text ++ bytes) ≡ false)
@@ -250,7 +250,7 @@ kept_words line (b ∷ word) k seen text is_long none joined grows =
     ∙ ap plain (sym all)
     ∙ sym (plain_is (line ++ b ∷ word) any')
 
--- joined words go on where a word goes on, or another follows behind a single space
+-- joined words go on where a word goes on, or another follows after a single space
 pub joined_append : (after : Bool) (bytes more : List ℕ) → goes_on_joined after bytes ≡ true →
     goes_on_joined true more ≡ true → goes_on_joined after (bytes ++ more) ≡ true
 joined_append after [] more h g = ap (λ a. goes_on_joined a more) h ∙ g
@@ -277,7 +277,7 @@ joined_push bytes zero b more e h =
 joined_push bytes (suc n) b more e h =
     subst AreJoined (sym more) (joined_append false (take (suc n) bytes) (b ∷ []) (h (omega arith)) (word_joined b e))
 
--- the first byte of another word, behind a single space
+-- the first byte of another word, after a single space
 pub joined_push_word : (bytes : List ℕ) (n b : ℕ) → take (n + 1 + 1) bytes ≡ take (n + 1) bytes ++ b ∷ [] →
     take (n + 1) bytes ≡ take n bytes ++ 32 ∷ [] → is_word_byte b ≡ true → AreJoined (take n bytes) →
     AreJoined (take (n + 1 + 1) bytes)
@@ -286,7 +286,7 @@ joined_push_word bytes n b more space e h =
     (joined_append false (take n bytes) (32 ∷ b ∷ []) h
     (ap (λ w. if w then true else ((is_plain_space b && false) && false)) e))
 
--- what stands up to the last byte of a word is joined, and a single space at most stands behind it
+-- what stands up to the last byte of a word is joined, and a single space at most follows it
 pub record JoinedUpTo (bytes : List ℕ) (end place : ℕ) : Type 0 where
   pub within : end ≤ place
   pub joined : 0 < end → AreJoined (take end bytes)
@@ -429,7 +429,7 @@ has_bytes_by_length (b ∷ text) h = refl
 is_more : (limit : ℕ) (text : List ℕ) → nat_lt limit (length text) ≡ true → limit < length text
 is_more limit text e = grind (arith, nat_tests)
 
--- behind a line that is longer than a line may be no more is kept
+-- after a line that is longer than a line may be no more is kept
 pub kept_after : (line bytes : List ℕ) (k : Kept) → k ≡ kept line → k.is_long ≡ true → k.has_comment ≡ false →
     list_any is_hash (printable bytes) ≡ false →
     record k { has_space = space_after k.has_space (last_of (printable bytes)) } ≡ kept (line ++ bytes)
@@ -597,7 +597,7 @@ kept_gap (b ∷ gap) line k seen none between =
         ∙ gone (kept_space line b k seen none e (space_no_hash b s) s) ∙ ap kept (append_assoc line (b ∷ []) gap)
     at false false e s or over gone = cc or
 
--- behind a word, and with no white space yet behind that, a gap says whether there is any
+-- after a word that no white space follows yet, a gap says whether there is any
 pub kept_gap_after_word : (gap line : List ℕ) (k : Kept) → k ≡ kept line → k.has_comment ≡ false →
     AreBetweenWords gap →
     k.has_space ≡ false → nat_eq (length k.text) 0 ≡ false →
@@ -618,7 +618,7 @@ spaced_after_words line k seen =
     (sym (has_bytes-take LINE_LIMIT (single_spaced (cleaned line)) (lit< tt))
     ∙ ap (λ (x : Kept). has_bytes x.text) (sym seen) ∙ has_bytes_is k.text)
 
--- where white space came behind a word already, or no word came yet, a gap changes nothing
+-- where white space came after a word already, or no word came yet, a gap changes nothing
 pub kept_gap_same : (gap line : List ℕ) (k : Kept) → k ≡ kept line → k.has_comment ≡ false → AreBetweenWords gap →
     (k.has_space ≡ true) ⊎ (nat_eq (length k.text) 0 ≡ true) → k ≡ kept (line ++ gap)
 kept_gap_same gap line k seen none between either =

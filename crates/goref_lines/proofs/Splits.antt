@@ -15,7 +15,7 @@ first_then_last x y [] = refl
 first_then_last x y (part ∷ []) = refl
 first_then_last x y (part ∷ next ∷ parts) = refl
 
--- some list, with others behind it
+-- some list, with others after it
 abbrev pub HasParts : {X : Type 0} → List (List X) → Type 0
 HasParts {X} parts = (first : List X) × (rest : List (List X)) × (parts ≡ first ∷ rest)
 

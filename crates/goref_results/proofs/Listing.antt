@@ -146,7 +146,7 @@ joined_some : {X : Type 0} (f : X → List ℕ) → ((x : X) → IsText (f x)) �
 joined_some f h x [] = h x
 joined_some f h x (y ∷ xs) = text_append (f x) (32 ∷ join_with_byte 32 (map f (y ∷ xs))) (h x)
 
--- texts joined by spaces, and behind one
+-- texts joined by spaces, after one
 pub result_spaced : {X : Type 0} (f : X → List ℕ) → ((x : X) → IsText (f x)) → (xs : List X) →
     flat_map (λ x. 32 ∷ f x) xs ≡ result_text (join_with_byte 32 (map f xs))
 result_spaced f h [] = refl

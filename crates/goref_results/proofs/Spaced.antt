@@ -1,4 +1,4 @@
--- Vertices behind spaces, as a result.
+-- Vertices after spaces, as a result.
 use Rattle.std.proofs.Common.{◌≡◌, ℕ, List, decimal, ◌+◌, refl}
 use Rattle.std.specs.List.{flat_map}
 use Rattle.go_board.specs.Points.{point_at}

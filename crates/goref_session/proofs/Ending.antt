@@ -54,7 +54,7 @@ no_gap s b (c ∷ bs) more h e f =
     not_broken bs (ap (λ t. after t bs) (sym (ap (step (step s b)) f ∙ ap (λ d. step (step s d) 10) e ∙ gap_breaks s))
     ∙ h)
 
--- the first line end behind a line end is the last byte
+-- the first line end after a line end is the last byte
 first_gap : (s : LineState) (body prefix back : List ℕ) → after s body ≡ within → body ++ 10 ∷ 10 ∷ [] ≡ prefix
     ++ 10 ∷ 10 ∷ back → back ≡ []
 first_gap s [] [] back h e = sym (ap (drop 2) e)
@@ -82,7 +82,7 @@ plain_text s (x ∷ xs) h = (by_test (cases_Bool (nat_le 32 x)) (cases_Bool (x =
 
 -- ---- answers
 
--- a text with which a line goes on, not begun by a line end, and two line ends behind it
+-- a text with which a line goes on, not begun by a line end, and two line ends after it
 record IsAnswer (text : List ℕ) : Type 0 where
   begins : (rest : List ℕ) → text ≢ 10 ∷ rest
   body : List ℕ

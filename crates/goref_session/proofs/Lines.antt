@@ -4,7 +4,7 @@ use Rattle.std.specs.Prelude.{◌==◌, if◌then◌else◌, nat_le, filter}
 use Rattle.std.specs.List.{AllByRecursion, flat_map, join_with_byte, list_all}
 use Rattle.std.proofs.lemmas.Bool.{and_parts, le-leb, leb-true}
 
--- where a reader of a text stands: within a line, behind a line end, or past an empty line or another control byte
+-- where a reader of a text stands: within a line, after a line end, or past an empty line or another control byte
 pub data LineState : Type 0 where
   within : LineState
   ended : LineState
@@ -103,7 +103,7 @@ line_from : (s : LineState) → by_plain s ≡ within → (xs : List ℕ) → Is
 line_from s e [] full = absurd (full.some refl)
 line_from s e (x ∷ xs) full = rw (le-leb 32 x full.line.0) (ap (λ t. after t xs) e ∙ line_goes_on xs full.line.1)
 
--- a full line behind a line end
+-- a full line after a line end
 pub line_after : (xs : List ℕ) → IsFull xs → GoesOn (10 ∷ xs)
 line_after xs full = line_from ended refl xs full
 

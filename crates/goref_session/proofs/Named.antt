@@ -32,7 +32,7 @@ found_here entries k name d low same =
     (cond b (Some (named (get_or entries k d))) (find (λ n. bytes_eq name n.0) (map named (drop (k + 1) entries)))))
     same
 
--- the names, the first behind this byte and the others behind line ends
+-- the names, the first after this byte and the others after line ends
 abbrev pub listed : ℕ → List Named → List ℕ
 listed before [] = []
 listed before (n ∷ ns) = before ∷ (n.0 ++ listed 10 ns)

@@ -25,7 +25,7 @@ impl<A: Allocator> Shelf<A> for NoFiles {
 
 /// The default size of a session.
 fn usual(rt: &impl Abort) -> Size {
-    Size::new(19).expect(rt, "a board has so many lines")
+    Size::new(19).expect(rt, "a board may have 19 lines")
 }
 
 /// Whether a script is answered by this text, however its bytes come in and the answers leave.

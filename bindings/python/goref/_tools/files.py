@@ -15,7 +15,7 @@ MOST = 268_435_456
 def records_in(path: str) -> Iterator[Union[str, Fault]]:
     """The files that a path names: itself, or each `*.sgf` of a folder and of the folders in it, in a fixed order.
 
-    What can't be looked into comes as its fault in the place where it stands. Folders behind links are left out.
+    What can't be looked into comes as its fault in the place where it stands. It follows no link to a folder.
     """
     if path == "-" or not os.path.isdir(path):
         yield path

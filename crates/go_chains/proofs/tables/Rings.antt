@@ -128,7 +128,7 @@ through_first next next' m a n b s (suc k) below =
     ap next' (through_first next next' m a n b s k (omega arith))
     ∙ in_first next next' m a n b s (suc k) (omega arith) (omega arith)
 
--- where so many steps from a lead on the new ring
+-- where a number of steps leads to, from a lead of the new ring on
 pub from_second : (next next' : ℕ → ℕ) (m a n b : ℕ) → IsSplice next next' m a n b → (i : ℕ) → 0 < i → i ≤ n →
     steps next' i a ≡ steps next i b
 from_second next next' m a n b s i above below =

@@ -14,7 +14,7 @@ take_place n v x = elim (cases_eq x n)
 abbrev placed : ℕ → ℕ → (ℕ → ℕ) → ℕ → ℕ
 placed n k f i = (take_place n (f k) (f i)).0
 
--- so many numbers, no two alike and each below n, are at most n
+-- of distinct numbers below n there are at most n
 pub at_most : (n k : ℕ) (f : ℕ → ℕ) → ((i : ℕ) → i < k → f i < n) → ((i j : ℕ) → i < k → j < k → f i ≡ f j → i ≡ j) →
     k ≤ n
 at_most n zero f below apart = omega arith

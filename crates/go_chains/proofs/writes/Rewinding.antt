@@ -90,7 +90,7 @@ one_gained old new before after lengths lengths' log most whole is logged longer
     ∙ ap (λ l. plays_of (lengths ++ length logged.added ∷ []) l) logged.grown
     ∙ plays_of-append lengths before logged.added whole ∙ ap (λ l. l ++ logged.added ∷ []) is
 
--- what contracts see of a board of so many lines with these cells
+-- what contracts see of a board of this size with these cells
 abbrev pub board_with : ℕ → CellsValue → BoardValue
 board_with n cells = record { lines = n; cells = cells.numbers; trace = cells.trace }
 

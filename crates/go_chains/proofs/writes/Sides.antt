@@ -13,7 +13,7 @@ use Rattle.go_chains.proofs.writes.Neighbours.{are_beside_by_number}
 abbrev pub lone : {A : Type 0} → Bool → A → List A
 lone there a = if there then a ∷ [] else []
 
--- four that may be there, one behind the other
+-- four that may be there, in order
 abbrev pub four : {A : Type 0} → (b₁ b₂ b₃ b₄ : Bool) (a₁ a₂ a₃ a₄ : A) → List A
 four b₁ b₂ b₃ b₄ a₁ a₂ a₃ a₄ = ((lone b₁ a₁ ++ lone b₂ a₂) ++ lone b₃ a₃) ++ lone b₄ a₄
 

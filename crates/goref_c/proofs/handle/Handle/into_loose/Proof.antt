@@ -1,4 +1,4 @@
--- `into_loose` tests the pointer, and what lies behind it goes with it.
+-- `into_loose` tests the pointer, and what it points to goes with it.
 use Rattle.std.proofs.Common.{◌≡◌, List, [], ◌∷◌, ◌++◌, refl, sym, ap, ◌∙◌, subst, lit<}
 use mir.Val.{Val, vptr, vcons, vnil}
 use base.Logic.{SProp, ent, emp, id⊢}
