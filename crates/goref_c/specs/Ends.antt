@@ -17,8 +17,8 @@ use Rattle.goref_session.specs.Starts.{begun}
 use Rattle.goref_tools.specs.Judging.{verdict_text}
 use Rattle.goref_tools.specs.Tools.{HasNoGame}
 
--- The count is that of a text, and the room has the text, or as much of it as it has place for. Behind the text it
--- is as before.
+-- The count is the length of a text. The room begins with the text, or with as much of it as fits, and its rest is as
+-- before.
 pub record IsText (text room room' : List ℕ) (count : ℕ) : Type 0 where
   pub whole : count ≡ length text
   pub shown : room' ≡ take (length room) text ++ drop (length text) room
