@@ -17,6 +17,9 @@ Files = Union[
 
 _MOST = 16_777_216
 
+_NO_MEMORY = "out of memory"
+"""goref's reason for a command that it has no memory for."""
+
 # goref removes these from each line before it looks for words.
 _CONTROLS = bytes(byte for byte in [*range(32), 127] if byte not in b"\t\n")
 
@@ -36,7 +39,7 @@ class Session:
         self._lock = threading.RLock()
         self._is_over = False
         if self._library.goref_open(size, ctypes.byref(self._handle)) != 0:
-            raise OutOfMemory("out of memory")
+            raise OutOfMemory(_NO_MEMORY)
 
     def __enter__(self) -> "Session":
         return self
@@ -82,7 +85,11 @@ class Session:
             return b"".join(told)
 
     def ask(self, command: Union[str, Bytes], files: Files = None) -> str:
-        """The result of one command. Raises `Refused`, with goref's reason, where the session refuses it."""
+        """The result of one command.
+
+        Raises `Refused`, with goref's reason, if the session refuses the command, and `OutOfMemory` if goref lacks
+        memory: for the command, which then changed nothing (its answer is `? out of memory`), or as `send` does.
+        """
         line = command.encode("utf-8") if isinstance(command, str) else bytes_of("command", command)
         if b"\n" in line.rstrip(b"\n"):
             raise ValueError("command has several lines: send answers those")
@@ -91,7 +98,8 @@ class Session:
                 raise SessionOver("the session is over")
             answer = self.send(line, files).decode("utf-8", "replace").strip()
         if answer.startswith("?"):
-            raise Refused(answer.partition(" ")[2])
+            reason = answer.partition(" ")[2]
+            raise OutOfMemory(reason) if reason == _NO_MEMORY else Refused(reason)
         return answer[1:].lstrip("0123456789").strip()
 
     def _send(self, text: bytes, file: Optional[bytes] = None) -> int:
@@ -117,7 +125,7 @@ class Session:
             raise SessionOver("the session was closed")
         taken, text = text_in_room(64 + place, self._library.goref_take, ctypes.byref(self._handle))
         if status == 3:
-            raise OutOfMemory("out of memory", b"".join(before) + text)
+            raise OutOfMemory(_NO_MEMORY, b"".join(before) + text)
         if taken != 0 or status not in (0, 1):
             raise GorefError(f"libgoref answered with the status {taken or status}")
         return text

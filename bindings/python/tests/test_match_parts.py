@@ -7,27 +7,14 @@ import pytest
 from hypothesis import given
 from hypothesis import strategies as some
 
-import goref
 from goref._tools.faults import Fault, WrongWords
 from goref._tools.match_log import Log
 from goref._tools.match_outcome import Outcome, Times, line_of, outcome_of
-from goref._tools.match_settings import Settings, asked
+from goref._tools.match_settings import Settings
 from goref._tools.match_table import Tally, table_of, tallies_of, wilson
 from goref._tools.responses import BadResponse, Incoming, Response, in_short
 
 SETTINGS = Settings(("first", "second"), 9, "7.5", 0, "positional", None)
-
-
-class OutOfMemory:
-    """A session whose every answer lacks memory."""
-
-    def ask(self, line, files):
-        raise goref.Refused("out of memory")
-
-
-def test_a_lack_of_memory_is_no_illegal_move():
-    with pytest.raises(MemoryError):
-        asked(OutOfMemory(), "play b A1")
 
 
 def outcome(number=1, result="B+7.5", end="score", black=Times(), white=Times(), reason=None):

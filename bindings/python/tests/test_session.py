@@ -2,11 +2,14 @@
 
 import gc
 import os
+import subprocess
+import sys
 import threading
 
 import pytest
 
 import goref
+from kit.runner import environment
 
 RECORD = b"(;SZ[3];B[bb])"
 
@@ -123,3 +126,22 @@ def test_a_session_that_is_let_go_is_closed(monkeypatch):
     goref.Session()
     gc.collect()
     assert len(closed) == 1
+
+
+def test_a_lack_of_memory_is_no_refusal():
+    """In a process that may take little more than it has, the record of a long game finds no memory."""
+    text = """
+import resource, goref
+game = goref.Session()
+record = b"(;" + b";B[];W[]" * 1_900_000 + b")"
+with open("/proc/self/statm") as file:
+    taken = int(file.read().split()[0]) * resource.getpagesize()
+resource.setrlimit(resource.RLIMIT_AS, (taken + 40_000_000, resource.RLIM_INFINITY))
+try:
+    game.ask("loadsgf x", {b"x": record})
+except goref.GorefError as why:
+    print(type(why).__name__, why, isinstance(why, MemoryError))
+print(game.ask("protocol_version"))
+"""
+    end = subprocess.run([sys.executable, "-c", text], capture_output=True, env=environment(), timeout=60)
+    assert (end.stdout.decode(), end.stderr) == ("OutOfMemory out of memory True\n2\n", b"")

@@ -5,7 +5,6 @@ from contextlib import contextmanager
 from typing import Iterator, List, NamedTuple, Optional, Tuple
 
 import goref
-from goref._tools.asking import asked
 from goref._tools.spelling import COLUMNS, main_line, vertex_of
 
 _HEADING = re.compile(r"size (\d+) komi (\S+) prisoners B (\d+) W (\d+) moves (\d+) next ([BW])")
@@ -54,18 +53,18 @@ def playing(record: bytes, moves: Optional[int] = None) -> Iterator[goref.Sessio
     """A session in which the first moves of a record stand, or all. Raises Refused where goref can't load them."""
     line = "loadsgf game" if moves is None else f"loadsgf game {moves + 1}"
     with goref.Session() as session:
-        asked(session, line, {b"game": record})
+        session.ask(line, {b"game": record})
         yield session
 
 
 def shown(session: goref.Session) -> Board:
     """The board that stands."""
-    return board_of(asked(session, "showboard"))
+    return board_of(session.ask("showboard"))
 
 
 def played(session: goref.Session) -> List[Move]:
     """The moves that stand."""
-    nodes = main_line(asked(session, "goref-printsgf").encode("utf-8"))
+    nodes = main_line(session.ask("goref-printsgf").encode("utf-8"))
     size = int(nodes[0].first("SZ") or b"19")
     return [
         Move(one.name, vertex_of(one.values[0], size)) for node in nodes for one in node.properties if one.name in "BW"
@@ -83,7 +82,7 @@ def boards_back(session: goref.Session) -> Iterator[Board]:
     board = shown(session)
     yield board
     while board.moves:
-        asked(session, "undo")
+        session.ask("undo")
         board = shown(session)
         yield board
 
@@ -105,7 +104,7 @@ def stars_of(size: int) -> List[str]:
     with goref.Session(size) as session:
         for number in (5 if size in (9, 13) else 9, 4):
             try:
-                return asked(session, f"fixed_handicap {number}").split()
+                return session.ask(f"fixed_handicap {number}").split()
             except goref.Refused:
                 continue
     return []

@@ -6,7 +6,6 @@ import re
 from typing import Awaitable, Callable, Dict, List, NamedTuple, Optional, Set
 
 import goref
-from goref._tools.asking import asked
 from goref._tools.engine import Engine, EngineFailed, EngineLate
 from goref._tools.faults import shown
 from goref._tools.match_outcome import Outcome, Times
@@ -68,7 +67,7 @@ class Game:
                 ended = await self._play()
             except _End as end:
                 ended = end
-            printed = asked(self._session, "goref-printsgf") if self._is_set_up else None
+            printed = self._session.ask("goref-printsgf") if self._is_set_up else None
         outcome = Outcome(
             self._number, self._commands, ended.result, ended.end, ended.reason, self._moves, self._times, date
         )
@@ -79,7 +78,7 @@ class Game:
         settings = self._settings
         stones = []
         if settings.handicap:
-            stones.append("set_free_handicap " + asked(self._session, f"fixed_handicap {settings.handicap}"))
+            stones.append("set_free_handicap " + self._session.ask(f"fixed_handicap {settings.handicap}"))
             self._next = WHITE
         stones += self._opened()
         for came in await asyncio.gather(
@@ -105,7 +104,7 @@ class Game:
         opening = self._settings.opening_of(self._number)
         lines = []
         for colour, vertex in opening.moves if opening else ():
-            asked(self._session, f"play {colour} {vertex}")
+            self._session.ask(f"play {colour} {vertex}")
             self._count(vertex)
             self._next = other(colour)
             lines.append(f"play {colour} {vertex}")
@@ -152,7 +151,7 @@ class Game:
             if vertex == "resign":
                 return _End(f"{other(colour).upper()}+R", "resignation")
             if self._passes == 2:
-                return _End(asked(self._session, "final_score"), "score")
+                return _End(self._session.ask("final_score"), "score")
             colour = other(colour)
             await self._order(colour, f"play {other(colour)} {vertex}")
         return _End(None, "none", f"the game had no end after {self._moves} moves")
@@ -181,7 +180,7 @@ class Game:
         if not _WORD.fullmatch(vertex):
             raise self._no_vertex(colour, said)
         try:
-            asked(self._session, f"play {colour} {vertex}")
+            self._session.ask(f"play {colour} {vertex}")
         except goref.Refused as why:
             if str(why) == "syntax error":
                 raise self._no_vertex(colour, said) from None
@@ -198,7 +197,7 @@ class Game:
         value = _value_of(vertex, self._settings.size)
         if value is None:
             return "off the board"
-        record = asked(self._session, "goref-printsgf")[:-1] + f";{colour.upper()}[{value}])"
+        record = self._session.ask("goref-printsgf")[:-1] + f";{colour.upper()}[{value}])"
         try:
             goref.judge(record.encode("utf-8"))
         except goref.Refused as why:

@@ -4,7 +4,6 @@ import os
 from typing import List, Tuple
 
 import goref
-from goref._tools.asking import asked
 from goref._tools.doubts import doubt_of
 from goref._tools.faults import Fault, shown
 from goref._tools.files import records_in
@@ -41,10 +40,10 @@ def moves_of(record: bytes, size: int) -> List[Tuple[str, str]]:
     """The moves of a record's game, as goref replays it. Raises ValueError where it is no opening on such a board."""
     with goref.Session() as session:
         try:
-            asked(session, "loadsgf opening", {b"opening": record})
+            session.ask("loadsgf opening", {b"opening": record})
         except goref.Refused:
             raise ValueError(_why(record)) from None
-        start, *moves = main_line(asked(session, "goref-printsgf").encode("utf-8"))
+        start, *moves = main_line(session.ask("goref-printsgf").encode("utf-8"))
     if start.first("SZ") != str(size).encode("ascii"):
         raise ValueError(f"its board isn't of {size} lines")
     if start.first("AB") is not None or start.first("AW") is not None:

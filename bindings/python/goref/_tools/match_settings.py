@@ -6,7 +6,6 @@ import re
 from typing import Any, Dict, List, NamedTuple, Optional, Sequence, Tuple
 
 from goref import BadSize, Refused, Session
-from goref._tools.asking import asked
 from goref._tools.faults import WrongWords
 
 BLACK, WHITE = "b", "w"
@@ -78,8 +77,8 @@ class Settings(NamedTuple):
 def session_of(settings: Settings) -> Session:
     """A session with the size, the komi and the superko rule of a match. Raises Refused, or BadSize."""
     session = Session(settings.size)
-    asked(session, f"komi {settings.komi}")
-    asked(session, f"goref-superko {settings.superko}")
+    session.ask(f"komi {settings.komi}")
+    session.ask(f"goref-superko {settings.superko}")
     return session
 
 
@@ -96,7 +95,7 @@ def checked(settings: Settings) -> Settings:
         _ordered(session, f"komi {settings.komi}", f"--komi {settings.komi}")
         if settings.handicap:
             _ordered(session, f"fixed_handicap {settings.handicap}", f"--handicap {settings.handicap}")
-        komi = _KOMI.search(asked(session, "goref-printsgf"))
+        komi = _KOMI.search(session.ask("goref-printsgf"))
     assert komi
     return settings._replace(komi=komi[1])
 
@@ -104,6 +103,6 @@ def checked(settings: Settings) -> Settings:
 def _ordered(session: Session, line: str, words: str) -> None:
     """Has goref answer a line, or tells which words of the command line it refuses."""
     try:
-        asked(session, line)
+        session.ask(line)
     except Refused as why:
         raise WrongWords(f"{words}: {why}") from None
