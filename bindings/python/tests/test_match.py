@@ -1,73 +1,28 @@
 """Whole matches, most of them between stand-ins for engines."""
 
+import argparse
 import asyncio
 import json
 import os
-import resource
 import shlex
 import shutil
 import signal
-import subprocess
-import sys
 import time
 
 import pytest
 
 import goref
 from goref._tools import engine as engine_module
-from goref._tools import match_run
+from goref._tools import match_keeper
 from goref._tools.main import main
 from goref._tools.match_game import Played
 from goref._tools.match_outcome import Outcome, Times
 from goref._tools.match_record import Differs, record_of
 from goref._tools.match_settings import Settings
 from goref._tools.spelling import main_line, simple_text_of
+from goref._tools.words import match as match_word
+from kit.matches import PASS, command, engine, in_the_foreground, lines_in, match, numbers_in, wait_for
 from running import is_gone
-
-HERE = os.path.dirname(os.path.abspath(__file__))
-
-
-def engine(*words):
-    return shlex.join([sys.executable, "-I", "-S", os.path.join(HERE, "engines.py"), *map(str, words)])
-
-
-PASS = engine()
-
-
-class Match:
-    """Matches on a small board, with a log and records."""
-
-    def __init__(self, folder, capfd):
-        self.log = folder / "log"
-        self.records = folder / "records"
-        self._capfd = capfd
-
-    def __call__(self, *words, size=5):
-        words = ["match", "--size", size, "--log", self.log, "--records", self.records, *words]
-        self.status = main([str(word) for word in words])
-        self.out, self.err = self._capfd.readouterr()
-        return self
-
-    @property
-    def games(self):
-        return [json.loads(line) for line in self.log.read_text().splitlines()[1:]]
-
-    @property
-    def results(self):
-        return [game["result"] for game in self.games]
-
-    @property
-    def reasons(self):
-        return [game["reason"] for game in self.games]
-
-    def record(self, number=1):
-        return (self.records / f"game-{number:04}.sgf").read_bytes()
-
-
-@pytest.fixture
-def match(tmp_path, capfd):
-    return Match(tmp_path, capfd)
-
 
 def test_a_game_that_is_passed_is_whites_by_the_komi(match):
     match(PASS, PASS)
@@ -79,7 +34,7 @@ def test_a_game_that_is_passed_is_whites_by_the_komi(match):
     assert 0 < game["times"]["black"]["mean"] == game["times"]["black"]["greatest"] < 5
     lines = match.out.splitlines()
     assert lines[0] == f"game 1: W+7.5 after 2 moves, B {PASS}, W {PASS}"
-    assert lines[1:3] == ["games 1, with a result 1", "ended by score 1, resignation 0, time 0, forfeit 0"]
+    assert lines[1:3] == ["games 1, with a result 1, distinct 1", "ended by score 1, resignation 0, time 0, forfeit 0"]
     assert [line.split()[:5] for line in lines[4:]] == [["0", "0", "0", "0", "0.0"], ["1", "0", "1", "0", "100.0"]]
 
 
@@ -114,7 +69,7 @@ def test_a_handicap(match):
     note = match.log.parent / "note"
     match("--handicap", 2, "--komi", "0.5", engine(f"=note={note}"), PASS, size=9)
     assert match.results == ["B+80.5"] and match.games[0]["moves"] == 2
-    assert b"HA[2]" in match.record() and b"AB[cg][gc];W[];B[]" in match.record()
+    assert b"HA[2]AB[cg][gc]PL[W];W[];B[]" in match.record()
     assert "set_free_handicap C3 G7" in note.read_text()
 
 
@@ -142,7 +97,7 @@ def test_responses_are_read_as_the_protocol_has_them(match, text, move):
 LOSES = [
     (["genmove=end=4"], "ended with status 4 at `genmove {c}`"),
     (["genmove=crash"], "was ended by SIGKILL at `genmove {c}`"),
-    (["genmove=hang"], "wrote no response within 0.3 s at `genmove {c}`"),
+    (["genmove=hang"], "wrote no response within 1 s at `genmove {c}`"),
     (["genmove=close"], "closed its output at `genmove {c}`"),
     (["genmove=flood"], "wrote more than 1,000,000 bytes at `genmove {c}`"),
     (["genmove=flood=n"], "wrote more than 1,000,000 bytes at `genmove {c}`"),
@@ -163,7 +118,7 @@ LOSES = [
 def test_an_engine_that_fails_loses(match, monkeypatch, words, why):
     monkeypatch.setattr(engine_module, "_DRAIN", 0.1)
     bad = engine(*words)
-    match("--games", 2, "--move-seconds", 0.3 if "hang" in words[0] else 20, bad, PASS)
+    match("--games", 2, "--move-seconds", 1 if "hang" in words[0] else 20, bad, PASS)
     assert match.results == ["W+F", "B+F"] and [game["end"] for game in match.games] == ["forfeit"] * 2
     told = [f"Black ({bad}) {why.format(c='b')}", f"White ({bad}) {why.format(c='w')}"]
     assert match.reasons == told and match.status == 0
@@ -175,7 +130,7 @@ def test_an_engine_that_fails_loses(match, monkeypatch, words, why):
 @pytest.mark.parametrize("end", ["end=4", "hang", "flood", "say=well\\n\\n"])
 def test_an_engine_that_fails_at_a_move_of_its_opponent_loses(match, end):
     bad = engine(f"play={end}")
-    match("--line-seconds", 0.5 if end == "hang" else 20, bad, engine("genmove=moves=C3"))
+    match("--line-seconds", 2 if end == "hang" else 20, bad, engine("genmove=moves=C3"))
     assert match.results == ["W+F"] and match.reasons[0].endswith(" at `play w C3`")
     assert goref.judge(match.record()).moves == 2
 
@@ -222,7 +177,7 @@ def test_an_engine_that_refuses_a_legal_move_leaves_no_result(match):
 # What an engine does before the first move, and how that is told.
 NO_RESULT = [
     (["boardsize=end"], "ended with status 3 at `boardsize 5`"),
-    (["boardsize=hang"], "wrote no response within 0.3 s at `boardsize 5`"),
+    (["boardsize=hang"], "wrote no response within 2 s at `boardsize 5`"),
     (["clear_board=flood"], "wrote more than 1,000,000 bytes at `clear_board`"),
     (["boardsize=refuse=unacceptable size"], "refused `boardsize 5`: unacceptable size"),
     (["komi=refuse="], "refused `komi 7.5`"),
@@ -233,15 +188,15 @@ NO_RESULT = [
 @pytest.mark.parametrize("words, why", NO_RESULT, ids=[" ".join(words) for words, _ in NO_RESULT])
 def test_an_engine_that_is_not_set_up_leaves_no_result(match, words, why):
     bad = engine(*words)
-    match("--games", 2, "--line-seconds", 0.3 if "hang" in words[0] else 20, PASS, bad)
+    match("--games", 2, "--line-seconds", 2 if "hang" in words[0] else 20, PASS, bad)
     assert match.results == [None, None] and match.status == 1
     assert match.reasons == [f"White ({bad}) {why}", f"Black ({bad}) {why}"]
-    assert [game["end"] for game in match.games] == ["none", "none"] and os.listdir(match.records) == []
+    assert [game["end"] for game in match.games] == ["none", "none"] and match.names() == []
 
 
 def test_an_engine_that_is_not_there_leaves_no_result(match):
-    match("--games", 3, "/none --gtp", PASS)
-    assert match.results == [None] * 3 and match.status == 1
+    match("--games", 2, "/none --gtp", PASS)
+    assert match.results == [None] * 2 and match.status == 1
     assert match.reasons[0] == "Black (/none --gtp) can't be started: No such file or directory"
     assert match.err.splitlines()[1] == (
         "goref-tools: game 2: White (/none --gtp) can't be started: No such file or directory"
@@ -258,15 +213,16 @@ def test_a_game_without_end_has_no_result(match):
     black, white = "A1,A2,A1,A2,B1,A1,B1,B2", "B1,B2,pass,B2,B2,A2,A2,A2"
     match(engine(f"genmove=moves={black}"), engine(f"genmove=moves={white}"), size=2)
     assert match.results == [None] and match.status == 1 and match.games[0]["moves"] == 16
-    assert match.reasons == ["the game had no end after 16 moves"] and b"RE[Void]" in match.record()
+    assert match.reasons == ["the game had no end after 16 moves"] and match.games[0]["end"] == "length"
+    assert b"RE[Void]" in match.record() and "games 1, with a result 0, distinct 0\n" in match.out
 
 
 def test_a_move_that_comes_later_loses_on_time(match):
     bad = engine("genmove=hang")
-    match("--games", 2, "--seconds", "0.3", PASS, bad)
+    match("--games", 2, "--seconds", "1", PASS, bad)
     assert match.results == ["B+T", "W+T"] and [game["end"] for game in match.games] == ["time", "time"]
     assert match.status == 0 and b"RE[B+T]" in match.record()
-    assert match.reasons[0] == f"White ({bad}) wrote no response within 0.3 s at `genmove w`"
+    assert match.reasons[0] == f"White ({bad}) wrote no response within 1 s at `genmove w`"
     assert "time 2" in match.out
 
 
@@ -275,29 +231,19 @@ def test_a_move_in_time_is_played(match):
     assert match.results == ["W+7.5"] and 0.1 <= match.games[0]["times"]["black"]["greatest"] < 5
 
 
-def test_engines_are_told_the_time(match):
+@pytest.mark.parametrize(
+    "seconds, told",
+    [("2.5", ["time_settings 0 2 1"]), ("1.2", ["time_settings 0 1 1"]), ("1", ["time_settings 0 1 1"]), ("0.9", [])],
+)
+def test_engines_are_told_no_more_time_than_they_have(match, seconds, told):
     note, other = match.log.parent / "note", match.log.parent / "other"
-    match("--seconds", "2.5", engine(f"=note={note}"), engine(f"=note={other}", "time_settings=refuse=unknown command"))
+    refuses = engine(f"=note={other}", "time_settings=refuse=unknown command")
+    match("--seconds", seconds, engine(f"=note={note}"), refuses)
     for path in (note, other):
-        assert [line.split(" ", 1)[1] for line in path.read_text().splitlines()][:4] == [
-            "boardsize 5",
-            "clear_board",
-            "komi 7.5",
-            "time_settings 0 3 1",
-        ]
+        lines = lines_in(path)
+        assert lines[:3] == ["boardsize 5", "clear_board", "komi 7.5"]
+        assert [line for line in lines if line.startswith("time_settings")] == told
     assert match.results == ["W+7.5"]
-
-
-def numbers_in(path):
-    """The numbers of the processes that noted lines, in the order in which they first did."""
-    return list(dict.fromkeys(int(line.split()[0]) for line in path.read_text().splitlines()))
-
-
-def wait_for(done, seconds=20):
-    until = time.monotonic() + seconds
-    while not done():
-        assert time.monotonic() < until, "it takes too long"
-        time.sleep(0.01)
 
 
 def test_engines_that_behave_stay_and_those_that_fail_are_started_anew(match):
@@ -317,12 +263,12 @@ def test_an_engine_that_ends_between_games_is_started_anew(match):
 
 def test_several_games_at_once(match):
     note = match.log.parent / "note"
-    slow = engine("genmove=slow=0.2", f"=note={note}")
-    begun = time.monotonic()
+    slow = engine(f"=note={note}", "genmove=slow=0.1")
     match("--games", 6, "-j", 3, slow, PASS)
-    assert time.monotonic() - begun < 6 * 0.2 + 0.5 and len(numbers_in(note)) == 3
+    # Each that is under way has an engine of its own.
+    assert len(numbers_in(note)) == 3
     assert sorted(game["game"] for game in match.games) == [1, 2, 3, 4, 5, 6] and match.results == ["W+7.5"] * 6
-    assert len(os.listdir(match.records)) == 6
+    assert len(match.names()) == 6
 
 
 OPENINGS = {"a.sgf": b"(;SZ[5];B[cc];W[cd](;B[dd])(;B[aa]))", "b.SGF": b"(;SZ[5]C[x];W[aa])", "no": b"("}
@@ -446,6 +392,16 @@ def test_the_help_has_an_example(capsys):
     assert main(["match", "--help"]) == 0
     told = capsys.readouterr().out
     assert "example:\n  goref-tools match --games 20" in told and "--line-seconds" not in told
+    # Without it GNU Go passes while dead stones stand, and goref takes none for dead.
+    assert "'gnugo --mode gtp --chinese-rules --capture-all-dead --seed {seed}'" in told
+
+
+def test_a_line_has_a_minute_and_a_move_an_hour():
+    parser = argparse.ArgumentParser()
+    match_word.add_arguments(parser)
+    given = parser.parse_args(["black", "white"])
+    assert (given.line_seconds, given.move_seconds) == (60, 3600)
+    assert "answers no line within a minute or no `genmove` within an hour" in " ".join(match_word.__doc__.split())
 
 
 def test_records_of_another_match_stay(match):
@@ -456,7 +412,7 @@ def test_records_of_another_match_stay(match):
     assert main([str(one) for one in arguments]) == 2 and match.record(1) == before
     assert match(PASS, PASS).status == 2 and match.record(1) == before and not match.log.exists()
     (match.records / "game-0001.sgf").rename(match.records / "game-0002.sgf")
-    assert main([str(one) for one in arguments]) == 2 and os.listdir(match.records) == ["game-0002.sgf"]
+    assert main([str(one) for one in arguments]) == 2 and match.names() == ["game-0002.sgf"]
 
 
 @pytest.mark.parametrize("old, new", [('"black": "', '"black": "other '), ('"game": 2', '"game": 1'), ('"game": 1', '"game": 2')])
@@ -472,11 +428,13 @@ def test_the_same_command_goes_on(match):
     (match.records / "game-0001.sgf").unlink()
     before = match.log.read_bytes()
     match("--games", 2, PASS, PASS)
-    assert match.log.read_bytes() == before and os.listdir(match.records) == ["game-0002.sgf"]
-    assert match.status == 0 and match.out.startswith("games 2, with a result 2\n")
+    assert match.log.read_bytes() == before and match.names() == ["game-0002.sgf"]
+    assert match.status == 3 and match.out.startswith("games 2, with a result 2, distinct 2\n")
+    assert match.err == "goref-tools: no record is there of these games of the log: 1\n"
     match("--games", 3, PASS, PASS)
     assert match.log.read_bytes().startswith(before) and match.results == ["W+7.5"] * 3
     assert match.out.startswith("game 3: W+7.5 after 2 moves") and "games 3, with a result 3" in match.out
+    assert match.status == 3 and match.names() == ["game-0002.sgf", "game-0003.sgf"]
 
 
 def test_a_log_of_another_match_is_refused(match):
@@ -498,24 +456,6 @@ def test_what_cannot_be_written_is_found_before_the_first_game(match, tmp_path):
         assert match("--records", folder, one, PASS).status == 3
         assert match.err.startswith(f"goref-tools: {folder}: ") and match.err.count("\n") == 1
     assert not note.exists()
-
-
-def command(*words, **options):
-    """The command as a process of its own."""
-    environment = {**os.environ, "PYTHONPATH": os.path.join(HERE, "..")}
-    environment.pop("PYTHONUNBUFFERED", None)
-    return subprocess.Popen(
-        [sys.executable, "-m", "goref", "match", "--size", "5", *map(str, words)],
-        stdin=subprocess.DEVNULL,
-        env=environment,
-        **{"stdout": subprocess.PIPE, "stderr": subprocess.PIPE, **options},
-    )
-
-
-def in_the_foreground():
-    """Signals are heeded, as in a shell's foreground."""
-    for number in (signal.SIGINT, signal.SIGTERM, signal.SIGHUP):
-        signal.signal(number, signal.SIG_DFL)
 
 
 def test_a_log_is_one_matchs_at_a_time(match):
@@ -553,38 +493,13 @@ def test_a_standard_output_that_nobody_reads_loses_nothing(match):
     assert err.startswith("goref-tools: standard output: Broken pipe\n") and "Traceback" not in err
 
 
-def test_a_full_disk_loses_no_result_that_is_printed(match):
-    def limit():
-        resource.setrlimit(resource.RLIMIT_FSIZE, (1200, resource.RLIM_INFINITY))
-
-    one, two = engine("genmove=moves=C3"), PASS
-    process = command(
-        "--log", match.log, "--records", match.records, "--games", "4", one, two, preexec_fn=limit
-    )
-    out, err = (text.decode() for text in process.communicate(timeout=20))
-    assert process.returncode == 3 and [line[:6] for line in out.splitlines()[:4]] == [f"game {n}" for n in "1234"]
-    assert f"goref-tools: {match.log}: File too large" in err.splitlines() and "Traceback" not in err
-    assert match.log.read_bytes().endswith(b"\n") and 1 <= len(match.results) < 4
-    match("--games", 4, one, two)
-    assert match.status == 0 and len(match.results) == 4
-
-
-def test_a_record_that_cannot_be_written_stops_nothing(match):
-    vanishing = shlex.join(["sh", "-c", f"rm -r {shlex.quote(str(match.records))}; exec {PASS}"])
-    match("--games", 2, vanishing, PASS)
-    assert match.status == 3 and match.results == ["W+7.5", "W+7.5"] and match.out.startswith("game 1: W+7.5 after")
-    assert match.err.splitlines() == [
-        f"goref-tools: {match.records}/game-000{number}.sgf: No such file or directory" for number in (1, 2)
-    ]
-
-
 def test_a_lack_of_memory_ends_the_match_and_its_engines(match, monkeypatch):
     note = match.log.parent / "note"
 
     def no_memory(*given):
         raise MemoryError
 
-    monkeypatch.setattr(match_run, "record_of", no_memory)
+    monkeypatch.setattr(match_keeper, "record_of", no_memory)
     match("--games", 4, "-j", 2, engine(f"=note={note}", "genmove w=hang"), PASS)
     assert match.status == 3 and match.err == "goref-tools: out of memory\n"
     assert all(map(is_gone, numbers_in(note)))
@@ -607,7 +522,9 @@ def test_kill_9_loses_no_result_and_the_match_goes_on(match):
     wait_for(lambda: all(map(is_gone, numbers_in(note))))
     process = command(*words, one, PASS)
     out, err = process.communicate(timeout=20)
-    assert process.returncode == 0 and match.log.read_bytes().startswith(whole) and err == b""
+    # It may have been killed between the record and the line of a game.
+    assert all(b" isn't in the log: it is kept as " in line for line in err.splitlines())
+    assert process.returncode == 0 and match.log.read_bytes().startswith(whole)
     assert sorted(game["game"] for game in match.games) == [1, 2, 3, 4, 5, 6]
     assert b"games 6, with a result 6" in out
 
@@ -645,7 +562,7 @@ def test_engines_are_ended_where_their_farewell_is_broken_off(match):
 
 
 def test_an_interrupt_waits_for_what_is_being_written(match, monkeypatch):
-    written = match_run.record_of
+    written = match_keeper.record_of
 
     def interrupted(*given):
         os.kill(os.getpid(), signal.SIGINT)
@@ -654,7 +571,7 @@ def test_an_interrupt_waits_for_what_is_being_written(match, monkeypatch):
 
     before = signal.signal(signal.SIGINT, signal.default_int_handler)
     try:
-        monkeypatch.setattr(match_run, "record_of", interrupted)
+        monkeypatch.setattr(match_keeper, "record_of", interrupted)
         match("--games", 2, PASS, PASS)
     finally:
         signal.signal(signal.SIGINT, before)
@@ -663,7 +580,7 @@ def test_an_interrupt_waits_for_what_is_being_written(match, monkeypatch):
 
 
 def test_a_game_that_waits_to_be_written_is_written_after_an_interrupt(capfd):
-    keeper = match_run.Keeper(SETTINGS, 2, None, None)
+    keeper = match_keeper.Keeper(SETTINGS, None, None)
     say = keeper.output.say
 
     def slowly(text):

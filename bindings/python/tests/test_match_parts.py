@@ -122,6 +122,9 @@ def test_a_line_of_a_log():
             "white": {"moves": 2, "mean": 0.123457, "greatest": 0.2},
         },
         "date": "2026-11-30",
+        "seed": None,
+        "sum": None,
+        "claims": None,
     }
     assert "\n" not in line_of(one) and line_of(one).isascii()
 
@@ -172,28 +175,31 @@ def test_a_line_that_is_no_object(line):
         outcome_of(line)
 
 
-def log_of(path, settings=SETTINGS):
-    return Log(str(path), settings.as_logged())
+def log_of(path, settings=SETTINGS, seed=None):
+    return Log(str(path), settings, seed)
 
 
-def kept(path, *outcomes, settings=SETTINGS):
-    """What a match finds in a log, after it has kept these."""
-    log = log_of(path, settings)
-    try:
+def kept(path, *outcomes, settings=SETTINGS, seed=None):
+    """What a match finds in a log, before it keeps these."""
+    with log_of(path, settings, seed) as log:
+        found = list(log.outcomes.values())
+        log.begin()
         for one in outcomes:
             log.add(one)
-        return log.outcomes
-    finally:
-        log.close()
+        return found
 
 
 def test_a_log_goes_on(tmp_path):
     path = tmp_path / "log"
-    assert kept(path, outcome(1)) == []
+    assert kept(path, outcome(1), seed=7) == []
     assert kept(path, outcome(3), outcome(2)) == [outcome(1)]
     assert kept(path) == [outcome(1), outcome(3), outcome(2)]
     settings, *games = path.read_text().splitlines()
-    assert json.loads(settings) == {
+    told = json.loads(settings)
+    assert len(told.pop("match")) == 16
+    assert told == {
+        "version": 2,
+        "seed": 7,
         "players": ["first", "second"],
         "size": 9,
         "komi": "7.5",
@@ -224,10 +230,11 @@ def test_a_torn_first_line_begins_anew(tmp_path):
     whole = path.read_bytes()
     for length in range(len(whole)):
         path.write_bytes(whole[:length])
-        assert kept(path) == [] and path.read_bytes() == whole
+        assert kept(path) == [] and path.read_bytes().count(b"\n") == 1 and kept(path, outcome(1)) == []
+        assert kept(path) == [outcome(1)]
 
 
-@pytest.mark.parametrize("text", [b"my own notes", b"my own notes\n", b"{}\n", b"[1]\n", b"\n", b"\xff\n", b"(;)\n"])
+@pytest.mark.parametrize("text", [b"my own notes", b"my own notes\n", b"{}\n", b"[1]\n", b"\n", b"\xff\n", b"(;)\n", b"{x", b'{"a": 1}'])
 def test_what_is_no_log_is_not_changed(tmp_path, text):
     path = tmp_path / "log"
     path.write_bytes(text)
@@ -285,9 +292,10 @@ def test_a_log_that_is_no_file(tmp_path):
         assert str(told.value) == f"{path}: {why}"
 
 
-def test_a_line_that_was_not_written_is_written_with_the_next(tmp_path, monkeypatch):
+def test_a_line_that_is_not_written_leaves_the_log_as_it_was(tmp_path, monkeypatch):
     path = tmp_path / "log"
     log = log_of(path)
+    log.begin()
     before = path.read_bytes()
     write = os.write
 
@@ -305,7 +313,7 @@ def test_a_line_that_was_not_written_is_written_with_the_next(tmp_path, monkeypa
     monkeypatch.setattr(os, "write", write)
     log.add(outcome(2))
     log.close()
-    assert kept(path) == [outcome(1), outcome(2)]
+    assert kept(path) == [outcome(2)]
 
 
 # The intervals of Newcombe, Statistics in Medicine 17 (1998), table I, method 3.
@@ -357,7 +365,7 @@ def test_players_are_counted_by_colour():
 def test_the_table_has_a_row_for_each_player():
     # Wilson's interval for 3.5 of 5 by hand: (0.7 + 0.384146 +- 1.959964 * sqrt(0.042 + 0.0384146)) / 1.768292.
     assert table_of(GAMES, SETTINGS).splitlines() == [
-        "games 6, with a result 5",
+        "games 6, with a result 5, distinct at most 5",
         "ended by score 2, resignation 1, time 1, forfeit 1",
         "wins  as B  as W  draws   share   95 % interval  mean s  greatest s  engine",
         "   3     1     2      1  70.0 %  29.9 to 92.7 %   0.750       1.500  first",
@@ -367,5 +375,5 @@ def test_the_table_has_a_row_for_each_player():
 
 def test_a_table_without_results():
     lines = table_of([outcome(1, None, "none")], SETTINGS._replace(players=("a\nb", "second"))).splitlines()
-    assert lines[:2] == ["games 1, with a result 0", "ended by score 0, resignation 0, time 0, forfeit 0"]
+    assert lines[:2] == ["games 1, with a result 0, distinct 0", "ended by score 0, resignation 0, time 0, forfeit 0"]
     assert lines[3].split() == ["0", "0", "0", "0", "-", "-", "-", "-", "a\\nb"]

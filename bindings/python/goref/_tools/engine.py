@@ -5,6 +5,7 @@ import os
 import signal
 from typing import Optional, Sequence, Tuple
 
+from goref._tools.match_clock import BEAT, Clock
 from goref._tools.responses import BadResponse, Incoming, Response
 
 FAREWELL = 1.0
@@ -28,8 +29,9 @@ class Engine(asyncio.SubprocessProtocol):
     Once it failed, all of them are killed, and each line is answered by that failure.
     """
 
-    def __init__(self, words: Sequence[str]) -> None:
+    def __init__(self, words: Sequence[str], clock: Optional[Clock] = None) -> None:
         self._words = words
+        self._clock = clock or Clock()
         self._loop = asyncio.get_running_loop()
         self._incoming = Incoming()
         self._starting: "Optional[asyncio.Future[Tuple[asyncio.SubprocessTransport, Engine]]]" = None
@@ -39,6 +41,7 @@ class Engine(asyncio.SubprocessProtocol):
         self._answer: "Optional[asyncio.Future[Tuple[Response, float]]]" = None
         self._asked_at = 0.0
         self._allowed = 0.0
+        self._timer: Optional[asyncio.TimerHandle] = None
         self._failure: Optional[EngineFailed] = None
         self._is_leaving = False
 
@@ -66,20 +69,21 @@ class Engine(asyncio.SubprocessProtocol):
         """The response to a line, and the seconds that it took. Raises EngineFailed."""
         self._begin(line, seconds)
         assert self._answer
-        timer = self._loop.call_later(seconds, self._is_late)
+        self._look()
         try:
             return await self._answer
         except EngineFailed as why:
             raise type(why)(f"{why} at `{line}`") from None
         finally:
-            timer.cancel()
+            if self._timer:
+                self._timer.cancel()
             self._answer = None
 
     def _begin(self, line: str, seconds: float) -> None:
         """Sends a line, if that is of use."""
         self._answer = self._loop.create_future()
         self._allowed = seconds
-        self._asked_at = self._loop.time()
+        self._asked_at = self._clock.now()
         try:
             self._incoming.ask()
         except BadResponse as why:
@@ -136,6 +140,14 @@ class Engine(asyncio.SubprocessProtocol):
             except OSError:
                 pass
 
+    def _look(self) -> None:
+        """Looks whether the time is over, and when to look again."""
+        left = self._asked_at + self._allowed - self._clock.now()
+        if left > 0:
+            self._timer = self._loop.call_later(min(left, BEAT), self._look)
+        else:
+            self._is_late()
+
     def _is_late(self) -> None:
         self._fail(EngineLate(f"wrote no response within {self._allowed:g} s"))
 
@@ -154,7 +166,7 @@ class Engine(asyncio.SubprocessProtocol):
             self._fail(EngineFailed(str(why)))
             return
         if response and self._answer and not self._answer.done():
-            taken = self._loop.time() - self._asked_at
+            taken = self._clock.now() - self._asked_at
             if taken > self._allowed:
                 self._is_late()
             else:

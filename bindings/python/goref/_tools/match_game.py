@@ -3,13 +3,14 @@
 import asyncio
 import datetime
 import re
-from typing import Awaitable, Callable, Dict, List, NamedTuple, Optional, Set
+from typing import Awaitable, Callable, Dict, List, NamedTuple, Optional, Set, Tuple
 
 import goref
 from goref._tools.engine import Engine, EngineFailed, EngineLate
 from goref._tools.faults import shown
+from goref._tools.match_claims import claim_of
 from goref._tools.match_outcome import Outcome, Times
-from goref._tools.match_settings import BLACK, NAMES, WHITE, Settings, other, session_of
+from goref._tools.match_settings import BLACK, NAMES, WHITE, Settings, other, session_of, sum_of
 from goref._tools.responses import Response, in_short
 from goref._tools.spelling import COLUMNS
 
@@ -34,7 +35,7 @@ class Played(NamedTuple):
 
 
 class _End(Exception):
-    """The end of a game."""
+    """The end of a game. `failed` has the colours of engines that failed."""
 
     def __init__(self, result: Optional[str], end: str, reason: Optional[str] = None, failed: str = "") -> None:
         super().__init__(result, end, reason, failed)
@@ -52,8 +53,8 @@ class Game:
         self._engines: Dict[str, Engine] = {}
         self._session = session_of(settings)
         self._next = BLACK
-        self._moves = 0
-        self._passes = 0
+        self._moves: List[Tuple[str, str]] = []
+        self._claims: Optional[Dict[str, Optional[str]]] = None
         self._times = {BLACK: Times(), WHITE: Times()}
         self._is_set_up = False
 
@@ -68,10 +69,22 @@ class Game:
             except _End as end:
                 ended = end
             printed = self._session.ask("goref-printsgf") if self._is_set_up else None
-        outcome = Outcome(
-            self._number, self._commands, ended.result, ended.end, ended.reason, self._moves, self._times, date
+        return Played(self._outcome(ended, date), printed, set(ended.failed))
+
+    def _outcome(self, ended: _End, date: str) -> Outcome:
+        return Outcome(
+            self._number,
+            self._commands,
+            ended.result,
+            ended.end,
+            ended.reason,
+            len(self._moves),
+            self._times,
+            date,
+            self._settings.seed_of(self._number),
+            sum_of(self._moves) if self._is_set_up else None,
+            self._claims,
         )
-        return Played(outcome, printed, set(ended.failed))
 
     async def _set_up(self, ready: Callable[[str], Awaitable[Engine]]) -> None:
         """Sets all boards up. An engine that fails or refuses to leaves the game without a result."""
@@ -81,11 +94,17 @@ class Game:
             stones.append("set_free_handicap " + self._session.ask(f"fixed_handicap {settings.handicap}"))
             self._next = WHITE
         stones += self._opened()
+        ends: List[_End] = []
         for came in await asyncio.gather(
             *(self._set_up_one(colour, ready, stones) for colour in (BLACK, WHITE)), return_exceptions=True
         ):
-            if came is not None:
+            if isinstance(came, _End):
+                ends.append(came)
+            elif came is not None:
                 raise came
+        if ends:
+            reasons = [end.reason or "" for end in ends]
+            raise _End(None, "none", "; ".join(reasons), "".join(end.failed for end in ends))
 
     async def _set_up_one(self, colour: str, ready: Callable[[str], Awaitable[Engine]], stones: List[str]) -> None:
         """Sets the board of an engine up. Both do so at once, for some take long to start."""
@@ -95,8 +114,8 @@ class Game:
         except EngineFailed as why:
             raise self._lost(colour, "forfeit", str(why)) from None
         await self._order_all(colour, [f"boardsize {settings.size}", "clear_board", f"komi {settings.komi}"])
-        if settings.seconds is not None:
-            await self._ask(colour, f"time_settings 0 {settings.whole_seconds} 1")
+        if settings.told_seconds:
+            await self._ask(colour, f"time_settings 0 {settings.told_seconds} 1")
         await self._order_all(colour, stones)
 
     def _opened(self) -> List[str]:
@@ -105,14 +124,10 @@ class Game:
         lines = []
         for colour, vertex in opening.moves if opening else ():
             self._session.ask(f"play {colour} {vertex}")
-            self._count(vertex)
+            self._moves.append((colour, vertex))
             self._next = other(colour)
             lines.append(f"play {colour} {vertex}")
         return lines
-
-    def _count(self, vertex: str) -> None:
-        self._moves += 1
-        self._passes = self._passes + 1 if vertex == "pass" else 0
 
     async def _order_all(self, colour: str, lines: List[str]) -> None:
         for line in lines:
@@ -126,7 +141,7 @@ class Game:
             raise _End(None, "none", f"{self._name(colour)} refused `{line}`{why}", colour)
 
     async def _ask(self, colour: str, line: str) -> Response:
-        """The response of an engine, which loses by forfeit where it fails."""
+        """The response of an engine, which loses by forfeit if it fails."""
         try:
             return (await self._engines[colour].ask(line, self._patience.line))[0]
         except EngineFailed as why:
@@ -146,15 +161,24 @@ class Game:
     async def _play(self) -> _End:
         """Has the players move in turn."""
         colour = self._next
-        while self._moves < self._settings.most_moves:
+        while len(self._moves) < self._settings.most_moves:
             vertex = await self._move(colour)
             if vertex == "resign":
                 return _End(f"{other(colour).upper()}+R", "resignation")
-            if self._passes == 2:
-                return _End(self._session.ask("final_score"), "score")
+            if [vertex for _, vertex in self._moves[-2:]] == ["pass", "pass"]:
+                return await self._score()
             colour = other(colour)
             await self._order(colour, f"play {other(colour)} {vertex}")
-        return _End(None, "none", f"the game had no end after {self._moves} moves")
+        return _End(None, "length", f"the game had no end after {len(self._moves)} moves")
+
+    async def _score(self) -> _End:
+        """The end by goref's score. An engine that fails when it is asked for its own changes nothing."""
+        colours = (BLACK, WHITE)
+        claims = await asyncio.gather(*(claim_of(self._engines[colour], self._patience.line) for colour in colours))
+        self._claims = {colour: claim.score for colour, claim in zip(colours, claims)}
+        failures = {colour: claim.failure for colour, claim in zip(colours, claims) if claim.failure}
+        reasons = [shown(f"{self._name(colour)} {failure}") for colour, failure in failures.items()]
+        return _End(self._session.ask("final_score"), "score", "; ".join(reasons) or None, "".join(failures))
 
     async def _move(self, colour: str) -> str:
         """What an engine chose: a vertex, which the referee has played then, `pass`, or `resign`."""
@@ -185,7 +209,7 @@ class Game:
             if str(why) == "syntax error":
                 raise self._no_vertex(colour, said) from None
             raise self._lost(colour, "forfeit", f"played {vertex}: {self._why(colour, vertex) or why}") from None
-        self._count(vertex)
+        self._moves.append((colour, vertex))
 
     def _no_vertex(self, colour: str, said: str) -> _End:
         return self._lost(colour, "forfeit", f"answered `genmove {colour}` by no vertex: `{in_short(said)}`")

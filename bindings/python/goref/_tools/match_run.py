@@ -1,100 +1,20 @@
 """The games of a match, several at once."""
 
 import asyncio
-import os
-import re
-import shlex
 import signal
-from concurrent.futures import ThreadPoolExecutor
 from contextlib import contextmanager
-from typing import Callable, Dict, Iterator, List, Optional, Sequence, Set
+from typing import Iterator, List, Optional, Sequence
 
 from goref._tools.engine import Engine, EngineFailed
-from goref._tools.faults import Fault, shown, tell
-from goref._tools.files import replacing
-from goref._tools.match_game import Game, Patience, Played
-from goref._tools.match_log import Log
-from goref._tools.match_outcome import Outcome
-from goref._tools.match_output import Output
-from goref._tools.match_record import Differs, record_of
-from goref._tools.match_settings import BLACK, WHITE, Settings
+from goref._tools.match_game import Game, Patience
+from goref._tools.match_keeper import Keeper
+from goref._tools.match_settings import Settings
 
 _SIGNALS = (signal.SIGINT, signal.SIGTERM, signal.SIGHUP)
 
 
-class Keeper:
-    """Keeps what came of games: in records, in the log, and by telling it. A thread does that, so no clock waits."""
-
-    def __init__(self, settings: Settings, games: int, log: Optional[Log], records: Optional[str]) -> None:
-        self.outcomes: Dict[int, Outcome] = {one.number: one for one in log.outcomes} if log else {}
-        self.output = Output()
-        self.has_failed = False
-        self._settings = settings
-        self._digits = digits_of(games)
-        self._log = log
-        self._records = records
-        self._thread = ThreadPoolExecutor(1)
-        self._pending: "Set[asyncio.Future[None]]" = set()
-
-    async def keep(self, played: Played) -> None:
-        """Keeps a game. Where the waiting is cancelled, it is kept all the same."""
-        work = asyncio.get_running_loop().run_in_executor(self._thread, self._keep, played)
-        self._pending.add(work)
-        await asyncio.shield(work)
-        self._pending.discard(work)
-
-    async def finish(self) -> None:
-        """Waits until all is kept."""
-        await asyncio.gather(*self._pending, return_exceptions=True)
-        self._thread.shutdown()
-
-    def _keep(self, played: Played) -> None:
-        outcome = played.outcome
-        self.outcomes[outcome.number] = outcome
-        if outcome.reason:
-            tell(f"game {outcome.number}: {outcome.reason}")
-        if self._records is not None and played.printed is not None:
-            self._try(self._write_record, played)
-        if self._log:
-            self._try(self._log.add, outcome)
-        self.output.say(line_told(outcome))
-
-    def _try(self, work: Callable[..., None], *given: object) -> None:
-        """Does what may fail, while the match goes on."""
-        try:
-            work(*given)
-        except (Fault, Differs) as why:
-            self.has_failed = True
-            tell(str(why))
-
-    def _write_record(self, played: Played) -> None:
-        assert self._records is not None and played.printed is not None
-        path = record_path(self._records, played.outcome.number, self._digits)
-        record = record_of(played.printed, played.outcome, self._settings)
-        with replacing(path) as file:
-            file.write(record)
-
-
-def digits_of(games: int) -> int:
-    """How many digits the numbers of games have in the names of records."""
-    return max(4, len(str(games)))
-
-
-def record_path(folder: str, number: int, digits: int) -> str:
-    """The file for the record of a game."""
-    return os.path.join(folder, f"game-{number:0{digits}}.sgf")
-
-
-def is_record(name: str) -> bool:
-    """Whether a file has the name of such a record."""
-    return re.fullmatch(r"game-[0-9]{4,}\.sgf", name) is not None
-
-
-def line_told(outcome: Outcome) -> str:
-    """The line that is printed of a game."""
-    result = outcome.result or "no result"
-    black, white = (shown(outcome.players[colour]) for colour in (BLACK, WHITE))
-    return f"game {outcome.number}: {result} after {outcome.moves} moves, B {black}, W {white}"
+class _Ended(Exception):
+    """The match is to end, as its keeper says."""
 
 
 class Match:
@@ -104,7 +24,8 @@ class Match:
         self._settings = settings
         self._patience = patience
         self._keeper = keeper
-        self._left = (number for number in range(1, games + 1) if number not in keeper.outcomes)
+        played = {number for number, outcome in keeper.outcomes.items() if outcome.is_final}
+        self._left = (number for number in range(1, games + 1) if number not in played)
         self._jobs = min(jobs, games)
         self._signal: Optional[int] = None
         self._pairs: List[List[Optional[Engine]]] = []
@@ -125,7 +46,7 @@ class Match:
                 await self._end_all()
                 await self._keeper.finish()
         for worker in workers:
-            if not worker.cancelled():
+            if not worker.cancelled() and not isinstance(worker.exception(), _Ended):
                 worker.result()
         return self._signal
 
@@ -162,12 +83,22 @@ class Match:
         """Plays a game, and keeps it. Engines that fail in it leave the pair."""
         players = self._settings.players_of(number)
         game = Game(self._settings, number, self._patience)
-        played = await game.play(lambda colour: self._ready(players[colour], pair))
+        played = await game.play(lambda colour: self._ready(players[colour], number, pair))
         await self._keeper.keep(played)
+        if self._keeper.end is not None:
+            raise _Ended
         for colour in played.failed:
             await self._end(players[colour], pair)
+        await self._leave_of_one_game(pair)
 
-    async def _ready(self, player: int, pair: List[Optional[Engine]]) -> Engine:
+    async def _leave_of_one_game(self, pair: List[Optional[Engine]]) -> None:
+        """Ends the engines whose command lines are for one game."""
+        players = [player for player in (0, 1) if self._settings.is_of_one_game(player)]
+        await asyncio.gather(*(engine.leave() for engine in map(pair.__getitem__, players) if engine))
+        for player in players:
+            pair[player] = None
+
+    async def _ready(self, player: int, number: int, pair: List[Optional[Engine]]) -> Engine:
         """Has an engine there. One that ended between two games is started anew."""
         engine = pair[player]
         if engine is not None:
@@ -176,8 +107,12 @@ class Match:
                 return engine
             except EngineFailed:
                 await self._end(player, pair)
-        engine = pair[player] = Engine(shlex.split(self._settings.players[player]))
-        await engine.start()
+        engine = pair[player] = Engine(self._settings.words_of(player, number))
+        try:
+            await engine.start()
+        except EngineFailed:
+            pair[player] = None
+            raise
         return engine
 
     async def _end_all(self) -> None:

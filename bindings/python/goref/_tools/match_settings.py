@@ -3,6 +3,7 @@
 import hashlib
 import math
 import re
+import shlex
 from typing import Any, Dict, List, NamedTuple, Optional, Sequence, Tuple
 
 from goref import BadSize, Refused, Session
@@ -12,10 +13,18 @@ BLACK, WHITE = "b", "w"
 NAMES = {BLACK: "Black", WHITE: "White"}
 _KOMI = re.compile(r"KM\[([^]]*)\]")
 
+_SEEDS = 2**31 - 1
+"""How many seeds games have, from 1 on: any engine reads these, and to some 0 means the time of day."""
+
 
 def other(colour: str) -> str:
     """The opponent."""
     return WHITE if colour == BLACK else BLACK
+
+
+def sum_of(moves: List[Tuple[str, str]]) -> str:
+    """A short sum over moves, the colour and the vertex of each, by which a log knows them."""
+    return hashlib.sha256(repr(moves).encode("ascii")).hexdigest()[:16]
 
 
 class Opening(NamedTuple):
@@ -26,8 +35,8 @@ class Opening(NamedTuple):
     """The colour and the vertex of each."""
 
     def sum(self) -> str:
-        """A short sum over the moves, by which a log knows them."""
-        return hashlib.sha256(repr(self.moves).encode("ascii")).hexdigest()[:16]
+        """The sum over the moves."""
+        return sum_of(self.moves)
 
 
 class Settings(NamedTuple):
@@ -42,6 +51,8 @@ class Settings(NamedTuple):
     seconds: Optional[float]
     """The time for a move."""
     openings: Sequence[Opening] = ()
+    seed: int = 0
+    """What the seeds of games are drawn by."""
 
     @property
     def most_moves(self) -> int:
@@ -49,20 +60,35 @@ class Settings(NamedTuple):
         return 4 * self.size * self.size
 
     @property
-    def whole_seconds(self) -> int:
-        """The time for a move as engines are told it."""
-        return math.ceil(self.seconds or 0)
+    def told_seconds(self) -> int:
+        """The time for a move as engines are told it, in whole seconds and never more than there is; 0 is not told."""
+        return math.floor(self.seconds or 0)
 
     def players_of(self, number: int) -> Dict[str, int]:
         """Which player has which colour in the game of a number, which counts from 1."""
         return {BLACK: 0, WHITE: 1} if number % 2 else {BLACK: 1, WHITE: 0}
+
+    def seed_of(self, number: int) -> int:
+        """The seed of a game, the same at each run of a match."""
+        drawn = hashlib.sha256(f"{self.seed} {number}".encode("ascii")).digest()
+        return 1 + int.from_bytes(drawn[:8], "big") % _SEEDS
+
+    def words_of(self, player: int, number: int) -> List[str]:
+        """The words of a player's command line in a game."""
+        seed = str(self.seed_of(number))
+        words = shlex.split(self.players[player])
+        return [word.replace("{game}", str(number)).replace("{seed}", seed) for word in words]
+
+    def is_of_one_game(self, player: int) -> bool:
+        """Whether the command line of a player differs from game to game."""
+        return "{game}" in self.players[player] or "{seed}" in self.players[player]
 
     def opening_of(self, number: int) -> Optional[Opening]:
         """The opening of a game. Two games have it, one with each colour."""
         return self.openings[(number - 1) // 2 % len(self.openings)] if self.openings else None
 
     def as_logged(self) -> Dict[str, Any]:
-        """The settings as a log has them."""
+        """The settings as a log has them, without the seed."""
         return {
             "players": list(self.players),
             "size": self.size,

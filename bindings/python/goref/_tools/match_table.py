@@ -1,7 +1,7 @@
 """The table at the end of a match."""
 
 import math
-from typing import Iterable, List, NamedTuple, Sequence, Tuple
+from typing import Dict, Iterable, List, NamedTuple, Sequence, Tuple
 
 from goref._tools.faults import shown
 from goref._tools.match_outcome import ENDS, Outcome, Times
@@ -67,13 +67,47 @@ def tallies_of(outcomes: Iterable[Outcome], settings: Settings) -> List[Tally]:
     return tallies
 
 
+def distinct(outcomes: Iterable[Outcome]) -> List[Outcome]:
+    """The games that have a result, without copies: each with the moves, the colours and the result of no earlier one.
+
+    A game of which the log has no sum, as those of version 1, is none.
+    """
+    found: Dict[Tuple[object, ...], Outcome] = {}
+    for outcome in outcomes:
+        if outcome.result is not None:
+            key = (outcome.number % 2, outcome.sum, outcome.result) if outcome.sum is not None else (outcome.number,)
+            found.setdefault(key, outcome)
+    return list(found.values())
+
+
 def table_of(outcomes: Sequence[Outcome], settings: Settings) -> str:
     """The lines of the table."""
+    singles = distinct(outcomes)
+    names = settings.players
+    tallies = zip(tallies_of(outcomes, settings), tallies_of(singles, settings), names)
+    rows = [_row(tally, single, name) for tally, single, name in tallies]
+    return "\n".join([*_summary(outcomes, singles, settings), *_aligned([_HEADS, *rows])])
+
+
+def _summary(outcomes: Sequence[Outcome], singles: Sequence[Outcome], settings: Settings) -> List[str]:
+    """The lines above the rows of the players."""
+    played = [outcome for outcome in outcomes if outcome.result is not None]
     ends = [outcome.end for outcome in outcomes]
-    counts = [f"{end} {ends.count(end)}" for end in ENDS if end != "none"]
-    rows = [_row(tally, name) for tally, name in zip(tallies_of(outcomes, settings), settings.players)]
-    lines = [f"games {len(ends)}, with a result {len(ends) - ends.count('none')}", "ended by " + ", ".join(counts)]
-    return "\n".join(lines + _aligned([_HEADS, *rows]))
+    counts = [f"{end} {ends.count(end)}" for end in ENDS if end not in ("length", "none")]
+    at_most = "at most " if any(outcome.sum is None for outcome in played) else ""
+    lines = [
+        f"games {len(ends)}, with a result {len(played)}, distinct {at_most}{len(singles)}",
+        "ended by " + ", ".join(counts),
+    ]
+    claimed = [outcome for outcome in played if any((outcome.claims or {}).values())]
+    if claimed:
+        disputed = sum(outcome.is_disputed() for outcome in claimed)
+        lines.append(f"another winner is claimed by an engine in {disputed} of {len(claimed)} games with a claim")
+    if len(singles) < len(played):
+        lines.append("the interval is over the distinct games: the others are copies of these")
+    if any(map(settings.is_of_one_game, (0, 1))):
+        lines.append(f"seed {settings.seed}")
+    return lines
 
 
 def _aligned(rows: Sequence[Tuple[str, ...]]) -> List[str]:
@@ -82,15 +116,16 @@ def _aligned(rows: Sequence[Tuple[str, ...]]) -> List[str]:
     return ["  ".join([*map(str.rjust, row, widths), row[-1]]) for row in rows]
 
 
-def _row(tally: Tally, name: str) -> Tuple[str, ...]:
-    low, high = wilson(tally.points, tally.games)
+def _row(tally: Tally, single: Tally, name: str) -> Tuple[str, ...]:
+    """The row of a player, by all games and by the distinct ones."""
+    low, high = wilson(single.points, single.games)
     return (
         str(tally.wins),
         str(tally.wins_as_black),
         str(tally.wins_as_white),
         str(tally.draws),
         f"{100 * tally.points / tally.games:.1f} %" if tally.games else "-",
-        f"{100 * low:.1f} to {100 * high:.1f} %" if tally.games else "-",
+        f"{100 * low:.1f} to {100 * high:.1f} %" if single.games else "-",
         f"{tally.times.mean:.3f}" if tally.times.moves else "-",
         f"{tally.times.greatest:.3f}" if tally.times.moves else "-",
         shown(name),
