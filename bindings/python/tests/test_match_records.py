@@ -184,16 +184,22 @@ def test_other_openings_of_the_same_names_are_another_match(match, tmp_path):
     assert match("--openings", folder, "--games", 2, PASS, PASS).status == 0
 
 
-def test_what_is_in_the_log_is_on_the_disk(tmp_path, settings, monkeypatch):
-    """The line of a game, and the name of a new log, before the call that keeps it ends."""
-    synced = []
+@pytest.fixture
+def synced(monkeypatch):
+    """The files and folders that the disk is asked to keep, each with its size then."""
+    names = []
     fsync = os.fsync
 
     def noted(number):
-        synced.append((os.path.realpath(f"/proc/self/fd/{number}"), os.fstat(number).st_size))
+        names.append((os.path.realpath(f"/proc/self/fd/{number}"), os.fstat(number).st_size))
         fsync(number)
 
     monkeypatch.setattr(os, "fsync", noted)
+    return names
+
+
+def test_what_is_in_the_log_is_on_the_disk(tmp_path, settings, synced):
+    """The line of a game, and the name of a new log, before the call that keeps it ends."""
     path = tmp_path / "log"
     with Log(str(path), settings) as log:
         log.begin()
@@ -203,6 +209,12 @@ def test_what_is_in_the_log_is_on_the_disk(tmp_path, settings, monkeypatch):
     with Log(str(path), settings) as log:
         log.begin()
         assert len(synced) == 3
+
+
+def test_what_a_folder_says_of_its_match_is_on_the_disk(tmp_path, synced):
+    with Folder(str(tmp_path), "match", None, {}, 1):
+        claim = tmp_path / "match.json"
+        assert synced == [(str(claim), claim.stat().st_size), (str(tmp_path), tmp_path.stat().st_size)]
 
 
 def outcome(number):

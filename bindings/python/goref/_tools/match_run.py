@@ -108,11 +108,7 @@ class Match:
             except EngineFailed:
                 await self._end(player, pair)
         engine = pair[player] = Engine(self._settings.words_of(player, number))
-        try:
-            await engine.start()
-        except EngineFailed:
-            pair[player] = None
-            raise
+        await engine.start()
         return engine
 
     async def _end_all(self) -> None:
