@@ -30,7 +30,8 @@ def test_a_record_that_is_not_kept_ends_the_match_and_its_game_is_played_anew(ma
     assert match.status == 3 and match.results == [] and match.out == ""
     assert match.err.splitlines() == [
         f"goref-tools: {match.records}/game-0001.sgf: No such file or directory",
-        f"goref-tools: the match ends: this isn't kept: game 1: W+7.5 after 2 moves, B {one}, W {PASS}",
+        f"goref-tools: this isn't kept: game 1: W+7.5 after 2 moves, B {one}, W {PASS}",
+        "goref-tools: the match ends: a game can't be kept",
     ]
     match("--games", 3, one, PASS)
     assert match.status == 0 and match.err == "" and match.results == ["W+7.5"] * 3 and len(match.names()) == 3
@@ -47,7 +48,8 @@ def test_a_log_that_is_full_ends_the_match_and_nothing_is_lost(match):
     told = [line for line in out.splitlines() if line.startswith("game ")]
     assert process.returncode == 3 and 1 <= kept < 6 and len(told) == kept and f"\ngames {kept}, " in out
     assert err.splitlines()[0] == f"goref-tools: {match.log}: File too large" and "Traceback" not in err
-    assert err.splitlines()[1].startswith(f"goref-tools: the match ends: this isn't kept: game {kept + 1}: ")
+    assert err.splitlines()[1].startswith(f"goref-tools: this isn't kept: game {kept + 1}: ")
+    assert err.splitlines()[2:] == ["goref-tools: the match ends: a game can't be kept"]
     assert match.log.read_bytes().endswith(b"\n")
     lost = match.record(kept + 1)
     match("--games", 6, C3, PASS)

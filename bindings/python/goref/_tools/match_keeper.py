@@ -67,7 +67,8 @@ class Keeper:
             return True
         except (Fault, Differs) as why:
             tell(str(why))
-            self.end = f"this isn't kept: {line_told(played.outcome)}"
+            tell(f"this isn't kept: {line_told(played.outcome)}")
+            self.end = "a game can't be kept"
             return False
 
 
