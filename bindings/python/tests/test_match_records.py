@@ -119,6 +119,18 @@ def test_a_folder_of_an_earlier_version_goes_on(match):
     }
 
 
+def test_a_match_that_is_moved_goes_on(match):
+    """Its log and its records have new places, and somebody's record stands among them."""
+    match(PASS, PASS)
+    (match.records / "game-0002.sgf").write_bytes(b"(;)\n")
+    match.log, former = match.log.parent / "moved", match.log
+    match.records, records = match.log.parent / "moved records", match.records
+    former.rename(match.log)
+    records.rename(match.records)
+    assert match("--games", 2, PASS, PASS).status == 0 and match.names()[-1] == "game-0002.sgf"
+    assert json.loads((match.records / "match.json").read_text())["log"] == str(match.log)
+
+
 @pytest.mark.parametrize("text, is_taken", [(b"", True), (b'{"mat', True), (b"\0\0\0", True), (b"{}", False), (b"mine\n", False)])
 def test_a_file_that_is_no_claim_stays(match, text, is_taken):
     match.records.mkdir()

@@ -68,12 +68,14 @@ class Folder:
         claimed = _claim_of(there)
         if claimed is None and not _is_torn(there):
             raise WrongWords(f"{shown(os.path.join(self._path, CLAIM))} is there, and is no file of a match")
-        if claimed is not None and claimed["match"] == match:
+        if there == self._claim:
             return
-        if claimed is not None and any(self._numbers()):
+        is_ours = claimed is not None and claimed["match"] == match
+        if claimed is not None and not is_ours and any(self._numbers()):
             log = shown(str(claimed["log"])) if claimed["log"] else "none"
             raise WrongWords(f"{shown(self._path)} has the records of another match (its log: {log}): name another folder")
-        self._check_records(outcomes)
+        if not is_ours:
+            self._check_records(outcomes)
         os.ftruncate(self._file, 0)
         os.pwrite(self._file, self._claim, 0)
         os.fsync(self._file)
