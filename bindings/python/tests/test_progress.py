@@ -11,7 +11,7 @@ from kit.runner import started
 pytest.importorskip("tqdm")
 
 
-def at_a_terminal(*words):
+def at_a_terminal(words):
     """What a terminal sees of the standard error of a run, and its output."""
     ours, theirs = pty.openpty()
     with started(*words, stderr=theirs, env={"TERM": "xterm"}) as process:
@@ -39,7 +39,7 @@ def records(folder, count):
 def test_judge_shows_how_far_it_is(tmp_path, jobs):
     records(tmp_path, 320)
     (tmp_path / "gone.sgf").symlink_to("nowhere")
-    output, seen = at_a_terminal("judge", "-j", jobs, tmp_path)
+    output, seen = at_a_terminal(["judge", "-j", jobs, str(tmp_path)])
     assert output.count("moves 4000 score 0") == 320 and "\r" not in output
     # A part of the files, the time that is left, and a rate.
     assert re.search(r"\d+%.*\d+/321 \[\d\d:\d\d<\d\d:\d\d, +[\d.]+ files/s\]", seen)
@@ -49,5 +49,5 @@ def test_judge_shows_how_far_it_is(tmp_path, jobs):
 
 def test_tidy_shows_how_far_it_is(tmp_path):
     records(tmp_path, 60)
-    _, seen = at_a_terminal("tidy", "--in-place", tmp_path)
+    _, seen = at_a_terminal(["tidy", "--in-place", str(tmp_path)])
     assert re.search(r"\d+/60 \[", seen) and seen.endswith("60 written, 0 as they were, 0 refused, 0 failed\r\n")
