@@ -123,30 +123,45 @@ def test_a_fault_that_is_among_its_own_causes(monkeypatch, capfd):
     assert run(capfd, "judge", "-").status == 3
 
 
-class Interrupted:
-    """Has an import interrupted while it makes a class."""
+class Broken:
+    """Has the import of a module end by an exception, while that makes a class."""
 
-    def __init__(self, name):
-        self.name = name
+    def __init__(self, name, why):
+        self.name, self.why = name, why
 
     def find_spec(self, name, path, target=None):
         if name == self.name:
-            by_a_class(KeyboardInterrupt())
+            by_a_class(self.why)
+
+
+def end_of_import(start, name, why, monkeypatch):
+    """The status of a start that imports a module."""
+    monkeypatch.delitem(sys.modules, name)
+    for attribute, value in (("path", list(sys.path)), ("meta_path", [Broken(name, why), *sys.meta_path])):
+        monkeypatch.setattr(sys, attribute, value)
+    try:
+        return start()
+    except SystemExit as end:
+        return end.code
+
+
+IMPORTS = [
+    ("goref._tools.main", program.run),
+    ("goref.__main__", lambda: runpy.run_path(os.path.join(PACKAGE, "goref-tools"))),
+]
 
 
 @pytest.mark.no_library
-@pytest.mark.parametrize("name, start", [
-    ("goref._tools.main", program.run),
-    ("goref.__main__", lambda: runpy.run_path(os.path.join(PACKAGE, "goref-tools"))),
-])
+@pytest.mark.parametrize("name, start", IMPORTS)
 def test_an_interrupt_while_the_command_is_imported(name, start, monkeypatch):
-    monkeypatch.delitem(sys.modules, name)
-    for attribute, value in (("path", list(sys.path)), ("meta_path", [Interrupted(name), *sys.meta_path])):
-        monkeypatch.setattr(sys, attribute, value)
-    try:
-        assert start() == 130
-    except SystemExit as end:
-        assert end.code == 130
+    assert end_of_import(start, name, KeyboardInterrupt(), monkeypatch) == 130
+
+
+@pytest.mark.no_library
+@pytest.mark.parametrize("name, start", IMPORTS)
+def test_another_fault_while_the_command_is_imported(name, start, monkeypatch):
+    with pytest.raises((RuntimeError, KeyError)):
+        end_of_import(start, name, KeyError("of no use"), monkeypatch)
 
 
 def test_an_output_that_fails_is_told():
