@@ -4,14 +4,15 @@ import faulthandler
 import os
 import signal
 import sys
+from pathlib import Path
 
 import pytest
 
 # A shell that starts the tests in the background has them ignore interrupts, and what they start would too.
 signal.signal(signal.SIGINT, signal.default_int_handler)
 
-HERE = os.path.dirname(os.path.abspath(__file__))
-sys.path.insert(0, HERE)
+HERE = Path(__file__).resolve().parent
+sys.path.insert(0, str(HERE))
 
 MOST_SECONDS = 60
 """How long a test may take, unless its mark `seconds` says otherwise."""
@@ -40,7 +41,7 @@ def pytest_configure(config):
 def pytest_ignore_collect(collection_path):
     """Only `test_` files of the tests are collected: a search for examples would import the others a second time."""
     is_helper = collection_path.suffix == ".py" and not collection_path.name.startswith("test_")
-    return True if is_helper and os.path.join(HERE, "tests") in map(str, collection_path.parents) else None
+    return (is_helper and HERE / "tests" in collection_path.parents) or None
 
 
 def _why_no_library():

@@ -13,7 +13,7 @@ def run() -> int:
 
         return main()
     except BaseException as why:
-        # One that came before the command could answer it.
+        # An interrupt that came before the command could answer it.
         if interrupt_behind(why):
             return 130
         raise
