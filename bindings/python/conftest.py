@@ -38,10 +38,12 @@ def pytest_configure(config):
     config.addinivalue_line("markers", "no_library: the test needs no library; each other one is skipped without it")
 
 
-def pytest_ignore_collect(collection_path):
-    """Only `test_` files of the tests are collected: a search for examples would import the others a second time."""
-    is_helper = collection_path.suffix == ".py" and not collection_path.name.startswith("test_")
-    return (is_helper and HERE / "tests" in collection_path.parents) or None
+@pytest.hookimpl(hookwrapper=True)
+def pytest_collect_file(file_path):
+    """Examples are looked for in the package alone: below `tests` that would import helpers twice, and skip files twice."""
+    found = yield
+    if HERE / "tests" in file_path.parents:
+        found.force_result([one for one in found.get_result() if type(one) is pytest.Module])
 
 
 def _why_no_library():

@@ -137,8 +137,9 @@ class Broken:
 def end_of_import(start, name, why, monkeypatch):
     """The status of a start that imports a module."""
     monkeypatch.delitem(sys.modules, name)
-    for attribute, value in (("path", list(sys.path)), ("meta_path", [Broken(name, why), *sys.meta_path])):
-        monkeypatch.setattr(sys, attribute, value)
+    monkeypatch.setattr(sys, "meta_path", [Broken(name, why), *sys.meta_path])
+    monkeypatch.setattr(sys, "path", list(sys.path))
+    monkeypatch.setattr(sys, "dont_write_bytecode", sys.dont_write_bytecode)
     try:
         return start()
     except SystemExit as end:

@@ -58,12 +58,14 @@ def test_examples_are_run(tmp_path):
     assert re.search(r"^1 failed in ", pytest_of(tmp_path, "named.py").stdout, re.M)
 
 
-def test_what_helps_tests_is_imported_once(tmp_path):
+def test_files_below_tests_are_looked_at_once(tmp_path):
     kit = tmp_path / "tests" / "kit"
     kit.mkdir(parents=True)
     (kit / "helper.py").write_text("print('made', __name__)")
-    suite(tmp_path, "from kit import helper", "tests/test_made.py")
-    assert re.findall("^made .*", pytest_of(tmp_path, "-s", "tests").stdout, re.M) == ["made kit.helper"]
+    suite(tmp_path, "import pytest\nfrom kit import helper\npytest.importorskip('nothing')", "tests/test_made.py")
+    seen = pytest_of(tmp_path, "-s", "tests").stdout
+    assert re.findall("^made .*", seen, re.M) == ["made kit.helper"]
+    assert re.search("^1 skipped in ", seen, re.M)
 
 
 HANGS = """
