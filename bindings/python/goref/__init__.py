@@ -5,7 +5,7 @@
     ...     game.ask("play b e5")
     ...     game.ask("genmove w")
     ''
-    'E6'
+    'B2'
 
 The calls are those of `include/goref.h`, in the library `libgoref.so`, which `bindings/build` makes. The library is
 looked for at the first call: where the environment's GOREF_LIBRARY says, else in `bindings/lib`, else in the `lib` that

@@ -3,6 +3,8 @@
 import os
 import sys
 
+from goref._interrupts import interrupt_behind
+
 
 def run() -> int:
     """Runs the command, and gives the status."""
@@ -10,9 +12,11 @@ def run() -> int:
         from goref._tools.main import main
 
         return main()
-    except KeyboardInterrupt:
-        # One that came before the command could answer it.
-        return 130
+    except BaseException as why:
+        # An interrupt that came before the command could answer it.
+        if interrupt_behind(why):
+            return 130
+        raise
 
 
 def end() -> None:

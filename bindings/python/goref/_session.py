@@ -13,7 +13,10 @@ from goref._types import Bytes, GorefError, OutOfMemory, Refused, SessionOver, b
 Files = Union[
     Mapping[bytes, bytes], Mapping[str, bytes], Callable[[bytes], Optional[bytes]], "os.PathLike[str]", str, None
 ]
-"""Where `loadsgf` finds its files: a mapping from names to bytes, a folder, or a function from a name to bytes."""
+"""Where `loadsgf` finds its files: a mapping from names to bytes, a folder, or a function from a name to bytes.
+
+A name that leads out of the folder, also by a symbolic link, finds nothing.
+"""
 
 _MOST = 16_777_216
 

@@ -59,6 +59,7 @@ def test_more_moves_than_there_are(run, file):
     assert run("board", path, "--move", "9" * 30).status == 2
 
 
+@pytest.mark.no_library
 @pytest.mark.parametrize(
     "words", [["--move", "-1"], ["--move", "x"], ["--game", "0"], ["--numbers", "3"], ["--move", "\u0663"]]
 )
@@ -116,6 +117,7 @@ def test_what_has_no_board(run, file, content, reason):
         assert run("board", path, *words) == (1, "", f"goref-tools: {path}: game 1: {reason}\n")
 
 
+@pytest.mark.no_library
 def test_a_file_that_is_missing(run, tmp_path):
     assert run("board", tmp_path / "none") == (3, "", f"goref-tools: {tmp_path}/none: No such file or directory\n")
 
@@ -144,6 +146,7 @@ def test_boards_back_are_those_of_a_model(wanted, handicap):
         assert (board.stones, board.black_taken, board.white_taken) == ("".join(rows), taken["B"], taken["W"])
 
 
+@pytest.mark.no_library
 def test_points():
     assert [point_of(one, 19) for one in ("A19", "T19", "A1", "T1", "J10", "pass")] == [0, 18, 342, 360, 179, None]
     assert (point_of("Z1", 25), point_of("A1", 1)) == (624, 0)

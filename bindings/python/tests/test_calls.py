@@ -30,7 +30,12 @@ def test_lines_are_answered():
     assert goref.answers(b"") == b""
 
 
-@pytest.mark.parametrize("call", [goref.judge, goref.tidy, goref.answers, goref.games, goref.Session(5).send])
+def send(text):
+    with goref.Session(5) as game:
+        return game.send(text)
+
+
+@pytest.mark.parametrize("call", [goref.judge, goref.tidy, goref.answers, goref.games, send])
 def test_text_in_place_of_bytes_is_told(call):
     with pytest.raises(TypeError, match="bytes are wanted: encode it"):
         call("(;)")
@@ -38,6 +43,7 @@ def test_text_in_place_of_bytes_is_told(call):
         call(7)
 
 
+@pytest.mark.no_library
 @pytest.mark.parametrize("size", [0, 26, -1, 10**30])
 def test_a_size_that_no_board_has_is_told(size):
     for call in (lambda: goref.answers(b"", size), lambda: goref.Session(size)):
@@ -46,6 +52,7 @@ def test_a_size_that_no_board_has_is_told(size):
     assert issubclass(goref.BadSize, ValueError)
 
 
+@pytest.mark.no_library
 def test_a_size_of_another_type_is_told():
     with pytest.raises(TypeError, match="size is of type str"):
         goref.Session("19")
@@ -85,6 +92,7 @@ def test_games_are_found_as_they_are_asked_for(monkeypatch):
     assert (next(found).begin, counted.calls) == (3, 2)
 
 
+@pytest.mark.no_library
 @pytest.mark.parametrize(
     "library, told",
     [("/no/such/library.so", "can't be loaded"), (__file__, "can't be loaded"), ("libc.so.6", "is older than this module")],

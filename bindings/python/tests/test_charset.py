@@ -25,6 +25,7 @@ def record(name, stated=None):
     return f"(;GM[1]SZ[9]KM[6.5]{f'CA[{stated}]' if stated else ''}PB[{name}];B[ee];W[cc])"
 
 
+@pytest.mark.no_library
 @pytest.mark.parametrize("data", [b"", b"(;B[aa])", b"(;CA[big5]B[aa])", bytes(range(128)), "(;PB[許功蓋])".encode()])
 def test_ascii_and_utf8_are_passed_on(data):
     assert converted(data) == Converted(data, None, "", data)
@@ -38,6 +39,7 @@ def test_the_charset_that_the_record_names(codec):
     assert found.how == "CA"
 
 
+@pytest.mark.no_library
 @pytest.mark.parametrize("codec", NAMES)
 def test_the_charset_that_is_asked_for(codec):
     text = record(NAMES[codec])
@@ -56,16 +58,19 @@ def test_a_name_that_is_none_is_passed_over(stated):
     assert converted(data) == Converted(data, None, "", data)
 
 
+@pytest.mark.no_library
 def test_a_name_in_a_comment_is_none():
     text = "(;C[he wrote CA[big5\\]]PB[Иванов];B[aa])"
     assert converted(text.encode()).charset is None
 
 
+@pytest.mark.no_library
 def test_a_name_that_the_bytes_are_not_of():
     data = record("\U0001f600", "big5").encode("utf-8")
     assert converted(data) == Converted(data, None, "", data)
 
 
+@pytest.mark.no_library
 @pytest.mark.parametrize("codec", ["utf-8-sig", "utf-16", "utf-16-be", "utf-32"])
 def test_a_byte_order_mark(codec):
     text = "(;PB[許功蓋];B[aa])"
@@ -77,6 +82,7 @@ def test_a_byte_order_mark(codec):
         assert (found.utf8, found.how) == (text.encode("utf-8"), "byte-order mark")
 
 
+@pytest.mark.no_library
 def test_a_guess_is_told():
     found = converted(record("坂田栄男の碁の棋譜です").encode("cp932"))
     assert found.how == "guessed" and found.charset == "cp932"
@@ -93,6 +99,7 @@ def test_what_a_guess_leaves_open_has_other_readings():
     assert list(readings(stated, converted(stated))) == []
 
 
+@pytest.mark.no_library
 @pytest.mark.parametrize(
     "codec, data, place", [("utf-8", b"(;C[\xff])", 4), ("big5", b"(;C[ab\xff\xff])", 6), ("ascii", b"\x80", 0)]
 )
@@ -101,11 +108,13 @@ def test_bytes_of_another_charset_are_told(codec, data, place):
         converted(data, codec)
 
 
+@pytest.mark.no_library
 @pytest.mark.parametrize("name", ["", "no", "rot13", "hex", "idna", "utf-7", "unicode_escape", "\0", "x" * 1000])
 def test_what_is_no_charset(name):
     assert codec_of(name) is None
 
 
+@pytest.mark.no_library
 @pytest.mark.parametrize("codec", ["big5", "cp932", "gb18030", "euc_jp", "utf-16", "utf-16-le", "utf-32", "iso2022_jp", "cp1252"])
 @pytest.mark.parametrize("length", [0, 1, 4094, 4095, 4096, 9000])
 def test_places_are_those_of_the_file(codec, length):
@@ -140,27 +149,32 @@ def test_utf8_that_names_another_charset_has_two_readings():
     assert [other.utf8 for _, other in readings(data, found)] == [data]
 
 
+@pytest.mark.no_library
 def test_a_common_guess_is_preferred():
     assert converted("(;PB[Müller]C[Très bien joué, déjà vu];B[aa])".encode("cp1252")).charset == "cp1252"
 
 
+@pytest.mark.no_library
 def test_a_second_byte_that_hides_an_end_is_no_latin_letter():
     data = b"(;PB[Li\xc1\x5c];B[aa];W[bb])"
     assert "in big5hkscs" in [name for name, _ in readings(data, converted(data))] or converted(data).charset == "big5"
 
 
+@pytest.mark.no_library
 def test_a_long_value_is_guessed_at_once():
     begun = time.process_time()
     assert converted(b"(;GM[1]C[" + b"a " * 1_000_000 + b"];B[aa]C[caf\xe9])").how == "guessed"
     assert time.process_time() - begun < 5
 
 
+@pytest.mark.no_library
 @pytest.mark.parametrize("before", ["", "x"])
 def test_a_guess_may_end_within_a_character(before):
     text = "這是一個很好的棋局,黑棋下得很好" * 400
     assert converted(f"(;C[{before}{text}])".encode("big5")).charset == "big5"
 
 
+@pytest.mark.no_library
 @pytest.mark.parametrize(
     "codec, text, place",
     [
@@ -174,12 +188,14 @@ def test_a_mark_counts_among_the_bytes(codec, text, place):
     assert found.place(found.utf8.index(b"x")) == place
 
 
+@pytest.mark.no_library
 def test_the_end_is_that_of_the_file():
     data = "(;C[表".encode("iso2022_jp")
     found = converted(data, "iso2022_jp")
     assert found.place(len(found.utf8)) == len(data)
 
 
+@pytest.mark.no_library
 def test_places_are_found_in_any_order_and_soon():
     text = "(;PB[許功蓋];B[aa]!)" * 20_000
     found = converted(text.encode("big5"), "big5")

@@ -11,6 +11,7 @@ from goref._tools import engine as module
 from goref._tools.engine import Engine, EngineFailed, EngineLate
 from running import is_gone
 
+pytestmark = pytest.mark.no_library
 WORDS = [sys.executable, "-I", "-S", os.path.join(os.path.dirname(os.path.abspath(__file__)), "engines.py")]
 
 

@@ -14,6 +14,7 @@ from goref._tools.match_settings import Settings
 from goref._tools.match_table import Tally, table_of, tallies_of, wilson
 from goref._tools.responses import BadResponse, Incoming, Response, in_short
 
+pytestmark = pytest.mark.no_library
 SETTINGS = Settings(("first", "second"), 9, "7.5", 0, "positional", None)
 
 

@@ -117,6 +117,7 @@ def test_the_steps_lead_to_the_boards_of_a_model(wanted):
     assert len(data["steps"]) == len(moves)
 
 
+@pytest.mark.no_library
 def test_comments_stand_with_the_moves_before_them():
     nodes = main_line(b"(;C[a];C[b];B[aa]C[c];C[d];W[bb];N[x];C[e\\]\\\nf];B[cc]W[dd]C[g];C[ ])")
     assert comments_of(nodes, 9) == {"0": "a\n\nb", "1": "c\n\nd", "2": "e]f", "4": "g"}
@@ -152,6 +153,7 @@ def test_what_is_in_a_record_stays_data(page):
         assert made.all("script")[1]["text"] == plain.all("script")[1]["text"]
 
 
+@pytest.mark.no_library
 @given(some.text())
 def test_json_in_html_is_json_and_no_markup(text):
     there = json_in_html({"x": text})

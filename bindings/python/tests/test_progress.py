@@ -3,27 +3,20 @@
 import os
 import pty
 import re
-import subprocess
-import sys
 
 import pytest
 
-from test_main import HERE
+from kit.runner import started
 
 pytest.importorskip("tqdm")
 
 
-def at_a_terminal(words, **more):
+def at_a_terminal(words):
     """What a terminal sees of the standard error of a run, and its output."""
     ours, theirs = pty.openpty()
-    environment = {**os.environ, "PYTHONPATH": os.path.dirname(HERE), "TERM": "xterm", **more}
-    process = subprocess.Popen(
-        [sys.executable, "-B", "-m", "goref", *words], stdout=subprocess.PIPE, stderr=theirs, stdin=subprocess.DEVNULL,
-        env=environment,
-    )
-    os.close(theirs)
-    output = process.stdout.read()
-    process.wait()
+    with started(*words, stderr=theirs, env={"TERM": "xterm"}) as process:
+        os.close(theirs)
+        output = process.stdout.read()
     seen = b""
     while True:
         try:

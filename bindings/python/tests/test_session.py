@@ -9,6 +9,7 @@ import threading
 import pytest
 
 import goref
+from goref import _library, _session
 from kit.runner import environment
 
 RECORD = b"(;SZ[3];B[bb])"
@@ -67,6 +68,58 @@ def test_files_are_a_mapping_a_folder_or_a_function(tmp_path):
         assert game.send(b"loadsgf a\n", {"a": b"(;C[" + b"x" * 16_777_216 + b"])"}) == b"? cannot load file\n\n"
 
 
+def loaded(folder, *names):
+    """Which files of a folder a session loads."""
+    with goref.Session() as game:
+        return [name for name in names if game.send(b"loadsgf " + os.fsencode(name), folder) == b"=\n\n"]
+
+
+def test_a_name_that_leads_out_of_the_folder_finds_nothing(tmp_path):
+    inside, beside = tmp_path / "files", tmp_path / "files-of-others"
+    for folder in (inside, beside):
+        folder.mkdir()
+        (folder / "a").write_bytes(RECORD)
+    (inside / "link").symlink_to("a")
+    (inside / "out").symlink_to("../files-of-others/a")
+    (inside / "up").symlink_to("..")
+    names = ["a", "link", "../files/a", "../files-of-others/a", "out", "up/files-of-others/a", str(beside / "a")]
+    assert loaded(beside, "a") == ["a"]
+    assert loaded(inside, *names) == ["a", "link", "../files/a"]
+
+
+def test_a_file_is_as_long_as_a_record_may_be(tmp_path):
+    (tmp_path / "longest").write_bytes(RECORD.ljust(16_777_216))
+    (tmp_path / "too_long").write_bytes(RECORD.ljust(16_777_217))
+    assert loaded(tmp_path, "longest", "too_long") == ["longest"]
+
+
+class Lacking:
+    """The library, with memory for the first line alone of a text that has `showboard`."""
+
+    def __getattr__(self, name):
+        return getattr(_library.library(), name)
+
+    def goref_send(self, handle, text, length, wanted):
+        first, end, rest = text.partition(b"\n")
+        if b"showboard" not in text:
+            return _library.library().goref_send(handle, text, length, wanted)
+        _library.library().goref_send(handle, first + end, len(first + end), wanted)
+        return 3
+
+
+@pytest.mark.parametrize("lines, files, text", [
+    (b"1 name\n2 showboard\n3 name\n", None, b"=1 goref\n\n"),
+    (b"1 loadsgf a\n2 loadsgf b\n3 play b a1 # showboard\n4 name\n", {"a": RECORD}, b"=1\n\n?2 cannot load file\n\n=3\n\n"),
+], ids=["at once", "line by line"])
+def test_a_lack_of_memory_leaves_the_answers_before_it(lines, files, text, monkeypatch):
+    monkeypatch.setattr(_session, "library", Lacking)
+    with goref.Session() as game:
+        with pytest.raises(goref.OutOfMemory, match="^out of memory$") as lack:
+            game.send(lines, files)
+        assert lack.value.text == text
+        assert game.ask("name") == "goref" and not game.is_over
+
+
 def test_a_pipe_is_no_file(tmp_path):
     os.mkfifo(tmp_path / "pipe")
     with goref.Session() as game:
@@ -120,12 +173,17 @@ def test_a_session_is_used_by_threads():
         assert game.ask("showboard").splitlines()[0].endswith("moves 0 next B")
 
 
-def test_a_session_that_is_let_go_is_closed(monkeypatch):
+def test_a_session_that_is_let_go_is_closed():
     closed = []
-    monkeypatch.setattr(goref.Session, "close", lambda game: closed.append(game))
-    goref.Session()
+
+    class Watched(goref.Session):
+        def close(self):
+            closed.append(self.is_over)
+            super().close()
+
+    Watched()
     gc.collect()
-    assert len(closed) == 1
+    assert closed == [False]
 
 
 def test_a_lack_of_memory_is_no_refusal():

@@ -56,6 +56,7 @@ def read(spelling):
     return [[(one.name, one.values) for one in node.properties] for node in main_line(spelling)]
 
 
+@pytest.mark.no_library
 def test_the_main_line_of_a_tree():
     for tree in TREES:
         assert read(spelt(tree) + b"\n") == first_nodes(tree)
@@ -70,6 +71,7 @@ def test_goref_spells_trees_as_the_reader_wants_them(space):
         assert goref.tidy(b"no " + spelt(tree, loose)) == spelt(tree) + b"\n"
 
 
+@pytest.mark.no_library
 def test_places_of_nodes_and_properties():
     for spelling, node in [(spelt(tree), node) for tree in TREES for node in main_line(spelt(tree))]:
         assert spelling[node.begin : node.begin + 1] == b";"
@@ -79,6 +81,7 @@ def test_places_of_nodes_and_properties():
             assert part == one.name.encode() + b"".join(b"[" + value + b"]" for value in one.values)
 
 
+@pytest.mark.no_library
 def test_the_tree_at_a_place_is_read():
     for one, other in zip(TREES, TREES[1:]):
         before = spelt(one) + b"\n"
@@ -116,11 +119,13 @@ def test_nodes_are_numbered_as_goref_numbers_them(moves, place, bad):
     assert any(one.name in "BW" and one.values[0] in (b"zz", b"f\\a", b"aaa") for one in node.properties)
 
 
+@pytest.mark.no_library
 def test_first_values():
     [node] = main_line(b"(;C[a][b]N[c]C[d])")
     assert (node.first("C"), node.first("N"), node.first("X")) == (b"a", b"c", None)
 
 
+@pytest.mark.no_library
 @pytest.mark.parametrize(
     "value, text, simple",
     [
@@ -142,6 +147,7 @@ def test_texts(value, text, simple):
     assert (text_of(value), simple_text_of(value)) == (text, simple)
 
 
+@pytest.mark.no_library
 @pytest.mark.parametrize(
     "value, size, vertex",
     [
@@ -162,6 +168,7 @@ def test_vertices(value, size, vertex):
     assert vertex_of(value, size) == vertex
 
 
+@pytest.mark.no_library
 @pytest.mark.parametrize(
     "value, size", [(b"AA", 19), (b"a", 19), (b"aaa", 19), (b"ja", 9), (b"a a", 19), (b"\xc3\xa4", 19)]
 )
@@ -170,6 +177,7 @@ def test_what_names_no_point(value, size):
         vertex_of(value, size)
 
 
+@pytest.mark.no_library
 def test_a_long_value_with_escapes_and_a_deep_tree_are_read():
     value = b"\\]" * 300_000
     [node] = main_line(b"(;C[" + value + b"])")

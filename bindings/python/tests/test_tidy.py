@@ -182,6 +182,7 @@ def test_a_full_disk_leaves_the_old_file(tmp_path):
     assert [path.name for path in tmp_path.iterdir()] == ["a.sgf"] and (tmp_path / "a.sgf").read_bytes() == before
 
 
+@pytest.mark.seconds(600)
 def test_an_end_at_any_moment_loses_no_record(tmp_path):
     draw = random.Random(7)
     rounds = int(os.environ.get("GOREF_KILLS", "12"))

@@ -106,6 +106,7 @@ def test_the_guess_of_wide_characters_helps(why, capsys, tmp_path):
     assert end.status == 0 and "is fine: 1 move" in end.out and "converted from utf-16-le, --charset" in end.err
 
 
+@pytest.mark.no_library
 def test_nothing_is_guessed_without_a_sign():
     assert guess(b"just some words") is None and guess(b"") is None
 
@@ -193,6 +194,7 @@ def test_another_game(why, value, stands):
     ]
 
 
+@pytest.mark.no_library
 def test_numbers_of_games():
     assert [game_by(one) for one in (b"1", b" +01 ", b"4", b"", b"-1", b"1.0")] == [
         "Go",
@@ -342,6 +344,7 @@ def test_a_repetition_of_a_later_position(why):
 # ---- Words, files, terminals.
 
 
+@pytest.mark.no_library
 def test_faults_of_files_and_words(capsys, tmp_path):
     run = runner(capsys)
     assert run("why", tmp_path / "none") == (3, "", f"goref-tools: {tmp_path}/none: No such file or directory\n")
@@ -374,12 +377,14 @@ def test_long_nodes_are_cut(why):
     )
 
 
+@pytest.mark.no_library
 def test_pieces():
     assert printable("a\tb\u5fc5\u00e4 \x7f\ud83d") == "a\\tb\u5fc5\u00e4 \\x7f\\ud83d"
     assert (shortened("abc", 3), shortened("abcd", 3)) == ("abc", "abc.. (1 character more)")
     assert property_shown(Property("AB", [b"aa", b"\xff]"], 0, 0)) == "AB[aa][\\xff]]"
 
 
+@pytest.mark.no_library
 def test_marks():
     assert marked(b"ab", 0) == ["It is in line 1, column 1.", "    ab", "    ^"]
     assert marked(b"ab", 2) == ["It is in line 1, column 3.", "    ab", "      ^"]
@@ -391,6 +396,7 @@ def test_marks():
     assert marked(b"", 0) == ["It is in line 1, column 1.", "    ", "    ^"]
 
 
+@pytest.mark.no_library
 @pytest.mark.parametrize(
     "reason, named",
     [

@@ -10,6 +10,7 @@ import threading
 from importlib import import_module
 from typing import List, Optional, Sequence
 
+from goref._interrupts import interrupt_behind
 from goref._tools.faults import (
     DONE, ENDED, FAULT, INTERRUPTED, REFUSED, WRONG_WORDS, Ended, Fault, RefusedFile, WrongWords, leave_output, shown, tell,
 )
@@ -47,12 +48,16 @@ def main(arguments: Optional[Sequence[str]] = None) -> int:
     except OSError as why:
         leave_output()
         return _told(_name_of(why) + str(why.strerror or why), FAULT)
-    except Ended:
-        return _told("ended", ENDED)
-    except KeyboardInterrupt:
-        return _told("interrupted", INTERRUPTED)
+    except KeyboardInterrupt as why:
+        return _stopped(why)
     except Exception as why:
-        return _told(f"a fault of its own: {_placed(why)}", FAULT)
+        interrupt = interrupt_behind(why)
+        return _stopped(interrupt) if interrupt else _told(f"a fault of its own: {_placed(why)}", FAULT)
+
+
+def _stopped(why: KeyboardInterrupt) -> int:
+    """Tells that the run was ended by a signal, and gives the status."""
+    return _told("ended", ENDED) if isinstance(why, Ended) else _told("interrupted", INTERRUPTED)
 
 
 def _name_of(why: OSError) -> str:
