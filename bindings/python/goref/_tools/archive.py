@@ -7,7 +7,7 @@ from typing import Callable, Dict, List, NamedTuple, Optional, Sequence, Tuple, 
 
 from goref._tools.charset import Converted, WrongCharset, converted, readings
 from goref._tools.faults import Fault, shown
-from goref._tools.files import contents
+from goref._tools.reading import contents
 from goref._tools.records import Found, found_in, in_words
 
 

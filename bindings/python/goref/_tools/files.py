@@ -2,14 +2,10 @@
 
 import os
 import stat
-import sys
 from contextlib import contextmanager
 from typing import IO, Iterator, List, Optional, Union
 
 from goref._tools.faults import Fault, fault_of, shown
-
-MOST = 268_435_456
-"""How many bytes of a file are read at most; goref itself reads records of 16,777,216."""
 
 
 def records_in(path: str) -> Iterator[Union[str, Fault]]:
@@ -60,42 +56,6 @@ def _record(path: str) -> Iterator[Union[str, Fault]]:
         yield path
     elif not stat.S_ISDIR(mode):
         yield Fault(f"{shown(path)}: no regular file")
-
-
-def contents(path: str) -> bytes:
-    """All bytes of a file, and those of the standard input for `-`. Raises a Fault that names the file."""
-    try:
-        if path == "-":
-            if sys.stdin is None:
-                raise Fault("standard input: it is closed")
-            data = _read(sys.stdin.buffer)
-        else:
-            with open(path, "rb", buffering=0) as file:
-                data = _read(file)
-    except OSError as why:
-        raise fault_of(path, why) from None
-    except MemoryError:
-        raise Fault(f"{shown(path)}: out of memory") from None
-    if len(data) > MOST:
-        raise Fault(f"{shown(path)}: longer than {MOST:,} bytes")
-    return data
-
-
-def _read(file: IO[bytes]) -> bytes:
-    """What a file, a pipe or a device has, and no more than is wanted."""
-    blocks = []
-    left = MOST + 1
-    status = os.fstat(file.fileno())
-    is_whole = stat.S_ISREG(status.st_mode)
-    # One read for most files, which comes back short at their end.
-    size = status.st_size + 1 if is_whole else 1 << 20
-    while left:
-        block = file.read(min(left, size))
-        blocks.append(block or b"")
-        left -= len(blocks[-1])
-        if not block or (is_whole and len(block) < size):
-            break
-    return b"".join(blocks)
 
 
 @contextmanager

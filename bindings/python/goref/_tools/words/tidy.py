@@ -133,7 +133,7 @@ def _told(place: Union[Place, Fault], given: argparse.Namespace, ends: Ends) -> 
 
 def _tidy(place: Place, given: argparse.Namespace, ends: Ends) -> Optional[str]:
     """Writes the spelling of a file, and gives what was converted or dropped."""
-    from goref._tools.files import contents
+    from goref._tools.reading import contents
     from goref._tools.tidying import Untidy, tidied
 
     data = contents(place.source)
