@@ -6,7 +6,8 @@ import json
 from typing import Callable, Dict, List, NamedTuple, Optional, Sequence, Tuple, Union
 
 from goref._tools.charset import Converted, WrongCharset, converted, readings
-from goref._tools.faults import Fault, shown
+from goref._tools.faults import Fault, many, shown
+from goref._tools.passed import Passed
 from goref._tools.reading import contents
 from goref._tools.records import Found, found_in, in_words
 
@@ -41,12 +42,13 @@ class Counts(NamedTuple):
     def plus(self, more: "Counts") -> "Counts":
         return Counts(*(one + other for one, other in zip(self, more)))
 
-    def told(self) -> str:
-        """The counts in a line, as people read them."""
+    def told(self, passed: Passed) -> str:
+        """The counts in a line, as people read them, with what was passed over."""
         return (
-            f"{_many(self.files, 'file')}, {_many(self.games, 'game')}: {self.refused} refused, {self.agreeing} agreeing,"
-            f" {self.differing} differing; {_many(self.converted, 'file')} converted"
-        ) + (f", {self.faults} failed" if self.faults else "")
+            f"{many(self.files, 'file')}, {many(self.games, 'game')}: {self.refused} refused, {self.agreeing} agreeing,"
+            f" {self.differing} differing; {many(self.converted, 'file')} converted"
+            f"{f', {self.faults} failed' if self.faults else ''}{f'; {passed.told()}' if passed else ''}"
+        )
 
 
 class Told(NamedTuple):
@@ -140,10 +142,6 @@ def _counts(rows: List[Row], files: int, faults: int) -> Counts:
     )
 
 
-def _many(number: int, what: str) -> str:
-    return f"{number:,} {what}{'' if number == 1 else 's'}"
-
-
 def _text(rows: List[Row]) -> str:
     return "".join(f"{shown(row.file)}:{row.game}: {_said(row)}{_conversion(row)}\n" for row in rows)
 
@@ -170,5 +168,3 @@ FORMATS: Dict[str, Callable[[List[Row]], str]] = {"text": _text, "csv": _csv, "j
 def heading(kind: str) -> str:
     """What a format begins with."""
     return ",".join(Row._fields) + "\n" if kind == "csv" else ""
-
-

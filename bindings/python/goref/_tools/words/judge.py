@@ -7,6 +7,7 @@ from functools import partial
 
 from goref._tools.charset import add_charset
 from goref._tools.faults import DONE, FAULT, REFUSED
+from goref._tools.passed import Passed, add_hidden
 
 EXAMPLE = """example:
   goref-tools judge --format csv archive/ > verdicts.csv
@@ -27,6 +28,7 @@ def add_arguments(parser: argparse.ArgumentParser) -> None:
     parser.add_argument("paths", metavar="PATH", nargs="+", help="a file, a folder, or - for the standard input")
     parser.add_argument("--format", choices=("text", "csv", "json"), default="text", help="text; csv; or json, an object a line")
     parser.add_argument("-j", "--jobs", metavar="N", type=jobs, help="processes at once (as many as processors)")
+    add_hidden(parser)
     add_charset(parser)
 
 
@@ -45,7 +47,8 @@ def run(given: argparse.Namespace) -> int:
     from goref._tools.workers import in_order, processors
 
     library()
-    paths = [found for path in given.paths for found in records_in(path)]
+    passed = Passed()
+    paths = [found for path in given.paths for found in records_in(path, given.hidden, passed)]
     counts = Counts()
     work = partial(judged, charset=given.charset, kind=given.format)
     results = in_order(work, paths, given.jobs or processors(), lambda path: path == "-")
@@ -62,5 +65,5 @@ def run(given: argparse.Namespace) -> int:
     finally:
         progress.close()
         results.close()
-    print(counts.told(), file=sys.stderr)
+    print(counts.told(passed), file=sys.stderr)
     return FAULT if counts.faults else REFUSED if counts.refused else DONE
