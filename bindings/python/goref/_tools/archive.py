@@ -10,6 +10,7 @@ from goref._tools.faults import Fault, many, shown
 from goref._tools.passed import Passed
 from goref._tools.reading import contents
 from goref._tools.records import Found, found_in, in_words
+from goref._tools.stated import StatedResult, stated_in
 
 
 class Row(NamedTuple):
@@ -26,6 +27,10 @@ class Row(NamedTuple):
     """What the file was converted from."""
     how: Optional[str] = None
     """How that charset was known."""
+    result: Optional[str] = None
+    """The result that the record states, as text."""
+    difference: Union[int, float, None] = None
+    """How many points the score that it states is away from goref's."""
 
 
 class Counts(NamedTuple):
@@ -91,9 +96,10 @@ def rows_of(path: Union[str, Fault], charset: Optional[str]) -> List[Row]:
 def _row(found: Found) -> Row:
     verdict = found.verdict()
     text = found.text
+    stated = stated_in(found.game.text, verdict)
     if isinstance(verdict, str):
-        return Row(found.path, found.number, None, None, None, verdict, *_how(text))
-    return Row(found.path, found.number, *verdict, None, *_how(text))
+        return Row(found.path, found.number, None, None, None, verdict, *_how(text), *stated)
+    return Row(found.path, found.number, *verdict, None, *_how(text), *stated)
 
 
 def _compared(path: str, rows: List[Row], text: Converted, name: str, other: Converted) -> List[Row]:
@@ -115,7 +121,7 @@ def _depending(row: Row, text: Converted, other: Optional[Row], name: str) -> Ro
         return row
     reading = f"in {text.charset}" if text.charset else "byte for byte"
     reason = f"depends on the charset: {_said(row)} {reading}, {_said(other)} {name}"
-    return Row(row.file, row.game, None, None, None, reason, *_how(text))
+    return Row(row.file, row.game, None, None, None, reason, *_how(text), row.result)
 
 
 def _how(text: Converted) -> Tuple[Optional[str], Optional[str]]:
@@ -143,7 +149,12 @@ def _counts(rows: List[Row], files: int, faults: int) -> Counts:
 
 
 def _text(rows: List[Row]) -> str:
-    return "".join(f"{shown(row.file)}:{row.game}: {_said(row)}{_conversion(row)}\n" for row in rows)
+    return "".join(f"{shown(row.file)}:{row.game}: {_said(row)}{_stated(row)}{_conversion(row)}\n" for row in rows)
+
+
+def _stated(row: Row) -> str:
+    told = StatedResult(row.result, row.difference).told()
+    return f" ({told})" if told else ""
 
 
 def _conversion(row: Row) -> str:
@@ -154,7 +165,9 @@ def _conversion(row: Row) -> str:
 
 def _csv(rows: List[Row]) -> str:
     text = io.StringIO()
-    csv.writer(text, lineterminator="\n").writerows(row._replace(file=shown(row.file)) for row in rows)
+    csv.writer(text, lineterminator="\n").writerows(
+        row._replace(file=shown(row.file), result=row.result and shown(row.result)) for row in rows
+    )
     return text.getvalue()
 
 

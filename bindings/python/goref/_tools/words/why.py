@@ -14,6 +14,7 @@ from goref._tools.doubts import doubt_of
 from goref._tools.explain import explained
 from goref._tools.faults import DONE, REFUSED, shown
 from goref._tools.records import Found, game_in, games_in, say_conversion
+from goref._tools.stated import stated_in
 from goref._tools.words.board import natural
 
 EXAMPLE = """example:
@@ -72,5 +73,6 @@ def _first_refused(path: str, charset: Optional[str]) -> Optional[Found]:
 
 def _fine(found: Found, verdict: goref.Verdict) -> str:
     moves = "1 move" if verdict.moves == 1 else f"{verdict.moves} moves"
-    stated = _STATED[verdict.stated]
+    differs = stated_in(found.game.text, verdict).told()
+    stated = _STATED[verdict.stated] + (f": {differs}" if differs else "")
     return f"{shown(found.path)}: game {found.number} is fine: {moves}, score {verdict.score}, {stated}"
