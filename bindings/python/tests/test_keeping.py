@@ -54,14 +54,18 @@ def has_attributes(folder):
         return False
 
 
-def test_extended_attributes_stay(record, tmp_path, capfd):
+def test_extended_attributes_stay(record, tmp_path, monkeypatch, capfd):
     if not has_attributes(tmp_path):
         pytest.skip("the file system has no extended attributes")
     os.setxattr(record, "user.source", b"\x00kept")
     record.chmod(0o440)
+    # Who isn't root can give them to a file only while that may be written.
+    modes = []
+    spy.before(monkeypatch, "setxattr", lambda: modes.extend(
+        stat.S_IMODE(path.stat().st_mode) for path in tmp_path.glob(".goref-*.new")))
     assert run(capfd, "tidy", "--in-place", record).status == 0
     assert record.read_bytes() == TIDY and os.getxattr(record, "user.source") == b"\x00kept"
-    assert stat.S_IMODE(os.stat(record).st_mode) == 0o440
+    assert stat.S_IMODE(os.stat(record).st_mode) == 0o440 and modes == [0o600]
 
 
 # A list as the system keeps it: version 2, and entries of a tag, permissions and a number. The group may write, uid 1
@@ -164,6 +168,19 @@ def test_a_file_with_hard_links_that_is_tidy_is_as_it_was(tmp_path, capfd):
     os.link(tmp_path / "a.sgf", tmp_path / "b.sgf")
     end = run(capfd, "tidy", "--in-place", tmp_path)
     assert (end.status, end.err) == (0, "0 written, 2 as they were, 0 refused, 0 left, 0 failed\n")
+
+
+def test_a_file_whose_length_is_changed_meanwhile_is_left(record, monkeypatch, capfd):
+    """Also if somebody sets its times back."""
+
+    def changed():
+        record.write_bytes(b"(;C[other text])")
+        os.utime(record, ns=OLD)
+
+    spy.before(monkeypatch, "fsync", changed)
+    end = run(capfd, "tidy", "--in-place", record)
+    assert (end.status, end.told) == (1, [f"{record}: it was changed since it was read", LEFT])
+    assert record.read_bytes() == b"(;C[other text])"
 
 
 @pytest.mark.parametrize("text", [b"(;C[other text])", LOOSE.replace(b"cc", b"dd")])

@@ -140,6 +140,15 @@ def test_no_backup_takes_the_place_of_a_file(records, capfd):
     assert (records / "in" / "b.sgf").read_bytes() == LOOSE and (records / "in" / "deep" / "c.sgf").read_bytes() == TIDY
 
 
+def test_a_file_is_no_backup_of_itself(records, capfd):
+    (records / "link").mkdir()
+    (records / "link" / "b.sgf").symlink_to("../in/b.sgf")
+    for folder in ("in", "link"):
+        end = run(capfd, "tidy", "--in-place", "--backup", folder, "in/b.sgf")
+        assert end.status == 1 and end.told[0] == f"in/b.sgf: no backup was made, since {folder}/b.sgf is there already"
+        assert (records / "in" / "b.sgf").read_bytes() == LOOSE
+
+
 def test_a_backup_that_comes_meanwhile_stays(records, monkeypatch, capfd):
     (records / "old" / "new").mkdir(parents=True)
     spy.before(monkeypatch, "link", lambda: (records / "old" / "new" / "b.sgf").write_bytes(b"dear"))

@@ -39,7 +39,8 @@ def check_backup(path: str, content: Content, target: str) -> bool:
     """Whether the copy is there, as after a run that was ended. Raises Left if another file has its name."""
     if not os.path.lexists(target):
         return False
-    if not os.path.isfile(target) or contents(target) != content.data:
+    is_itself = os.path.realpath(target) == os.path.realpath(path)
+    if is_itself or not os.path.isfile(target) or contents(target) != content.data:
         raise _taken(path, target)
     return True
 
