@@ -10,6 +10,7 @@ from hypothesis import given
 from hypothesis import strategies as st
 
 import goref
+from goref._tools.spelling import nodes_on, simple_text_of
 from goref._tools.stated import StatedResult, result_in, stated_in
 from kit.runner import run
 
@@ -64,13 +65,34 @@ def test_what_states_no_score_has_no_difference(value):
         (b"( ; SZ[5] REsult\n[ B+3\n])", "B+3"),
         (b"(;SZ[5]xRxEx[B+3])", "B+3"),
         (b"(;SZ[5]RE[B+\\\n3])", "B+3"),
-        (b"(;SZ[5]RE[B+3];B[aa]7)", None),
+        (b"(;SZ[5]RE[B+3];B[aa]7)", "B+3"),
+        (b"(;SZ[5]RE[B+3](;B[aa])(;B[bb]))", "B+3"),
+        (b"(;C[\\];]RE[B+3];B[aa])", "B+3"),
+        (b"(;C[\\\\];RE[B+3];B[aa])", None),
+        (b"(;C[x]\n\n;RE[B+3])", None),
+        (b"(;C[\\]; x]RE[B+3]7;B[aa])", None),
+        (b"(;SZ[5]RE[B+3]", None),
         (b"(;SZ[0]RE[B+3])", "B+3"),
         (b"(;SZ[5]RE[B+3];B[aa];W[aa])", "B+3"),
     ],
 )
 def test_the_result_is_the_first_of_the_first_node(record, result):
     assert result_in(record) == result
+
+
+PARTS = ["C[a\\];]", "C[\\\\]", "C[(;RE[0\\]]", "RE[B+3]", "RE[W+1]", "[\\]", "];", ";", "(;", ")", " ", "\n", "Result[0]"]
+
+
+@given(st.lists(st.sampled_from(PARTS), max_size=30))
+def test_the_first_node_is_that_of_the_whole_game(parts):
+    """It is looked for in the beginning of the text."""
+    record = f"(;{''.join(parts)})".encode()
+    try:
+        spelled = goref.tidy(record)
+    except goref.Refused:
+        return
+    stated = next(nodes_on(spelled, 0)).first("RE")
+    assert result_in(record) == (None if stated is None else simple_text_of(stated))
 
 
 @given(st.from_regex(r"\A[BW]\+?[0-9]{0,4}\.?[0-9]{0,3}\Z|\A(0|Draw|draw|B\+R)\Z"))
@@ -92,7 +114,7 @@ def test_a_difference_is_that_of_the_two_scores(hundredths):
 
 def test_each_format_tells_it(tmp_path, capfd):
     # A score that differs, one that is none, and two of games that goref refuses.
-    games = [BLACK % b"RE[W+3.5]", BLACK % b"RE[B+R]", b"(;SZ[0]RE[B+3])", b"(;SZ[5]RE[B+3];B[aa]7)"]
+    games = [BLACK % b"RE[W+3.5]", BLACK % b"RE[B+R]", b"(;SZ[0]RE[B+3])", b"(;SZ[5]RE[B+3]7)"]
     (tmp_path / "a.sgf").write_bytes(b"\n".join(games))
     file = f"{tmp_path}/a.sgf"
     lines = run(capfd, "judge", file).out.splitlines()

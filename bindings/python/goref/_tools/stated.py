@@ -10,6 +10,8 @@ from goref._tools.excerpt import printable, shortened
 
 # A property RE in any spelling: small letters in names say nothing.
 _PERHAPS = re.compile(rb"R[a-z]*E[a-z]*\s*\[")
+# Where the first node may end: a value does, before another node or a variation.
+_END = re.compile(rb"\]\s*[;(]")
 
 
 class StatedResult(NamedTuple):
@@ -28,15 +30,22 @@ class StatedResult(NamedTuple):
 
 
 def result_in(record: bytes) -> Optional[str]:
-    """The result that a game states, as text. One that isn't well spelled states none."""
+    """The result that a game states, as text. A game whose first node goref can't read states none."""
     if _PERHAPS.search(record) is None:
         return None
+    end = _END.search(record)
+    # A text is read from left to right: if goref takes the beginning for a record, that has the whole first node.
+    node = (_first_node(record[: end.start() + 1] + b")") if end else None) or _first_node(record)
+    value = node.first("RE") if node else None
+    return None if value is None else spelling.simple_text_of(value)
+
+
+def _first_node(record: bytes) -> Optional[spelling.Node]:
+    """The first node of a record as goref spells it; none where goref refuses the record."""
     try:
-        node = next(spelling.nodes_on(goref.tidy(record), 0))
+        return next(spelling.nodes_on(goref.tidy(record), 0))
     except goref.Refused:
         return None
-    value = node.first("RE")
-    return None if value is None else spelling.simple_text_of(value)
 
 
 def stated_in(record: bytes, verdict: Union[goref.Verdict, str]) -> StatedResult:

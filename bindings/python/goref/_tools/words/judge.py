@@ -17,10 +17,9 @@ A line has the file, the number of the game in it and the verdict, as
   archive/b.sgf:2: move 17 is on a stone
   archive/c.sgf:1: moves 80 score W+3.5 stated agrees (converted from big5, CA)
 
-If the record states another score, the line has that and how many points it is from goref's. CSV and JSON have it as
-`result`, the RE of any game whose text goref reads, and as `difference`, a number without a sign: 1 if the score is
-W+3.5 and the record states W+4.5, 5 if they are B+2 and W+3, and 0 if they agree. Where the record states no score,
-there is no difference.
+If the record states another score, the line has that, and how many points it is from goref's. In CSV and JSON `result`
+is the RE of any game whose first node goref can read, and `difference` a number without a sign: 1 if the score is W+3.5
+and the record states W+4.5, 5 if they are B+2 and W+3, 0 if they agree, and nothing if the record states no score.
 
 Where the charset is in doubt, and a verdict differs from one charset to another, the line says
 `depends on the charset`, and --charset settles it.
