@@ -65,17 +65,17 @@ def test_files_that_are_not_read_are_counted_by_their_endings(tmp_path, capfd):
     (tmp_path / "link").symlink_to("x")
     (tmp_path / "link.sgf").symlink_to("x")
     (tmp_path / "dangling").symlink_to("nowhere")
-    told = "9 files not read: 3 .gz, 3 other, 2 .sgfs, 1 .ds_store; 2 links to folders not followed"
+    told = "9 files not read: 3 .gz, 2 .sgfs, 3 without ending, 1 .ds_store; 2 links to folders not followed"
     assert run(capfd, "judge", tmp_path).err.endswith(f"; 0 files converted; {told}\n")
     end = run(capfd, "tidy", tmp_path)
     assert (end.out, end.err) == (GAME.decode(), f"1 written, 0 as they were, 0 refused, 0 left, 0 failed; {told}\n")
 
 
-def test_the_commonest_endings_are_named():
+def test_the_commonest_endings_are_named_and_those_of_records_first():
     passed = Passed()
-    for ending in ["a", "b", "c", "d", "e", "f", "g", "h", "h"]:
+    for ending in ["a", "b", "c", "d", "e", "f", "g", "h", "h", "zip"]:
         passed.add_file(f"x.{ending}")
-    assert passed.told() == "9 files not read: 2 .h, 1 .a, 1 .b, 1 .c, 1 .d, 1 .e, 2 with other endings"
+    assert passed.told() == "10 files not read: 1 .zip, 2 .h, 1 .a, 1 .b, 1 .c, 1 .d, 3 of other kinds"
 
 
 def test_nothing_more_is_told_where_nothing_is_passed_over(tmp_path, capfd):

@@ -145,7 +145,7 @@ def test_files_that_fail_are_told_and_the_others_go_on(archive):
         "goref-tools: none: no file in it is named *.sgf",
         "goref-tools: ./gone.sgf: No such file or directory",
     ]
-    passed = b"1 file not read: 1 .txt; 1 link to folders not followed"
+    passed = b"1 file not read: 1 .txt; 1 link to a folder not followed"
     assert end.returncode == 3 and end.stderr.endswith(b"; 0 files converted, 4 failed; " + passed + b"\n")
     assert [line.split(b":")[0] for line in end.stdout.splitlines()].count(b"./f.sgf/g.sgf") == 1
     assert b"link" not in end.stdout and len(end.stdout.splitlines()) == len(ROWS) + 1
@@ -237,8 +237,7 @@ def at_work(folder):
     (folder / "slow.sgf").write_bytes(SLOW)
     words = ["judge", "-j", "3", *[folder / "slow.sgf"] * 200]
     process = started(*words, start_new_session=True)
-    until = time.monotonic() + 40
-    while len(group(process.pid)) < 4 and time.monotonic() < until:
+    while len(group(process.pid)) < 4 and process.poll() is None:
         time.sleep(0.02)
     return process
 

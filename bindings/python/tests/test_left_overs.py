@@ -84,8 +84,8 @@ def test_what_another_host_left_stays(tmp_path, gone):
 def test_what_an_earlier_version_left_stays(tmp_path):
     path = tmp_path / ".goref-0123456789abcdef.new"
     path.write_bytes(b"half")
-    assert clear_left_overs(str(tmp_path)) == [f"{path}: an earlier version of goref-tools left it; it stays"]
-    assert path.exists()
+    told = "an earlier version of goref-tools left it, or is at work on it; it stays"
+    assert clear_left_overs(str(tmp_path)) == [f"{path}: {told}"] and path.exists()
 
 
 def test_other_files_are_none(tmp_path):

@@ -54,7 +54,7 @@ def _cleared(path: str) -> str:
     """Removes a file if nobody is at work on it, and tells what became of it."""
     maker = _maker_of(os.path.basename(path))
     if maker is None:
-        return "an earlier version of goref-tools left it; it stays"
+        return "an earlier version of goref-tools left it, or is at work on it; it stays"
     if maker.host != _host():
         return f"a process of the host {shown(maker.host)} left it, or is at work on it; it stays"
     if not _has_ended(maker):

@@ -11,6 +11,12 @@ _LONGEST = 10
 _MOST = 6
 """How many endings are named."""
 
+# Records of other formats, several records in one file, and packed files. Who keeps records looks for these first.
+_RECORDS = {
+    *(".sgfs", ".mgt", ".ngf", ".gib", ".ugf", ".ugi", ".nip"),
+    *(".gz", ".tgz", ".zip", ".tar", ".bz2", ".xz", ".zst", ".7z", ".rar"),
+}
+
 
 def add_hidden(parser: argparse.ArgumentParser) -> None:
     """Adds the option that has nothing hidden passed over."""
@@ -33,7 +39,7 @@ class Passed:
     def add_file(self, name: str) -> None:
         """A file that isn't named *.sgf."""
         ending = "." + name.rpartition(".")[2].lower() if "." in name else ""
-        self._endings[ending if 1 < len(ending) <= _LONGEST else "other"] += 1
+        self._endings[ending if 1 < len(ending) <= _LONGEST else "without ending"] += 1
 
     def add_hidden(self) -> None:
         """A folder, or a file named *.sgf, whose name begins with a dot."""
@@ -60,13 +66,13 @@ class Passed:
         if self._hidden:
             yield f"{self._hidden:,} hidden not read (--hidden)"
         if self._links:
-            yield f"{many(self._links, 'link')} to folders not followed"
+            yield f"{'1 link to a folder' if self._links == 1 else f'{self._links:,} links to folders'} not followed"
 
     def _kinds(self, left: int) -> Iterator[str]:
-        """How many files have which ending, the commonest first."""
-        kinds = sorted(self._endings.items(), key=lambda kind: (-kind[1], kind[0]))
+        """How many files have which ending: first those that may have records, and of each sort the commonest first."""
+        kinds = sorted(self._endings.items(), key=lambda kind: (kind[0] not in _RECORDS, -kind[1], kind[0]))
         for ending, count in kinds[:_MOST]:
             left -= count
             yield f"{count:,} {shown(ending)}"
         if left:
-            yield f"{left:,} with other endings"
+            yield f"{left:,} of other kinds"
