@@ -186,6 +186,8 @@ def test_a_file_that_is_left_has_no_backup(records, capfd):
 
 # Words that don't go together
 
+SEARCHED = "--backup wants a folder that isn't searched: the next run would write over the backups"
+
 
 @pytest.mark.parametrize(
     "words, why",
@@ -194,10 +196,10 @@ def test_a_file_that_is_left_has_no_backup(records, capfd):
         (["--backup", "", "--in-place", "in"], "--backup wants the name of a folder"),
         (["--break-links", "--to", "to", "in"], "--break-links wants --in-place"),
         (["--dry-run", "in"], "--dry-run wants --in-place or --to"),
-        (["--in-place", "--backup", "in/old", "in"],
-         "--backup wants a folder outside of those that are searched: the next run would find it there"),
-        (["--in-place", "--backup", "in", "in"],
-         "--backup wants a folder outside of those that are searched: the next run would find it there"),
+        (["--in-place", "--backup", "in/old", "in"], SEARCHED),
+        (["--in-place", "--backup", "in", "in"], SEARCHED),
+        (["--in-place", "--backup", "old", "in/b.sgf", "."], SEARCHED),
+        (["--in-place", "--backup", "in/.old", "--hidden", "in"], SEARCHED),
     ],
 )
 def test_words_that_dont_go_together(records, capfd, words, why):
@@ -205,5 +207,7 @@ def test_words_that_dont_go_together(records, capfd, words, why):
     assert (end.status, end.err) == (2, f"goref-tools: {why}\n") and files_in(records / "in")["b.sgf"] == LOOSE
 
 
-def test_a_backup_may_stand_beside_a_folder_of_the_same_beginning(records, capfd):
-    assert run(capfd, "tidy", "--in-place", "--backup", "in-old", "in", "in/b.sgf").status == 0
+@pytest.mark.parametrize("folder", ["in-old", "in/.old", "in/deep/.x/old"])
+def test_a_backup_may_be_where_nothing_is_searched(records, capfd, folder):
+    assert run(capfd, "tidy", "--in-place", "--backup", folder, "in").status == 0
+    assert files_in(records / folder) == {"b.sgf": LOOSE, "deep/c.sgf": LOOSE}

@@ -67,4 +67,5 @@ def _take_name(made: str, target: str) -> None:
     except OSError as why:
         if why.errno not in _NO_LINKS:
             raise
+        # Such a system has no call for it: a file that comes between the last look and this one is lost.
         os.rename(made, target)

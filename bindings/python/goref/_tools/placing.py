@@ -33,14 +33,17 @@ def check_options(given: argparse.Namespace) -> None:
             raise WrongWords(f"{option} wants --in-place")
     if given.dry_run and not (given.in_place or given.to):
         raise WrongWords("--dry-run wants --in-place or --to")
-    if given.backup and any(_is_inside(given.backup, path) for path in given.paths):
-        raise WrongWords("--backup wants a folder outside of those that are searched: the next run would find it there")
+    if given.backup and any(_is_searched(given.backup, path, given.hidden) for path in given.paths):
+        raise WrongWords("--backup wants a folder that isn't searched: the next run would write over the backups")
 
 
-def _is_inside(folder: str, path: str) -> bool:
-    """Whether a search of a path would come into a folder."""
-    top, below = os.path.realpath(path), os.path.realpath(folder)
-    return path != "-" and os.path.isdir(path) and os.path.commonpath([top, below]) == top
+def _is_searched(folder: str, path: str, hidden: bool) -> bool:
+    """Whether a search of a path comes into a folder."""
+    if not os.path.isdir(path):
+        return False
+    inside = os.path.relpath(os.path.realpath(folder), os.path.realpath(path)).split(os.sep)
+    is_hidden = any(name.startswith(".") for name in inside if name != os.curdir)
+    return inside[0] != os.pardir and (hidden or not is_hidden)
 
 
 def places_of(given: argparse.Namespace, passed: Passed) -> Iterator[Union[Place, Fault]]:

@@ -28,8 +28,9 @@ EXAMPLE = """example:
   goref-tools tidy - < game.sgf > tidy.sgf
 
 With --in-place a new file is written beside the old one, and takes its place when it is on the disk: at any moment the
-name has the old record or the new one, whole. The mode, the group, the times and the extended attributes stay. A new
-file that a killed run left, named .goref-*.new, is named, and removed by the next run on that host.
+name has the old record or the new one, whole. The mode, the group, the times and the extended attributes stay. A
+read-only file is written too, if its folder may be. A new file that a killed run left, .goref-*.new, is named, and
+removed by the next run on that host.
 
 status: 0 all files are written, 1 one was refused or left, 2 wrong words,
 3 a file, a stream or memory failed, or the library is missing"""
@@ -42,7 +43,8 @@ def add_arguments(parser: argparse.ArgumentParser) -> None:
     where.add_argument("--to", metavar="FOLDER", help="write files of the same names to this folder")
     parser.add_argument(
         "--backup", metavar="FOLDER",
-        help="with --in-place keep each old file in this folder first, and leave it if another has its name there",
+        help="with --in-place keep each old file in this folder first, which isn't searched; a file is left if another"
+        " has its name there",
     )
     parser.add_argument("--dry-run", action="store_true", help="print which files would be written, and write none")
     parser.add_argument("--drop", action="store_true", help="drop bytes outside of games, also with --in-place")

@@ -2,7 +2,8 @@
 
 It tells the reason with what is needed to find it: the node and its text, the value, the vertex, the board before it;
 of a repetition the position that is repeated; of a text that is broken the line and the column. What a file may be that
-is no record is a guess, and begins with `Perhaps`. Without --game it tells of the first game that is refused.
+is no record is a guess, and begins with `Perhaps`. Without --game it tells of the first game that is refused. Of a game
+that is fine it tells the score, and how many points the stated one is from that if they differ.
 """
 
 import argparse
