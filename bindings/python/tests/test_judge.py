@@ -4,21 +4,16 @@ import csv
 import io
 import json
 import os
-import signal
 import subprocess
 import sys
-import time
 
 import pytest
 
-from kit.runner import started
-from running import group, is_group_gone
 from test_main import HERE, tools
 
 GOOD = b"(;SZ[5]KM[0.5]RE[B+24.5];B[cc];W[])"
 WRONG = b"(;SZ[5]RE[W+3];B[cc])"
 ILLEGAL = b"(;SZ[5];B[cc];W[cc])"
-SLOW = b"(;SZ[25]" + b";B[];W[]" * 800_000 + b")"
 BIG5 = "(;GM[1]SZ[9]KM[6.5]PB[許功蓋];B[ee];W[cc])".encode("big5")
 
 
@@ -230,47 +225,3 @@ def test_a_broken_game_of_two_charsets(tmp_path):
 def test_a_record_that_is_too_long():
     end = tools("judge", "-", input=b"(;C[" + b"x" * 16_777_216 + b"])")
     assert (end.returncode, end.stdout) == (1, b"-:1: record too long\n")
-
-
-def at_work(folder):
-    """A run that judges many games by three processes, and the processes of its group that have begun."""
-    (folder / "slow.sgf").write_bytes(SLOW)
-    words = ["judge", "-j", "3", *[folder / "slow.sgf"] * 200]
-    process = started(*words, start_new_session=True)
-    while len(group(process.pid)) < 4 and process.poll() is None:
-        time.sleep(0.02)
-    return process
-
-
-@pytest.mark.parametrize("number, status, told", [(signal.SIGINT, 130, b"interrupted"), (signal.SIGTERM, 143, b"ended")])
-def test_an_interrupt_ends_each_process(tmp_path, number, status, told):
-    with at_work(tmp_path) as process:
-        os.kill(process.pid, number)
-        output, errors = process.communicate(timeout=20)
-    assert process.returncode == status and errors == b"goref-tools: " + told + b"\n"
-    assert is_group_gone(process.pid, 5)
-
-
-def test_an_interrupt_while_processes_start(tmp_path):
-    """By the key of a terminal, so that each process gets it."""
-    for number in range(100):
-        (tmp_path / f"{number:03}.sgf").write_bytes(GOOD)
-    for round in range(12):
-        with started("judge", "-j", "3", tmp_path, stdout=subprocess.DEVNULL, start_new_session=True) as process:
-            time.sleep(0.1 + 0.02 * round)
-            try:
-                os.killpg(process.pid, signal.SIGINT)
-            except ProcessLookupError:
-                pass
-            _, errors = process.communicate(timeout=20)
-        # Python answers what comes before it has started the command: with 1 while it starts itself.
-        has_begun = b"goref" in errors
-        assert process.returncode in (0, 130, -signal.SIGINT) or (process.returncode == 1 and not has_begun), errors
-        assert process.returncode in (1, -signal.SIGINT) or b"Traceback" not in errors
-
-
-def test_processes_end_with_the_first_one(tmp_path):
-    with at_work(tmp_path) as process:
-        process.kill()
-        process.communicate()
-    assert is_group_gone(process.pid, 10)

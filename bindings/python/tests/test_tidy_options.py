@@ -8,12 +8,10 @@ import pytest
 
 from goref._tools import backup
 from kit import spy
+from kit.records import LOOSE, OLD, TIDY
 from kit.runner import run
 
-LOOSE = b" ( ; SZ [5] ;B[cc])\n"
-TIDY = b"(;SZ[5];B[cc])\n"
 GUESSED = "(;PB[Müller]C[Très bien joué];B[aa])".encode("cp1252")
-OLD = (1_000_000_000_123_456_789, 1_100_000_000_987_654_321)
 
 
 def files_in(folder):
