@@ -6,7 +6,7 @@ import json
 from decimal import Decimal
 
 import pytest
-from hypothesis import given
+from hypothesis import given, settings
 from hypothesis import strategies as st
 
 import goref
@@ -83,6 +83,7 @@ def test_the_result_is_the_first_of_the_first_node(record, result):
 PARTS = ["C[a\\];]", "C[\\\\]", "C[(;RE[0\\]]", "RE[B+3]", "RE[W+1]", "[\\]", "];", ";", "(;", ")", " ", "\n", "Result[0]"]
 
 
+@settings(deadline=None)
 @given(st.lists(st.sampled_from(PARTS), max_size=30))
 def test_the_first_node_is_that_of_the_whole_game(parts):
     """It is looked for in the beginning of the text."""
@@ -95,6 +96,7 @@ def test_the_first_node_is_that_of_the_whole_game(parts):
     assert result_in(record) == (None if stated is None else simple_text_of(stated))
 
 
+@settings(deadline=None)
 @given(st.from_regex(r"\A[BW]\+?[0-9]{0,4}\.?[0-9]{0,3}\Z|\A(0|Draw|draw|B\+R)\Z"))
 def test_a_difference_is_none_or_zero_as_goref_says(value):
     record = BLACK % f"RE[{value}]".encode()
@@ -104,6 +106,7 @@ def test_a_difference_is_none_or_zero_as_goref_says(value):
     assert verdict.stated != "differs" or found.difference > 0
 
 
+@settings(deadline=None)
 @given(st.integers(-30_000, 30_000))
 def test_a_difference_is_that_of_the_two_scores(hundredths):
     """By the komi: each point that White gets takes the score a point away from what was stated without."""
