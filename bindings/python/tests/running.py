@@ -33,6 +33,18 @@ def is_gone(number):
         return True
 
 
+def group(number):
+    """The numbers of the processes of a group."""
+    found = []
+    for name in filter(str.isdigit, os.listdir("/proc")):
+        try:
+            if os.getpgid(int(name)) == number:
+                found.append(int(name))
+        except ProcessLookupError:
+            pass
+    return found
+
+
 def is_group_gone(number, seconds):
     """Whether no process of a group is left within some seconds."""
     until = time.monotonic() + seconds

@@ -47,6 +47,36 @@ def test_the_charset_that_is_asked_for(codec):
     assert (found.utf8, found.how) == (text.encode("utf-8"), "--charset")
 
 
+@pytest.mark.parametrize(
+    "stated, codec, text",
+    [
+        ("ISO-2022-JP", "iso2022_jp", "坂田栄男"),
+        ("HZ-GB-2312", "hz", "常昊"),
+        ("ISO-8859-1", "ascii", "~{ smile"),
+        ("ISO-8859-1", "ascii", "\x1b[1m"),
+    ],
+)
+def test_bytes_of_ascii_are_in_the_charset_that_the_record_names(stated, codec, text):
+    """They are UTF-8 too, as all ASCII is, and that says nothing."""
+    text = record(text.replace("[", "\\["), stated)
+    data = text.encode(codec)
+    found = converted(data)
+    assert data.isascii() and (found.utf8, found.how, found.others) == (text.encode("utf-8"), "CA", ())
+    assert list(readings(data, found)) == []
+
+
+@pytest.mark.parametrize(
+    "stated, codec, text",
+    [("Big5", "cp950", "€"), ("Big5", "big5hkscs", "啲"), ("Shift_JIS", "cp932", "①"), ("GB2312", "gb18030", "喆"),
+     ("EUC-KR", "cp949", "똠"), ("ISO-8859-1", "cp1252", "’")],
+)
+def test_a_name_may_mean_the_larger_charset_that_grew_out_of_it(stated, codec, text):
+    assert text.encode(codec).decode(stated, "replace") != text
+    text = record(text, stated)
+    found = converted(text.encode(codec))
+    assert (found.utf8, found.how) == (text.encode("utf-8"), "CA")
+
+
 def test_the_name_may_stand_after_what_hides_it():
     text = "(;PB[許功蓋]CA[Big5];B[ee])"
     assert converted(text.encode("big5")).utf8 == text.encode("utf-8")

@@ -4,20 +4,16 @@ import csv
 import io
 import json
 import os
-import signal
 import subprocess
 import sys
-import time
 
 import pytest
 
-from running import is_group_gone
 from test_main import HERE, tools
 
 GOOD = b"(;SZ[5]KM[0.5]RE[B+24.5];B[cc];W[])"
 WRONG = b"(;SZ[5]RE[W+3];B[cc])"
 ILLEGAL = b"(;SZ[5];B[cc];W[cc])"
-SLOW = b"(;SZ[25]" + b";B[];W[]" * 800_000 + b")"
 BIG5 = "(;GM[1]SZ[9]KM[6.5]PB[許功蓋];B[ee];W[cc])".encode("big5")
 
 
@@ -32,14 +28,14 @@ def archive(tmp_path):
 
 
 ROWS = [
-    ("a.SGF", 1, 1, "B+25", "differs", None),
-    ("b.sgf", 1, 2, "B+24.5", "agrees", None),
-    ("b.sgf", 2, None, None, None, "move 2 is on a stone"),
-    ("d/c.sgf", 1, None, None, None, "unexpected byte at 7"),
-    ("d/e.sgf", 1, 2, "B+24.5", "agrees", None),
-    ("z.sgf", 1, None, None, None, "no game tree"),
+    ("a.SGF", 1, 1, "B+25", "differs", None, "W+3", 28),
+    ("b.sgf", 1, 2, "B+24.5", "agrees", None, "B+24.5", 0),
+    ("b.sgf", 2, None, None, None, "move 2 is on a stone", None, None),
+    ("d/c.sgf", 1, None, None, None, "unexpected byte at 7", None, None),
+    ("d/e.sgf", 1, 2, "B+24.5", "agrees", None, "B+24.5", 0),
+    ("z.sgf", 1, None, None, None, "no game tree", None, None),
 ]
-COUNTS = b"5 files, 6 games: 3 refused, 2 agreeing, 1 differing; 0 files converted\n"
+COUNTS = b"5 files, 6 games: 3 refused, 2 agreeing, 1 differing; 0 files converted; 1 file not read: 1 .txt\n"
 
 
 @pytest.mark.parametrize("jobs", ["1", "3"])
@@ -47,7 +43,8 @@ def test_folders_are_walked_in_order(archive, jobs):
     end = tools("judge", "-j", jobs, ".", cwd=archive)
     told = [
         f"./{file}:{game}: " + (reason or f"moves {moves} score {score} stated {stated}")
-        for file, game, moves, score, stated, reason in ROWS
+        + (f" (RE[{result}], {difference} apart)" if difference else "")
+        for file, game, moves, score, stated, reason, result, difference in ROWS
     ]
     assert end.stdout.decode().splitlines() == told
     assert (end.returncode, end.stderr) == (1, COUNTS)
@@ -55,12 +52,24 @@ def test_folders_are_walked_in_order(archive, jobs):
 
 def test_a_row_in_csv_and_json(archive):
     end = tools("judge", "--format", "csv", ".", cwd=archive)
+    assert b"\r" not in end.stdout
     heading, *rows = csv.reader(io.StringIO(end.stdout.decode()))
-    assert heading == ["file", "game", "moves", "score", "stated", "reason", "charset", "how"]
-    assert rows == [["./" + str(row[0]), *("" if one is None else str(one) for one in row[1:]), "", ""] for row in ROWS]
+    assert heading == ["file", "game", "moves", "score", "stated", "reason", "charset", "how", "result", "difference"]
+    wanted = [["./" + row[0], *row[1:6], None, None, *row[6:]] for row in ROWS]
+    assert rows == [["" if one is None else str(one) for one in row] for row in wanted]
     end = tools("judge", "--format", "json", ".", cwd=archive)
     lines = [json.loads(line) for line in end.stdout.splitlines()]
-    assert lines == [dict(zip(heading, ["./" + row[0], *row[1:], None, None])) for row in ROWS]
+    assert lines == [dict(zip(heading, row)) for row in wanted]
+
+
+def test_the_counts(tmp_path):
+    """None of them is as large as another."""
+    big5 = BIG5.replace(b"GM[1]", b"GM[1]CA[big5]")
+    games = {"a": GOOD + WRONG * 2, "b": ILLEGAL * 4, "c": big5 * 3, "d": big5 * 2}
+    for name, content in games.items():
+        (tmp_path / f"{name}.sgf").write_bytes(content)
+    end = tools("judge", str(tmp_path))
+    assert end.stderr == b"4 files, 12 games: 4 refused, 1 agreeing, 2 differing; 2 files converted\n"
 
 
 def test_many_files_by_many_processes(tmp_path):
@@ -131,7 +140,8 @@ def test_files_that_fail_are_told_and_the_others_go_on(archive):
         "goref-tools: none: no file in it is named *.sgf",
         "goref-tools: ./gone.sgf: No such file or directory",
     ]
-    assert end.returncode == 3 and end.stderr.endswith(b"0 files converted, 4 failed\n")
+    passed = b"1 file not read: 1 .txt; 1 link to a folder not followed"
+    assert end.returncode == 3 and end.stderr.endswith(b"; 0 files converted, 4 failed; " + passed + b"\n")
     assert [line.split(b":")[0] for line in end.stdout.splitlines()].count(b"./f.sgf/g.sgf") == 1
     assert b"link" not in end.stdout and len(end.stdout.splitlines()) == len(ROWS) + 1
 
@@ -181,7 +191,7 @@ def test_games_that_name_several_charsets_depend_on_that():
 def test_a_read_that_fails_is_told(archive):
     end = tools("judge", "/proc/self/mem", "a.SGF", cwd=archive)
     assert end.stderr.startswith(b"goref-tools: /proc/self/mem: Input/output error\n")
-    assert end.returncode == 3 and end.stdout == b"a.SGF:1: moves 1 score B+25 stated differs\n"
+    assert end.returncode == 3 and end.stdout == b"a.SGF:1: moves 1 score B+25 stated differs (RE[W+3], 28 apart)\n"
 
 
 def test_names_of_any_bytes_are_written_as_they_are(tmp_path):
@@ -215,49 +225,3 @@ def test_a_broken_game_of_two_charsets(tmp_path):
 def test_a_record_that_is_too_long():
     end = tools("judge", "-", input=b"(;C[" + b"x" * 16_777_216 + b"])")
     assert (end.returncode, end.stdout) == (1, b"-:1: record too long\n")
-
-
-@pytest.mark.parametrize("number, status, told", [(signal.SIGINT, 130, b"interrupted"), (signal.SIGTERM, 143, b"ended")])
-def test_an_interrupt_ends_each_process(tmp_path, number, status, told):
-    (tmp_path / "slow.sgf").write_bytes(SLOW)
-    paths = [str(tmp_path / "slow.sgf")] * 200
-    process = subprocess.Popen(
-        [sys.executable, "-B", "-m", "goref", "judge", "-j", "3", *paths], stdout=subprocess.PIPE, stderr=subprocess.PIPE,
-        env={**os.environ, "PYTHONPATH": os.path.dirname(HERE)}, start_new_session=True,
-    )
-    time.sleep(1.5)
-    os.kill(process.pid, number)
-    output, errors = process.communicate(timeout=20)
-    assert process.returncode == status and errors == b"goref-tools: " + told + b"\n"
-    assert is_group_gone(process.pid, 5)
-
-
-def test_an_interrupt_while_processes_start(tmp_path):
-    """By the key of a terminal, so that each process gets it."""
-    for number in range(100):
-        (tmp_path / f"{number:03}.sgf").write_bytes(GOOD)
-    for round in range(12):
-        process = subprocess.Popen(
-            [sys.executable, "-B", "-m", "goref", "judge", "-j", "3", str(tmp_path)], stdout=subprocess.DEVNULL,
-            stderr=subprocess.PIPE, env={**os.environ, "PYTHONPATH": os.path.dirname(HERE)}, start_new_session=True,
-        )
-        time.sleep(0.1 + 0.02 * round)
-        try:
-            os.killpg(process.pid, signal.SIGINT)
-        except ProcessLookupError:
-            pass
-        _, errors = process.communicate(timeout=20)
-        assert process.returncode in (0, 130, -signal.SIGINT)
-        assert process.returncode == -signal.SIGINT or b"Traceback" not in errors
-
-
-def test_processes_end_with_the_first_one(tmp_path):
-    (tmp_path / "slow.sgf").write_bytes(SLOW)
-    process = subprocess.Popen(
-        [sys.executable, "-B", "-m", "goref", "judge", "-j", "3", *[str(tmp_path / "slow.sgf")] * 200],
-        stdout=subprocess.DEVNULL, env={**os.environ, "PYTHONPATH": os.path.dirname(HERE)}, start_new_session=True,
-    )
-    time.sleep(1.5)
-    process.kill()
-    process.wait()
-    assert is_group_gone(process.pid, 10)

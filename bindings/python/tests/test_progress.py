@@ -50,4 +50,5 @@ def test_judge_shows_how_far_it_is(tmp_path, jobs):
 def test_tidy_shows_how_far_it_is(tmp_path):
     records(tmp_path, 60)
     _, seen = at_a_terminal(["tidy", "--in-place", str(tmp_path)])
-    assert re.search(r"\d+/60 \[", seen) and seen.endswith("60 written, 0 as they were, 0 refused, 0 failed\r\n")
+    assert re.search(r"\d+/60 \[", seen)
+    assert seen.endswith("60 written, 0 as they were, 0 refused, 0 left, 0 failed\r\n")

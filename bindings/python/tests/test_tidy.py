@@ -5,10 +5,12 @@ import random
 import signal
 import subprocess
 import sys
+import threading
 import time
 
 import pytest
 
+from kit.runner import apart
 from test_main import HERE, tools
 
 LOOSE = b" ( ; SZ [5] ;B[cc])\n"
@@ -41,7 +43,7 @@ def test_in_place(tmp_path):
         "goref-tools: c.sgf: unexpected byte at 7",
         "goref-tools: d.sgf: bytes outside of games, the first at byte 6, would be dropped: say --drop for that",
         "goref-tools: e.sgf: no game tree",
-        "2 written, 1 as they were, 3 refused, 0 failed",
+        "2 written, 1 as they were, 2 refused, 1 left, 0 failed",
     ]
     assert {path.name: path.read_bytes() for path in tmp_path.iterdir()} == {
         "a.sgf": TIDY, "b.sgf": TIDY, "c.sgf": b"(;B[aa]7)", "d.sgf": b"(;B[])junk(;W[])", "e.sgf": b"", "f.sgf": b"(;B[])\n",
@@ -103,12 +105,8 @@ def test_a_guess_is_not_written_over_a_record(tmp_path):
     data = "(;PB[Müller]C[Très bien joué];B[aa])".encode("cp1252")
     write(tmp_path, a=data)
     end = tools("tidy", "--in-place", str(tmp_path))
-    assert end.returncode == 1 and b"a.sgf: its charset is a guess, cp1252: say --charset\n" in end.stderr
+    assert end.returncode == 1 and b"a.sgf: its charset is a guess, cp1252: say --charset, or --guess\n" in end.stderr
     assert (tmp_path / "a.sgf").read_bytes() == data
-    end = tools("tidy", "-", input=data)
-    assert end.returncode == 0 and b"converted from cp1252, guessed" in end.stderr
-    assert tools("tidy", "--in-place", "--charset", "cp1252", str(tmp_path)).returncode == 0
-    assert (tmp_path / "a.sgf").read_bytes().decode() == "(;CA[UTF-8]PB[Müller]C[Très bien joué];B[aa])\n"
 
 
 @pytest.mark.parametrize(
@@ -151,13 +149,17 @@ def test_a_folder_without_a_name(words, told):
 
 def test_a_pipe_is_not_replaced(tmp_path):
     os.mkfifo(tmp_path / "pipe")
-    process = subprocess.Popen(
-        [sys.executable, "-B", "-m", "goref", "tidy", "--in-place", "pipe"], cwd=tmp_path, stderr=subprocess.PIPE,
-        env={**os.environ, "PYTHONPATH": os.path.dirname(HERE)},
-    )
-    (tmp_path / "pipe").write_bytes(LOOSE)
-    assert process.communicate(timeout=20)[1].startswith(b"goref-tools: pipe: no regular file\n")
-    assert process.returncode == 3 and (tmp_path / "pipe").is_fifo()
+    # A pipe is opened by one only when the other is there: neither waits for ever for one that failed.
+    writer = threading.Thread(target=(tmp_path / "pipe").write_bytes, args=[LOOSE])
+    writer.start()
+    try:
+        end = apart("tidy", "--in-place", "pipe", cwd=tmp_path)
+    finally:
+        reader = os.open(tmp_path / "pipe", os.O_RDONLY | os.O_NONBLOCK)
+        writer.join()
+        os.close(reader)
+    assert end.status == 3 and end.told[0] == "pipe: no regular file"
+    assert (tmp_path / "pipe").is_fifo()
 
 
 def test_a_folder_that_may_not_be_written(tmp_path):

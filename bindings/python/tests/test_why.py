@@ -37,7 +37,7 @@ def test_a_game_that_is_fine(why):
         "game 2 is fine: 0 moves, score 0, the record states no score in points",
     ]
     assert why(b"(;SZ[3]RE[0];B[bb])(;SZ[0])", "--game", "1", status=0) == [
-        "game 1 is fine: 1 move, score B+9, the record states another score"
+        "game 1 is fine: 1 move, score B+9, the record states another score: RE[0], 9 apart"
     ]
 
 

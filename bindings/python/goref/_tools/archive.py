@@ -6,9 +6,11 @@ import json
 from typing import Callable, Dict, List, NamedTuple, Optional, Sequence, Tuple, Union
 
 from goref._tools.charset import Converted, WrongCharset, converted, readings
-from goref._tools.faults import Fault, shown
-from goref._tools.files import contents
+from goref._tools.faults import Fault, many, shown
+from goref._tools.passed import Passed
+from goref._tools.reading import contents
 from goref._tools.records import Found, found_in, in_words
+from goref._tools.stated import StatedResult, stated_in
 
 
 class Row(NamedTuple):
@@ -25,6 +27,10 @@ class Row(NamedTuple):
     """What the file was converted from."""
     how: Optional[str] = None
     """How that charset was known."""
+    result: Optional[str] = None
+    """The result that the record states, as text."""
+    difference: Union[int, float, None] = None
+    """How many points the score that it states is away from goref's."""
 
 
 class Counts(NamedTuple):
@@ -41,12 +47,13 @@ class Counts(NamedTuple):
     def plus(self, more: "Counts") -> "Counts":
         return Counts(*(one + other for one, other in zip(self, more)))
 
-    def told(self) -> str:
-        """The counts in a line, as people read them."""
+    def told(self, passed: Passed) -> str:
+        """The counts in a line, as people read them, with what was passed over."""
         return (
-            f"{_many(self.files, 'file')}, {_many(self.games, 'game')}: {self.refused} refused, {self.agreeing} agreeing,"
-            f" {self.differing} differing; {_many(self.converted, 'file')} converted"
-        ) + (f", {self.faults} failed" if self.faults else "")
+            f"{many(self.files, 'file')}, {many(self.games, 'game')}: {self.refused} refused, {self.agreeing} agreeing,"
+            f" {self.differing} differing; {many(self.converted, 'file')} converted"
+            f"{f', {self.faults} failed' if self.faults else ''}{f'; {passed.told()}' if passed else ''}"
+        )
 
 
 class Told(NamedTuple):
@@ -89,9 +96,10 @@ def rows_of(path: Union[str, Fault], charset: Optional[str]) -> List[Row]:
 def _row(found: Found) -> Row:
     verdict = found.verdict()
     text = found.text
+    stated = stated_in(found.game.text, verdict)
     if isinstance(verdict, str):
-        return Row(found.path, found.number, None, None, None, verdict, *_how(text))
-    return Row(found.path, found.number, *verdict, None, *_how(text))
+        return Row(found.path, found.number, None, None, None, verdict, *_how(text), *stated)
+    return Row(found.path, found.number, *verdict, None, *_how(text), *stated)
 
 
 def _compared(path: str, rows: List[Row], text: Converted, name: str, other: Converted) -> List[Row]:
@@ -113,7 +121,7 @@ def _depending(row: Row, text: Converted, other: Optional[Row], name: str) -> Ro
         return row
     reading = f"in {text.charset}" if text.charset else "byte for byte"
     reason = f"depends on the charset: {_said(row)} {reading}, {_said(other)} {name}"
-    return Row(row.file, row.game, None, None, None, reason, *_how(text))
+    return Row(row.file, row.game, None, None, None, reason, *_how(text), row.result)
 
 
 def _how(text: Converted) -> Tuple[Optional[str], Optional[str]]:
@@ -140,12 +148,13 @@ def _counts(rows: List[Row], files: int, faults: int) -> Counts:
     )
 
 
-def _many(number: int, what: str) -> str:
-    return f"{number:,} {what}{'' if number == 1 else 's'}"
-
-
 def _text(rows: List[Row]) -> str:
-    return "".join(f"{shown(row.file)}:{row.game}: {_said(row)}{_conversion(row)}\n" for row in rows)
+    return "".join(f"{shown(row.file)}:{row.game}: {_said(row)}{_stated(row)}{_conversion(row)}\n" for row in rows)
+
+
+def _stated(row: Row) -> str:
+    told = StatedResult(row.result, row.difference).told()
+    return f" ({told})" if told else ""
 
 
 def _conversion(row: Row) -> str:
@@ -156,7 +165,9 @@ def _conversion(row: Row) -> str:
 
 def _csv(rows: List[Row]) -> str:
     text = io.StringIO()
-    csv.writer(text, lineterminator="\n").writerows(row._replace(file=shown(row.file)) for row in rows)
+    csv.writer(text, lineterminator="\n").writerows(
+        row._replace(file=shown(row.file), result=row.result and shown(row.result)) for row in rows
+    )
     return text.getvalue()
 
 
@@ -170,5 +181,3 @@ FORMATS: Dict[str, Callable[[List[Row]], str]] = {"text": _text, "csv": _csv, "j
 def heading(kind: str) -> str:
     """What a format begins with."""
     return ",".join(Row._fields) + "\n" if kind == "csv" else ""
-
-

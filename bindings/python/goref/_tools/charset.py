@@ -205,9 +205,11 @@ def _others(data: bytes, codec: str, named: List[str]) -> Tuple[str, ...]:
     """The charsets that a file names beside its own and that aren't read as that is. ASCII is a part of each."""
     if codec == "ascii":
         return ()
+    # Bytes of ASCII alone, as of ISO-2022-JP and HZ, would be UTF-8 whatever they are.
+    is_utf8_too = codec not in _UTF8 and not data.isascii() and _utf8(data) is not None
     seen = {_grown(codec), "ascii"}
     others = []
-    for other in [*named, *(["utf-8"] if codec not in _UTF8 and _utf8(data) is not None else [])]:
+    for other in [*named, *(["utf-8"] if is_utf8_too else [])]:
         if _grown(other) not in seen:
             seen.add(_grown(other))
             others.append(other)

@@ -25,6 +25,10 @@ class Fault(Exception):
     """A file or a stream that fails. Its text is the line that is told."""
 
 
+class Left(Fault):
+    """A file that is left as it is, so that nothing of it is lost. Its text is the line that is told."""
+
+
 class RefusedFile(Exception):
     """A file that is refused as a whole. Its text is the line that is told."""
 
@@ -57,3 +61,8 @@ def fault_of(name: str, why: OSError) -> Fault:
 def shown(name: "str | os.PathLike[str]") -> str:
     """A name on one line: controls in it are escaped, and bytes that are no UTF-8 stay what they are."""
     return _CONTROL.sub(lambda control: ascii(control[0])[1:-1], os.fspath(name))
+
+
+def many(number: int, what: str) -> str:
+    """A number of things in words, as `2 files`."""
+    return f"{number:,} {what}{'' if number == 1 else 's'}"

@@ -7,7 +7,7 @@ from typing import Iterator, NamedTuple, Optional, Union
 import goref
 from goref._tools.charset import Converted, WrongCharset, converted
 from goref._tools.faults import RefusedFile, WrongWords, shown
-from goref._tools.files import contents
+from goref._tools.reading import contents
 
 _BYTE = re.compile(r"(?<=byte at )[0-9]+|(?<=at byte )[0-9]+")
 

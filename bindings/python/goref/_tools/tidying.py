@@ -17,6 +17,10 @@ class Untidy(Exception):
     """A file that has no spelling. Its text is the reason."""
 
 
+class InDoubt(Exception):
+    """A file that may have more than one spelling. Its text is the reason, with the option that settles it."""
+
+
 class Tidied(NamedTuple):
     """The spelling of a file."""
 
@@ -27,18 +31,21 @@ class Tidied(NamedTuple):
 
 
 def tidied(data: bytes, charset: Optional[str]) -> Tidied:
-    """The spelling of the games of a file, one after another. Raises Untidy where a game is refused."""
+    """The spelling of the games of a file, one after another.
+
+    Raises Untidy if a game is refused, and InDoubt if the spelling depends on the charset.
+    """
     try:
         text = converted(data, charset)
     except WrongCharset as why:
         raise Untidy(str(why)) from None
     if text.others:
-        raise Untidy(f"is in {text.charset or 'utf-8'}, or in {' or '.join(text.others)}; say --charset")
+        raise InDoubt(f"is in {text.charset or 'utf-8'}, or in {' or '.join(text.others)}; say --charset")
     games = list(found_in("", text))
     spelled = [_spelled(found) for found in games]
     for name, other in readings(data, text):
         if _shape(b"".join(spelled)) != _shape_of(other):
-            raise Untidy(f"depends on the charset: {_reading(text)} and {name} it is two records; say --charset")
+            raise InDoubt(f"depends on the charset: {_reading(text)} and {name} it is two records; say --charset")
     is_known = text.how not in ("", "unknown") and not data.removeprefix(codecs.BOM_UTF8).isascii()
     if text.charset is not None or is_known:
         spelled = [_in_utf8(one) for one in spelled]

@@ -7,14 +7,19 @@ from functools import partial
 
 from goref._tools.charset import add_charset
 from goref._tools.faults import DONE, FAULT, REFUSED
+from goref._tools.passed import Passed, add_hidden
 
 EXAMPLE = """example:
   goref-tools judge --format csv archive/ > verdicts.csv
 
 A line has the file, the number of the game in it and the verdict, as
-  archive/a.sgf:1: moves 233 score B+26 stated differs
+  archive/a.sgf:1: moves 233 score B+26 stated differs (RE[B+12.5], 13.5 apart)
   archive/b.sgf:2: move 17 is on a stone
   archive/c.sgf:1: moves 80 score W+3.5 stated agrees (converted from big5, CA)
+
+If the record states another score, the line has that, and how many points it is from goref's. In CSV and JSON `result`
+is the RE of any game whose first node goref can read, and `difference` a number without a sign: 1 if the score is W+3.5
+and the record states W+4.5, 5 if they are B+2 and W+3, 0 if they agree, and nothing if the record states no score.
 
 Where the charset is in doubt, and a verdict differs from one charset to another, the line says
 `depends on the charset`, and --charset settles it.
@@ -27,6 +32,7 @@ def add_arguments(parser: argparse.ArgumentParser) -> None:
     parser.add_argument("paths", metavar="PATH", nargs="+", help="a file, a folder, or - for the standard input")
     parser.add_argument("--format", choices=("text", "csv", "json"), default="text", help="text; csv; or json, an object a line")
     parser.add_argument("-j", "--jobs", metavar="N", type=jobs, help="processes at once (as many as processors)")
+    add_hidden(parser)
     add_charset(parser)
 
 
@@ -45,7 +51,8 @@ def run(given: argparse.Namespace) -> int:
     from goref._tools.workers import in_order, processors
 
     library()
-    paths = [found for path in given.paths for found in records_in(path)]
+    passed = Passed()
+    paths = [found for path in given.paths for found in records_in(path, given.hidden, passed)]
     counts = Counts()
     work = partial(judged, charset=given.charset, kind=given.format)
     results = in_order(work, paths, given.jobs or processors(), lambda path: path == "-")
@@ -62,5 +69,5 @@ def run(given: argparse.Namespace) -> int:
     finally:
         progress.close()
         results.close()
-    print(counts.told(), file=sys.stderr)
+    print(counts.told(passed), file=sys.stderr)
     return FAULT if counts.faults else REFUSED if counts.refused else DONE

@@ -1,26 +1,36 @@
 """Writes the canonical spelling of all games of each file: to the standard output, over the files, or to a folder.
-Folders are searched for files named *.sgf. A file that goref refuses is told and left as it is.
+Folders are searched for files named *.sgf. The last line counts other files that a folder has.
 
-A file that is converted to UTF-8 gets CA[UTF-8]. A file whose spelling depends on its charset is refused until --charset
-says it. With --in-place a file is left as it is where its charset is a guess, unless --charset says it, and where bytes
-stand outside of its games, which have no place in the spelling, unless --drop is given. A byte-order mark goes without a
+A file is left as it is, and named, if goref refuses it; if its spelling depends on its charset, unless --charset says
+that; and if its charset is a guess, unless --charset or --guess is given. A file that is converted to UTF-8 gets
+CA[UTF-8]. With --in-place a file is also left if bytes stand outside of its games, which have no place in the spelling,
+unless --drop is given; if it has several hard links, unless --break-links is given; if it is another user's; if it was
+changed while it was tidied; and if its group or its extended attributes can't be kept. A byte-order mark goes without a
 word."""
 
 import argparse
-import os
 import sys
-from typing import Iterator, NamedTuple, Optional, Set, Union
+from typing import Set, Union
 
 from goref._tools.charset import add_charset
-from goref._tools.faults import DONE, FAULT, REFUSED, Fault, WrongWords, shown
+from goref._tools.faults import DONE, FAULT, REFUSED, Fault, Left, shown
+from goref._tools.left_overs import clear_left_overs
+from goref._tools.passed import Passed, add_hidden
+from goref._tools.placing import Place, check_options, places_of
+from goref._tools.progress import Progress
+from goref._tools.reading import Content, read
+from goref._tools.writing import check, folders_of, write
 
 EXAMPLE = """example:
-  goref-tools tidy --in-place archive/
+  goref-tools tidy --in-place --dry-run archive/
+  goref-tools tidy --in-place --backup old archive/
   goref-tools tidy --to tidied archive/ extra.sgf
   goref-tools tidy - < game.sgf > tidy.sgf
 
 With --in-place a new file is written beside the old one, and takes its place when it is on the disk: at any moment the
-name has the old record or the new one, whole. The mode stays.
+name has the old record or the new one, whole. The mode, the group, the times and the extended attributes stay. A
+read-only file is written too, if its folder may be. A new file that a killed run left, .goref-*.new, is named, and
+removed by the next run on that host.
 
 status: 0 all files are written, 1 one was refused or left, 2 wrong words,
 3 a file, a stream or memory failed, or the library is missing"""
@@ -31,145 +41,133 @@ def add_arguments(parser: argparse.ArgumentParser) -> None:
     where = parser.add_mutually_exclusive_group()
     where.add_argument("--in-place", action="store_true", help="write over the files")
     where.add_argument("--to", metavar="FOLDER", help="write files of the same names to this folder")
+    parser.add_argument(
+        "--backup", metavar="FOLDER",
+        help="with --in-place keep each old file in this folder first, which isn't searched; a file is left if another"
+        " has its name there",
+    )
+    parser.add_argument("--dry-run", action="store_true", help="print which files would be written, and write none")
     parser.add_argument("--drop", action="store_true", help="drop bytes outside of games, also with --in-place")
+    parser.add_argument("--guess", action="store_true", help="write files whose charset is a guess")
+    parser.add_argument(
+        "--break-links", action="store_true",
+        help="write files with several hard links; their other names keep the old text",
+    )
+    add_hidden(parser)
     add_charset(parser)
-
-
-class Place(NamedTuple):
-    """A file to read, and the one to write, if it isn't the standard output."""
-
-    source: str
-    target: Optional[str]
-    is_over: bool
 
 
 class Ends:
     """How the files came out."""
 
     def __init__(self) -> None:
-        self.written = self.same = self.refused = self.faults = 0
+        self.written = self.same = self.refused = self.left = self.faults = 0
 
     def status(self) -> int:
-        return FAULT if self.faults else REFUSED if self.refused else DONE
+        return FAULT if self.faults else REFUSED if self.refused or self.left else DONE
 
-    def told(self) -> str:
-        return f"{self.written} written, {self.same} as they were, {self.refused} refused, {self.faults} failed"
+    def told(self, is_dry: bool, passed: Passed) -> str:
+        written = f"{self.written} would be written" if is_dry else f"{self.written} written"
+        counts = f"{written}, {self.same} as they were, {self.refused} refused, {self.left} left, {self.faults} failed"
+        return f"{counts}; {passed.told()}" if passed else counts
 
 
 def run(given: argparse.Namespace) -> int:
     from goref._library import library
-    from goref._tools.progress import Progress
 
-    if given.to == "":
-        raise WrongWords("--to wants the name of a folder")
-    if given.in_place and "-" in given.paths:
-        raise WrongWords("the standard input has no place to write to: leave --in-place out")
+    check_options(given)
     library()
-    places = list(_places(given))
-    ends = Ends()
+    passed = Passed()
+    places = list(places_of(given, passed))
+    is_to_files = bool(given.in_place or given.to)
     # Where the spellings go to the standard output a bar would stand among them.
-    progress = Progress(len(places) if given.in_place or given.to else None, "files")
+    progress = Progress(len(places) if is_to_files else None, "files")
+    work = _Work(given, progress)
     try:
         for place in places:
-            told = _told(place, given, ends)
-            if told:
-                progress.write(f"goref-tools: {told}\n", is_fault=True)
+            work.take(place)
             progress.step(1)
+        sys.stdout.flush()
     finally:
         progress.close()
-    if given.in_place or given.to:
-        print(ends.told(), file=sys.stderr)
-    return ends.status()
+    if is_to_files or passed:
+        print(work.ends.told(given.dry_run, passed), file=sys.stderr)
+    return work.ends.status()
 
 
-def _places(given: argparse.Namespace) -> "Iterator[Union[Place, Fault]]":
-    """The files, each with the one that its spelling goes to."""
-    from goref._tools.files import records_in
+class _Work:
+    """The work on one file after another."""
 
-    taken: Set[str] = set()
-    founds = [(path, found) for path in given.paths for found in records_in(path)]
-    sources = {os.path.realpath(found) for _, found in founds if isinstance(found, str) and found != "-"}
-    for path, found in founds:
-        if isinstance(found, Fault):
-            yield found
-            continue
-        target = _target(path, found, given)
-        if given.to and target in taken:
-            yield Fault(f"{shown(found)}: {shown(str(target))} is taken by another file")
-        elif given.to and os.path.realpath(str(target)) in sources:
-            yield Fault(f"{shown(found)}: {shown(str(target))} is one of the files to read: say --in-place for that")
-        else:
-            taken.add(str(target))
-            yield Place(found, target, given.in_place)
+    def __init__(self, given: argparse.Namespace, progress: Progress) -> None:
+        self.ends = Ends()
+        self._given = given
+        self._progress = progress
+        self._cleared: Set[str] = set()
 
+    def take(self, place: Union[Place, Fault]) -> None:
+        """Tidies a file, counts how it came out, and tells what is to be told of it."""
+        from goref._tools.tidying import InDoubt, Untidy
 
-def _target(path: str, found: str, given: argparse.Namespace) -> Optional[str]:
-    if given.in_place:
-        return found
-    if not given.to:
-        return None
-    inside = os.path.relpath(found, path) if os.path.isdir(path) else os.path.basename(found)
-    return os.path.join(given.to, "stdin.sgf" if found == "-" else inside)
+        name = str(place) if isinstance(place, Fault) else shown(place.source)
+        try:
+            if isinstance(place, Fault):
+                raise place
+            self._tidy(place)
+        except Untidy as why:
+            self.ends.refused += 1
+            self._say(f"{name}: {why}")
+        except InDoubt as why:
+            self.ends.left += 1
+            self._say(f"{name}: {why}")
+        except Left as why:
+            self.ends.left += 1
+            self._say(str(why))
+        except Fault as why:
+            self.ends.faults += 1
+            self._say(str(why))
+        except MemoryError:
+            self.ends.faults += 1
+            self._say(f"{name}: out of memory")
 
+    def _say(self, line: str) -> None:
+        self._progress.write(f"goref-tools: {line}\n", is_fault=True)
 
-def _told(place: Union[Place, Fault], given: argparse.Namespace, ends: Ends) -> Optional[str]:
-    """Tidies a file, counts how it came out, and gives what is to be told of it."""
-    from goref._tools.tidying import Untidy
+    def _tidy(self, place: Place) -> None:
+        """Writes the spelling of a file, and tells what was converted or dropped."""
+        from goref._tools.tidying import InDoubt, tidied
 
-    try:
-        if isinstance(place, Fault):
-            raise place
-        return _tidy(place, given, ends)
-    except Untidy as why:
-        ends.refused += 1
-        return f"{shown(place.source)}: {why}" if isinstance(place, Place) else None
-    except Fault as why:
-        ends.faults += 1
-        return str(why)
-    except MemoryError:
-        ends.faults += 1
-        return f"{shown(place.source)}: out of memory" if isinstance(place, Place) else None
+        content = read(place.source)
+        made = tidied(content.data, self._given.charset)
+        if made.text.how == "guessed" and not self._given.guess:
+            raise InDoubt(f"its charset is a guess, {made.text.charset}: say --charset, or --guess")
+        first = f"the first at byte {made.dropped}"
+        if made.dropped is not None and place.is_over and not self._given.drop:
+            raise InDoubt(f"bytes outside of games, {first}, would be dropped: say --drop for that")
+        is_written = self._write(place, content, made.spelling)
+        told = list(filter(None, [made.text.told()]))
+        if made.dropped is not None:
+            told.append(f"bytes outside of games {'would be' if self._given.dry_run else 'were'} dropped, {first}")
+        if is_written and self._given.dry_run:
+            self._progress.write(f"{shown(place.source)}: {'; '.join(['would be written', *told])}\n")
+        elif told:
+            self._say(f"{shown(place.source)}: {'; '.join(told)}")
 
+    def _write(self, place: Place, content: Content, spelling: bytes) -> bool:
+        """Writes a spelling, and gives whether the file wasn't so before. A dry run looks only whether it may."""
+        if place.is_over and spelling == content.data:
+            self.ends.same += 1
+            return False
+        check(place, content, self._given.break_links)
+        if not self._given.dry_run:
+            self._clear(place)
+            write(place, content, spelling)
+        self.ends.written += 1
+        return True
 
-def _tidy(place: Place, given: argparse.Namespace, ends: Ends) -> Optional[str]:
-    """Writes the spelling of a file, and gives what was converted or dropped."""
-    from goref._tools.files import contents
-    from goref._tools.tidying import Untidy, tidied
-
-    data = contents(place.source)
-    made = tidied(data, given.charset)
-    if made.text.how == "guessed" and given.in_place:
-        raise Untidy(f"its charset is a guess, {made.text.charset}: say --charset")
-    if made.dropped is not None and given.in_place and not given.drop:
-        raise Untidy(f"bytes outside of games, the first at byte {made.dropped}, would be dropped: say --drop for that")
-    _write(place, data, made.spelling, ends)
-    told = [made.text.told()]
-    if made.dropped is not None:
-        told.append(f"bytes outside of games were dropped, the first at byte {made.dropped}")
-    return f"{shown(place.source)}: {'; '.join(filter(None, told))}" if any(told) else None
-
-
-def _write(place: Place, data: bytes, spelling: bytes, ends: Ends) -> None:
-    from goref._tools.files import replacing
-
-    if place.target is None:
-        sys.stdout.buffer.write(spelling)
-        ends.written += 1
-    elif place.is_over and spelling == data:
-        ends.same += 1
-    else:
-        if not place.is_over:
-            _make_folder(place)
-        with replacing(place.target) as file:
-            file.write(spelling)
-        ends.written += 1
-
-
-def _make_folder(place: Place) -> None:
-    from goref._tools.faults import fault_of
-
-    folder = os.path.dirname(place.target or "") or "."
-    try:
-        os.makedirs(folder, exist_ok=True)
-    except OSError as why:
-        raise fault_of(folder, why) from None
+    def _clear(self, place: Place) -> None:
+        """Names what killed runs left in the folders that a file is written to, and removes what may be removed."""
+        for folder in folders_of(place):
+            if folder not in self._cleared:
+                self._cleared.add(folder)
+                for line in clear_left_overs(folder):
+                    self._say(line)

@@ -2,7 +2,8 @@
 
 It tells the reason with what is needed to find it: the node and its text, the value, the vertex, the board before it;
 of a repetition the position that is repeated; of a text that is broken the line and the column. What a file may be that
-is no record is a guess, and begins with `Perhaps`. Without --game it tells of the first game that is refused.
+is no record is a guess, and begins with `Perhaps`. Without --game it tells of the first game that is refused. Of a game
+that is fine it tells the score, and how many points the stated one is from that if they differ.
 """
 
 import argparse
@@ -14,6 +15,7 @@ from goref._tools.doubts import doubt_of
 from goref._tools.explain import explained
 from goref._tools.faults import DONE, REFUSED, shown
 from goref._tools.records import Found, game_in, games_in, say_conversion
+from goref._tools.stated import stated_in
 from goref._tools.words.board import natural
 
 EXAMPLE = """example:
@@ -72,5 +74,6 @@ def _first_refused(path: str, charset: Optional[str]) -> Optional[Found]:
 
 def _fine(found: Found, verdict: goref.Verdict) -> str:
     moves = "1 move" if verdict.moves == 1 else f"{verdict.moves} moves"
-    stated = _STATED[verdict.stated]
+    differs = stated_in(found.game.text, verdict).told()
+    stated = _STATED[verdict.stated] + (f": {differs}" if differs else "")
     return f"{shown(found.path)}: game {found.number} is fine: {moves}, score {verdict.score}, {stated}"
