@@ -9,7 +9,7 @@ import sys
 
 import pytest
 
-from test_main import HERE, tools
+from kit.runner import PACKAGE, tools
 
 GOOD = b"(;SZ[5]KM[0.5]RE[B+24.5];B[cc];W[])"
 WRONG = b"(;SZ[5]RE[W+3];B[cc])"
@@ -92,7 +92,7 @@ def test_a_pipe_is_read(tmp_path):
     (tmp_path / "game").write_bytes(GOOD)
     end = subprocess.run(
         ["bash", "-c", f'cat game | "{sys.executable}" -B -m goref judge <(cat game) /dev/stdin'], capture_output=True,
-        cwd=tmp_path, env={**os.environ, "PYTHONPATH": os.path.dirname(HERE)},
+        cwd=tmp_path, env={**os.environ, "PYTHONPATH": PACKAGE},
     )
     assert end.returncode == 0 and end.stdout.count(b"moves 2 score B+24.5 stated agrees\n") == 2
 

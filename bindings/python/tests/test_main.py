@@ -10,20 +10,7 @@ import pytest
 from goref import __main__ as program
 from goref._tools import main as module
 from goref._tools.faults import Ended
-from kit.runner import PACKAGE, run
-
-HERE = os.path.dirname(os.path.abspath(__file__))
-
-
-def tools(*words, **more):
-    """What a run of the command comes to."""
-    environment = {**os.environ, "PYTHONPATH": os.path.dirname(HERE), **more.pop("env", {})}
-    more = {"input": b"", **more} if "stdin" not in more else more
-    return subprocess.run(
-        [sys.executable, "-B", "-m", "goref", *words], env=environment, stdout=more.pop("stdout", subprocess.PIPE),
-        stderr=subprocess.PIPE, timeout=60, **more,
-    )
-
+from kit.runner import PACKAGE, run, tools
 
 WORDS = ["judge", "tidy", "why", "board", "page", "match"]
 
@@ -186,7 +173,7 @@ def test_streams_that_are_closed_give_no_traceback():
     for closed in ("<&-", ">&-", "2>&-", "<&- >&- 2>&-"):
         end = subprocess.run(
             ["sh", "-c", f'"{sys.executable}" -B -m goref judge - {closed}'], capture_output=True,
-            env={**os.environ, "PYTHONPATH": os.path.dirname(HERE)}, input=b"(;)",
+            env={**os.environ, "PYTHONPATH": PACKAGE}, input=b"(;)",
         )
         assert b"Traceback" not in end.stderr + end.stdout, closed
         assert end.returncode in ((0, 3) if closed == "2>&-" else (3,)), closed

@@ -297,6 +297,21 @@ def test_openings(match, tmp_path):
     assert [name for name, _ in logged] == ["a.sgf", "b.SGF"]
 
 
+def test_hidden_openings_are_left_out_and_what_is_not_read_is_told(match, tmp_path):
+    folder = tmp_path / "openings"
+    folder.mkdir()
+    for name, record in [("a.sgf", b"(;SZ[5];B[cc])"), (".b.sgf", b"(;SZ[5];B[aa])"), ("c.sgfs", b"(;SZ[5];B[bb])")]:
+        (folder / name).write_bytes(record)
+    match("--openings", folder, "--games", 1, PASS, PASS)
+    assert match.err == f"goref-tools: {folder}: 1 file not read: 1 .sgfs; 1 hidden not read (--hidden)\n"
+    assert [name for name, _ in match.settings["openings"]] == ["a.sgf"]
+    match.log.unlink()
+    (match.records / "game-0001.sgf").unlink()
+    match("--openings", folder, "--hidden", "--games", 1, PASS, PASS)
+    assert match.err == f"goref-tools: {folder}: 1 file not read: 1 .sgfs\n"
+    assert [name for name, _ in match.settings["openings"]] == [".b.sgf", "a.sgf"]
+
+
 def test_an_engine_that_refuses_an_opening_leaves_no_result(match, tmp_path):
     match("--openings", openings_in(tmp_path / "openings"), PASS, engine("play w=refuse=no"))
     assert match.results == [None] and match.reasons[0].endswith("refused `play w C2`: no")
@@ -523,7 +538,7 @@ def test_kill_9_loses_no_result_and_the_match_goes_on(match):
     process = command(*words, one, PASS)
     out, err = process.communicate(timeout=20)
     # It may have been killed between the record and the line of a game.
-    assert all(b" isn't in the log: it is kept as " in line for line in err.splitlines())
+    assert all(b" isn't in the log: it is kept as " in line or b".new: " in line for line in err.splitlines())
     assert process.returncode == 0 and match.log.read_bytes().startswith(whole)
     assert sorted(game["game"] for game in match.games) == [1, 2, 3, 4, 5, 6]
     assert b"games 6, with a result 6" in out

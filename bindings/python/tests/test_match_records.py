@@ -4,6 +4,8 @@ import json
 import os
 import resource
 import shlex
+import subprocess
+import sys
 
 import pytest
 
@@ -151,6 +153,17 @@ def test_a_folder_has_one_match_at_a_time(match):
     assert match.err == f"goref-tools: {match.records}: another match keeps its records there\n"
     process.communicate(timeout=40)
     assert process.returncode == 0 and match.names() == ["game-0001.sgf"]
+
+
+def test_what_a_killed_match_left_half_written_is_told_and_removed(match):
+    with subprocess.Popen([sys.executable, "-c", ""]) as ended:
+        ended.wait()
+    match.records.mkdir()
+    half = match.records / f".goref-{os.uname().nodename}-{ended.pid}-1-0123456789abcdef.new"
+    half.write_bytes(b"(;")
+    match(PASS, PASS)
+    assert match.status == 0 and not half.exists()
+    assert match.err == f"goref-tools: {half}: a process that has ended left it; it was removed\n"
 
 
 def test_a_record_that_somebody_put_there_stays(match):

@@ -11,7 +11,7 @@ import time
 import pytest
 
 from kit.runner import apart
-from test_main import HERE, tools
+from kit.runner import PACKAGE, tools
 
 LOOSE = b" ( ; SZ [5] ;B[cc])\n"
 TIDY = b"(;SZ[5];B[cc])\n"
@@ -178,7 +178,7 @@ def test_a_full_disk_leaves_the_old_file(tmp_path):
     before = (tmp_path / "a.sgf").read_bytes()
     end = subprocess.run(
         ["bash", "-c", f'ulimit -f 100; trap "" XFSZ; exec "{sys.executable}" -B -m goref tidy --in-place a.sgf'],
-        cwd=tmp_path, capture_output=True, env={**os.environ, "PYTHONPATH": os.path.dirname(HERE)},
+        cwd=tmp_path, capture_output=True, env={**os.environ, "PYTHONPATH": PACKAGE},
     )
     assert end.returncode == 3 and end.stderr.startswith(b"goref-tools: a.sgf: File too large\n")
     assert [path.name for path in tmp_path.iterdir()] == ["a.sgf"] and (tmp_path / "a.sgf").read_bytes() == before
@@ -194,7 +194,7 @@ def test_an_end_at_any_moment_loses_no_record(tmp_path):
         write(folder, **{f"{place:02}": LOOSE for place in range(60)})
         process = subprocess.Popen(
             [sys.executable, "-B", "-m", "goref", "tidy", "--in-place", str(folder)], stderr=subprocess.DEVNULL,
-            env={**os.environ, "PYTHONPATH": os.path.dirname(HERE)},
+            env={**os.environ, "PYTHONPATH": PACKAGE},
         )
         time.sleep(draw.uniform(0.03, 0.25))
         end = draw.choice([signal.SIGKILL, signal.SIGINT])

@@ -10,7 +10,7 @@ from goref._tools.guesses import game_by, guess
 from goref._tools.refusals import Refusal, refusal_of
 from goref._tools.spelling import Property
 from running import runner
-from test_main import tools
+from kit.runner import tools
 
 
 @pytest.fixture

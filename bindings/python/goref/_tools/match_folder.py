@@ -4,16 +4,17 @@ import fcntl
 import json
 import os
 import re
-import tempfile
 from itertools import count
 from types import TracebackType
 from typing import Dict, Iterator, List, Optional, Type
 
 import goref
 from goref._tools.faults import Fault, WrongWords, fault_of, shown, tell
-from goref._tools.files import contents, replacing, sync_names
+from goref._tools.files import make_folder, open_new, replacing, sync_names
+from goref._tools.left_overs import clear_left_overs, name_beside
 from goref._tools.match_outcome import Outcome
 from goref._tools.match_record import is_record_of
+from goref._tools.reading import contents
 
 _NAME = re.compile(r"game-([0-9]{4,})\.sgf")
 
@@ -38,6 +39,8 @@ class Folder:
             raise fault_of(os.path.join(path, CLAIM), why) from None
         try:
             self._lock()
+            for line in clear_left_overs(path):
+                tell(line)
             self._take(match, outcomes)
         except OSError as why:
             self.close()
@@ -123,11 +126,11 @@ class Folder:
 
 def try_folder(folder: str) -> None:
     """Makes a folder if need be, and finds whether files can be written there. Raises a Fault."""
+    make_folder(folder)
     try:
-        os.makedirs(folder, exist_ok=True)
-        with tempfile.NamedTemporaryFile(prefix=".goref-", suffix=".new", dir=folder) as file:
-            file.write(b"\n")
-            file.flush()
+        with name_beside(os.path.join(folder, CLAIM)) as made:
+            with os.fdopen(open_new(folder, made, 0o600), "wb") as file:
+                file.write(b"\n")
     except OSError as why:
         raise fault_of(folder, why) from None
 

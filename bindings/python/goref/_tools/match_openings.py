@@ -8,16 +8,20 @@ from goref._tools.doubts import doubt_of
 from goref._tools.faults import Fault, shown
 from goref._tools.files import records_in
 from goref._tools.match_settings import BLACK, WHITE, Opening
+from goref._tools.passed import Passed
 from goref._tools.records import games_in
 from goref._tools.spelling import main_line, vertex_of
 
 
-def openings_in(folder: str, size: int) -> List[Opening]:
-    """The main lines of a folder's records, in a fixed order. Raises a Fault that names the first wrong one."""
+def openings_in(folder: str, size: int, hidden: bool, passed: Passed) -> List[Opening]:
+    """The main lines of a folder's records, in a fixed order. Raises a Fault that names the first wrong one.
+
+    What is hidden is left out without `hidden`. What isn't read is added to `passed`.
+    """
     if not os.path.isdir(folder):
         raise Fault(f"{shown(folder)}: no folder")
     openings = []
-    for path in records_in(folder):
+    for path in records_in(folder, hidden, passed):
         if isinstance(path, Fault):
             raise path
         try:

@@ -54,3 +54,13 @@ def apart(*words, input=b"", seconds=60, **options):
             process.kill()
             raise
     return Ended(process.returncode, *(os.fsdecode(text or b"") for text in (out, err)))
+
+
+def tools(*words, env=(), stdin=None, **options):
+    """The same with bytes for its output, as `subprocess.run` gives them."""
+    given = {"input": b""} if stdin is None else {"stdin": stdin}
+    pipe = subprocess.PIPE
+    return subprocess.run(
+        [sys.executable, "-B", "-m", "goref", *words],
+        **{"env": environment(**dict(env)), "stdout": pipe, "stderr": pipe, "timeout": 60, **given, **options},
+    )

@@ -38,6 +38,7 @@ from contextlib import ExitStack
 from typing import TYPE_CHECKING, Iterable, List, Optional, Sequence
 
 from goref._tools.faults import DONE, FAULT, REFUSED, WrongWords, shown, tell
+from goref._tools.passed import Passed, add_hidden
 
 if TYPE_CHECKING:
     from goref._tools.match_outcome import Outcome
@@ -81,6 +82,7 @@ def add_arguments(parser: argparse.ArgumentParser) -> None:
     add("--log", metavar="FILE", help="a file for a JSON line of each game; with it the same command goes on")
     add("--records", metavar="FOLDER", help="a folder for a record of each game")
     add("--void", type=_count, default=3, metavar="N", help="how many games that can't go on end the match (3)")
+    add_hidden(parser)
     add("--line-seconds", type=_seconds, default=60.0, help=argparse.SUPPRESS)
     add("--move-seconds", type=_seconds, default=3600.0, help=argparse.SUPPRESS)
 
@@ -155,7 +157,10 @@ def _settings(given: argparse.Namespace) -> "Settings":
         Settings((given.black, given.white), given.size, given.komi, given.handicap, given.superko, given.seconds)
     )
     if given.openings is not None:
-        settings = settings._replace(openings=openings_in(given.openings, given.size))
+        passed = Passed()
+        settings = settings._replace(openings=openings_in(given.openings, given.size, given.hidden, passed))
+        if passed:
+            tell(f"{shown(given.openings)}: {passed.told()}")
     return settings
 
 
