@@ -96,7 +96,16 @@ static int session(long number)
         room[whole < sizeof room ? whole : 0] = '\0';
         told += status == 3 || strstr((char *)room, "? out of memory\n\n") != NULL;
     }
+    for (uint16_t point = 0; point < 40; point++) {
+        uint16_t chosen;
+        uint8_t status = goref_play(&game, point % 2 + 1, point, NULL, 0);
+        see(status == GOREF_OK || status == GOREF_NO_MEMORY, "a play of no kind", number);
+        told += status == GOREF_NO_MEMORY;
+        told += goref_is_legal(&game, GOREF_BLACK, point + 1) == GOREF_NO_MEMORY;
+        told += goref_choose(&game, GOREF_WHITE, &chosen) == GOREF_NO_MEMORY;
+    }
     fails_at = 0;
+    see(goref_undo(&game, 1) == GOREF_OK, "a play that can't be taken back", number);
     see(give(&game, "showboard\n", &length) == 0 && length > 100, "a session that doesn't go on", number);
     goref_close(&game);
     goref_close(&game);

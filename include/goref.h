@@ -122,6 +122,80 @@ uint8_t goref_take(goref_session *handle, uint8_t *room, size_t place, size_t *l
 /* Closes a session, and gives its memory back. A handle without one stays so. */
 void goref_close(goref_session *handle);
 
+/* ---- Calls without text.
+ *
+ *     uint8_t colours[GOREF_MAX_POINTS];
+ *     goref_play(&game, GOREF_BLACK, 3 * 19 + 3, NULL, 0);                 // play b d4
+ *     goref_board(&game, colours, sizeof colours, &length);               // colours[60] is 1
+ *     goref_undo(&game, 1);
+ *
+ * They act on the game of a session, the same that lines act on, and lines go on from what they leave.
+ * `quit` ends none of them. A point is row * lines + column, from 0, with rows from the bottom: A1 is
+ * 0, and B1 is 1. With any status but GOREF_OK the game is as before.
+ *
+ * The caller's to see to is what is said above. */
+
+#define GOREF_MAX_SIZE 25
+#define GOREF_MAX_POINTS 625
+
+/* What a status means, in each of these calls. */
+enum {
+    GOREF_OK = 0,
+    GOREF_NOTHING = 1,   /* there are fewer moves to undo */
+    GOREF_INVALID = 2,   /* a colour, a komi or a rule that can't be; a rule after a move */
+    GOREF_NO_MEMORY = 3, /* only from calls that play or try a play */
+    GOREF_CLOSED = 4,    /* the handle has no session */
+    GOREF_OCCUPIED = 5,  /* a stone stands there */
+    GOREF_REPEATS = 6,   /* the superko rule forbids it */
+    GOREF_OFF_BOARD = 8  /* a point past the board that isn't GOREF_PASS */
+};
+
+#define GOREF_EMPTY 0
+#define GOREF_BLACK 1
+#define GOREF_WHITE 2
+#define GOREF_POSITIONAL 0
+#define GOREF_SITUATIONAL 1
+#define GOREF_PASS 65535
+
+/* What a play says of itself. What it doesn't say has all bits set. */
+typedef struct goref_played {
+    uint64_t repeats;    /* GOREF_REPEATS: after how many moves the position stood first */
+    uint16_t captured;   /* GOREF_OK: how many stones of the opponent it took */
+    uint16_t lost;       /* GOREF_OK: how many of its own colour, by suicide */
+    uint8_t reserved[4]; /* 0 */
+} goref_played;
+
+/* Plays a move, as `play` does. `*played` is filled as a text is: as many bytes as `place` says. With 0
+ * bytes it may be null. GOREF_OK, INVALID, NO_MEMORY, CLOSED, OCCUPIED, REPEATS, OFF_BOARD. */
+uint8_t goref_play(goref_session *handle, uint8_t colour, uint16_t point, goref_played *played, size_t place);
+
+/* Takes so many moves back, as so many times `undo`; none if there are fewer. It takes no memory.
+ * GOREF_OK, also for 0 moves; NOTHING, CLOSED. */
+uint8_t goref_undo(goref_session *handle, size_t count);
+
+/* Whether a move is legal: GOREF_OK, or what goref_play would say. The move isn't played. */
+uint8_t goref_is_legal(goref_session *handle, uint8_t colour, uint16_t point);
+
+/* The colour of each point, a byte a point, as far as they fit; `*length` becomes the number of points.
+ * GOREF_OK; CLOSED, with no byte. */
+uint8_t goref_board(goref_session *handle, uint8_t *room, size_t place, size_t *length);
+
+/* The points of each colour: its stones, and empty points that lead to no other. GOREF_OK, CLOSED. */
+uint8_t goref_area(goref_session *handle, uint16_t *black, uint16_t *white);
+
+/* What `final_score` answers: Black's area less White's less the komi, in hundredths of a point.
+ * GOREF_OK, CLOSED. */
+uint8_t goref_score(goref_session *handle, int64_t *hundredths);
+
+/* What `reg_genmove` answers: a point, or GOREF_PASS. GOREF_OK, INVALID, NO_MEMORY, CLOSED. */
+uint8_t goref_choose(goref_session *handle, uint8_t colour, uint16_t *point);
+
+/* Sets the komi in hundredths of a point, at most 99,999,999,999 on either side. GOREF_OK, INVALID, CLOSED. */
+uint8_t goref_set_komi(goref_session *handle, int64_t hundredths);
+
+/* Sets the superko rule while there is no move. GOREF_OK, INVALID, CLOSED. */
+uint8_t goref_set_superko(goref_session *handle, uint8_t superko);
+
 #ifdef __cplusplus
 }
 #endif

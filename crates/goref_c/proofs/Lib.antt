@@ -1,5 +1,6 @@
 pub mod HandleSteps
 pub mod LooseSteps
+pub mod Told
 pub mod FirstLine
 pub mod HeldSends
 pub mod Sending

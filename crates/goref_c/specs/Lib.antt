@@ -1,3 +1,4 @@
+pub mod Calls
 pub mod Devices
 pub mod Ends
 pub mod Files

@@ -7,10 +7,12 @@
 
 ghost use Rattle.std.specs.Prelude.{◌≡◌, ◌≢◌, ◌⊎◌, ◌<◌, ◌≤◌, ◌↔◌, [], None, Some};
 ghost use Rattle.go_board.specs.declared.size.TheConstants.{MAX_LINES};
+ghost use Rattle.goref_c.specs.Calls.{Chooses, IsLegalOn, IsTold, Plays, SetsKomi, SetsRule, ShowsBoard, TellsArea, TellsScore, Undoes};
 ghost use Rattle.goref_c.specs.Ends.{IsText, ShowsAnswers, ShowsGameRefusal, ShowsNoMemory, ShowsRefusal, ShowsTidied, ShowsVerdict};
 ghost use Rattle.goref_c.specs.NextGame.{ShowsBrokenTree, ShowsNoTree, ShowsTree};
 ghost use Rattle.goref_c.specs.Sessions.{ComesTo, ShowsAnswered, ShowsWanted, fresh};
 
+mod calls;
 mod devices;
 mod files;
 mod games;
@@ -18,6 +20,7 @@ mod handle;
 mod held;
 mod loose;
 mod room;
+mod said;
 mod session;
 mod sessions;
 mod tools;
@@ -160,6 +163,104 @@ pub extern "C" fn goref_take(
     sessions::take(alloc, handle, room, length)
 }
 
+/// Plays a move on the game of a session: `play` without text. The room gets what the play says of itself.
+#[unsafe(no_mangle)]
+pub extern "C" fn goref_play(
+    alloc: Global,
+    handle: &mut Handle,
+    colour: u8,
+    point: u16,
+    played: &mut [u8],
+) -> u8
+    ensures { Plays result colour point handle.old.value handle.new.value played.old played.new }
+{
+    calls::play(alloc, handle, colour, point, played)
+}
+
+/// Takes so many moves back, or none where there are fewer. It takes no memory.
+#[unsafe(no_mangle)]
+pub extern "C" fn goref_undo(alloc: Global, handle: &mut Handle, count: usize) -> u8
+    ensures { Undoes result count handle.old.value handle.new.value }
+{
+    calls::undo(alloc, handle, count)
+}
+
+/// Whether a move is legal.
+#[unsafe(no_mangle)]
+pub extern "C" fn goref_is_legal(alloc: Global, handle: &mut Handle, colour: u8, point: u16) -> u8
+    ensures stays { handle.new.value ≡ handle.old.value }
+    ensures told { IsLegalOn result colour point handle.old.value }
+{
+    calls::is_legal(alloc, handle, colour, point)
+}
+
+/// The score: Black's margin in hundredths of a point.
+#[unsafe(no_mangle)]
+pub extern "C" fn goref_score(alloc: Global, handle: &mut Handle, hundredths: &mut i64) -> u8
+    ensures stays { handle.new.value ≡ handle.old.value }
+    ensures told { IsTold result handle.old.value (TellsScore hundredths.new) }
+{
+    calls::score(alloc, handle, hundredths)
+}
+
+/// The points of each colour.
+#[unsafe(no_mangle)]
+pub extern "C" fn goref_area(
+    alloc: Global,
+    handle: &mut Handle,
+    black: &mut u16,
+    white: &mut u16,
+) -> u8
+    ensures stays { handle.new.value ≡ handle.old.value }
+    ensures told { IsTold result handle.old.value (TellsArea black.new white.new) }
+{
+    calls::area(alloc, handle, black, white)
+}
+
+/// The colour of each point.
+#[unsafe(no_mangle)]
+pub extern "C" fn goref_board(
+    alloc: Global,
+    handle: &mut Handle,
+    room: &mut [u8],
+    length: &mut usize,
+) -> u8
+    ensures stays { handle.new.value ≡ handle.old.value }
+    ensures shown { ShowsBoard result handle.old.value room.old room.new length.new }
+{
+    calls::board(alloc, handle, room, length)
+}
+
+/// What `reg_genmove` answers for a colour.
+#[unsafe(no_mangle)]
+pub extern "C" fn goref_choose(
+    alloc: Global,
+    handle: &mut Handle,
+    colour: u8,
+    point: &mut u16,
+) -> u8
+    ensures stays { handle.new.value ≡ handle.old.value }
+    ensures told { Chooses result point.new colour handle.old.value }
+{
+    calls::choose(alloc, handle, colour, point)
+}
+
+/// Sets the komi in hundredths of a point.
+#[unsafe(no_mangle)]
+pub extern "C" fn goref_set_komi(alloc: Global, handle: &mut Handle, hundredths: i64) -> u8
+    ensures { SetsKomi result hundredths handle.old.value handle.new.value }
+{
+    calls::set_komi(alloc, handle, hundredths)
+}
+
+/// Sets the superko rule, while there is no move: 0 for the positional one, 1 for the situational one.
+#[unsafe(no_mangle)]
+pub extern "C" fn goref_set_superko(alloc: Global, handle: &mut Handle, superko: u8) -> u8
+    ensures { SetsRule result superko handle.old.value handle.new.value }
+{
+    calls::set_superko(alloc, handle, superko)
+}
+
 /// Closes the session of a handle, if there is one.
 #[unsafe(no_mangle)]
 pub extern "C" fn goref_close(alloc: Global, handle: &mut Handle)
@@ -168,6 +269,8 @@ pub extern "C" fn goref_close(alloc: Global, handle: &mut Handle)
     *handle = Handle::shut(alloc);
 }
 
+#[cfg(test)]
+mod call_tests;
 #[cfg(test)]
 mod game_tests;
 #[cfg(test)]

@@ -17,6 +17,8 @@ ghost use Rattle.goref_session.specs.Starts.{begun};
 ghost use Rattle.goref_session.specs.Table.{Decides};
 ghost use Rattle.goref_lines.specs.Words.{has_bytes};
 
+mod current;
+
 use crate::answer::write_answer;
 use crate::command::{Command, command_asked};
 use crate::commands::record::{BytesToLoad, bytes_to_load};
