@@ -97,8 +97,9 @@ static int session(long number)
         told += status == 3 || strstr((char *)room, "? out of memory\n\n") != NULL;
     }
     for (uint16_t point = 0; point < 40; point++) {
+        goref_played played;
         uint16_t chosen;
-        uint8_t status = goref_play(&game, point % 2 + 1, point, NULL, 0);
+        uint8_t status = goref_play(&game, point % 2 + 1, point, &played, sizeof played);
         see(status == GOREF_OK || status == GOREF_NO_MEMORY, "a play of no kind", number);
         told += status == GOREF_NO_MEMORY;
         told += goref_is_legal(&game, GOREF_BLACK, point + 1) == GOREF_NO_MEMORY;

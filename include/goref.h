@@ -124,9 +124,10 @@ void goref_close(goref_session *handle);
 
 /* ---- Calls without text.
  *
+ *     goref_played played;
  *     uint8_t colours[GOREF_MAX_POINTS];
- *     goref_play(&game, GOREF_BLACK, 3 * 19 + 3, NULL, 0);                 // play b d4
- *     goref_board(&game, colours, sizeof colours, &length);               // colours[60] is 1
+ *     goref_play(&game, GOREF_BLACK, 3 * 19 + 3, &played, sizeof played);  // play b d4
+ *     goref_board(&game, colours, sizeof colours, &length);                // colours[60] is 1
  *     goref_undo(&game, 1);
  *
  * They act on the game of a session, the same that lines act on, and lines go on from what they leave.
@@ -165,8 +166,8 @@ typedef struct goref_played {
     uint8_t reserved[4]; /* 0 */
 } goref_played;
 
-/* Plays a move, as `play` does. `*played` is filled as a text is: as many bytes as `place` says. With 0
- * bytes it may be null. GOREF_OK, INVALID, NO_MEMORY, CLOSED, OCCUPIED, REPEATS, OFF_BOARD. */
+/* Plays a move, as `play` does. `*played` is filled as a room is: as many bytes of it as `place` says.
+ * GOREF_OK, INVALID, NO_MEMORY, CLOSED, OCCUPIED, REPEATS, OFF_BOARD. */
 uint8_t goref_play(goref_session *handle, uint8_t colour, uint16_t point, goref_played *played, size_t place);
 
 /* Takes so many moves back, as so many times `undo`; none if there are fewer. It takes no memory.
