@@ -177,6 +177,10 @@ uint8_t goref_undo(goref_session *handle, size_t count);
 /* Whether a move is legal: GOREF_OK, or what goref_play would say. The move isn't played. */
 uint8_t goref_is_legal(goref_session *handle, uint8_t colour, uint16_t point);
 
+/* Whether each point is a legal play of a colour, in the order of points: a byte a point, 1 or 0, as far as
+ * they fit; `*length` becomes the number of points. GOREF_OK; INVALID, NO_MEMORY, CLOSED, with no byte. */
+uint8_t goref_legal(goref_session *handle, uint8_t colour, uint8_t *room, size_t place, size_t *length);
+
 /* The colour of each point, a byte a point, as far as they fit; `*length` becomes the number of points.
  * GOREF_OK; CLOSED, with no byte. */
 uint8_t goref_board(goref_session *handle, uint8_t *room, size_t place, size_t *length);

@@ -12,6 +12,7 @@ use Rattle.go_board.specs.declared.vertex.Move.{Move}
 use Rattle.go_board.specs.declared.vertex.Vertex.{Vertex}
 use Rattle.go_board.specs.declared.vertex.Vertex.TheVariants.{At, Pass}
 use Rattle.go_game.specs.Choices.{chosen}
+use Rattle.go_game.specs.Legal.{is_legal}
 use Rattle.go_game.specs.Prisoners.{stones_taken}
 use Rattle.go_game.specs.Scores.{area_of, margin_of}
 use Rattle.go_game.specs.Standings.{IsLegal, IsOccupied, IsRepeat, Standing, board_of, with_move, without_last}
@@ -162,3 +163,20 @@ SetsRuleBy status (Some rule) (m ∷ moves) old new = (status ≡ 2) × (new ≡
 abbrev pub SetsRule : ℕ → ℕ → Option Holding → Option Holding → Type 0
 SetsRule status number None new = (status ≡ 4) × (new ≡ None)
 SetsRule status number (Some old) new = SetsRuleBy status (rule_numbered number) old.standing.moves old new
+
+-- whether the play of a colour on each point is legal, in point order: 1 if it is, and else 0
+abbrev pub marks_told : Standing → Colour → List ℕ
+marks_told s c = map (λ p. if is_legal s c (At (point_at s.lines p)) then 1 else 0) (points s.lines)
+
+-- The room has these marks, by the status 0. By 2 there is no such colour, and by 3 there was no memory to try a play:
+-- then it has nothing.
+abbrev pub ShowsLegalBy : ℕ → Option Colour → Standing → List ℕ → List ℕ → ℕ → Type 0
+ShowsLegalBy status None s room room' count = (status ≡ 2) × IsText [] room room' count
+ShowsLegalBy status (Some c) s room room' count =
+    ((status ≡ 0) × IsText (marks_told s c) room room' count) ⊎ ((status ≡ 3) × IsText [] room room' count)
+
+-- the same on a handle
+abbrev pub ShowsLegal : ℕ → ℕ → Option Holding → List ℕ → List ℕ → ℕ → Type 0
+ShowsLegal status colour None room room' count = (status ≡ 4) × IsText [] room room' count
+ShowsLegal status colour (Some held) room room' count =
+    ShowsLegalBy status (colour_coded colour) held.standing room room' count

@@ -1,8 +1,8 @@
 //! Tests of the calls without text: a status and what it says for each step of a game on three lines.
 use crate::handle::Handle;
 use crate::{
-    goref_area, goref_board, goref_choose, goref_close, goref_is_legal, goref_open, goref_play,
-    goref_score, goref_send, goref_set_komi, goref_set_superko, goref_undo,
+    goref_area, goref_board, goref_choose, goref_close, goref_is_legal, goref_legal, goref_open,
+    goref_play, goref_score, goref_send, goref_set_komi, goref_set_superko, goref_undo,
 };
 
 /// A call, and what is to come of it: the status last.
@@ -19,6 +19,8 @@ enum Step {
     Area(u16, u16),
     /// The colours of the points.
     Board([u8; 9]),
+    /// A colour, and the marks of the points.
+    Marks(u8, [u8; 9]),
     /// A colour, and the point that is chosen.
     Choose(u8, u16, u8),
     /// The komi.
@@ -65,6 +67,8 @@ const STEPS: &[Step] = &[
     Step::Score(-900, 0),
     Step::Area(0, 9),
     Step::Board([0, 2, 0, 2, 0, 0, 0, 0, 0]),
+    Step::Marks(1, [0, 0, 1, 0, 1, 1, 1, 1, 1]),
+    Step::Marks(2, [1, 0, 1, 0, 1, 1, 1, 1, 1]),
     Step::Komi(-99_999_999_999, 0),
     Step::Score(99_999_999_099, 0),
     Step::Komi(99_999_999_999, 0),
@@ -121,6 +125,12 @@ fn is_so(rt: &HostRuntime, handle: &mut Handle, step: &Step) -> bool {
             let end = goref_board(rt.alloc(), handle, &mut room, &mut length);
             end == 0 && length == 9 && room == *colours
         }
+        Step::Marks(colour, marks) => {
+            let mut room = [7; 9];
+            let mut length = 7;
+            let end = goref_legal(rt.alloc(), handle, *colour, &mut room, &mut length);
+            end == 0 && length == 9 && room == *marks
+        }
         Step::Choose(colour, point, status) => {
             let mut found = 7;
             goref_choose(rt.alloc(), handle, *colour, &mut found) == *status && found == *point
@@ -168,6 +178,8 @@ fn a_call_on_no_session_is_told(rt: HostRuntime) {
     assert!(rt; goref_area(rt.alloc(), &mut handle, &mut found.0, &mut found.1) == 4);
     assert!(rt; goref_choose(rt.alloc(), &mut handle, 1, &mut found.0) == 4 && found == (7, 7));
     assert!(rt; goref_board(rt.alloc(), &mut handle, &mut room, &mut length) == 4 && length == 0);
+    assert!(rt; goref_legal(rt.alloc(), &mut handle, 1, &mut room, &mut length) == 4);
+    assert!(rt; length == 0 && room == SILENT);
     assert!(rt; goref_set_komi(rt.alloc(), &mut handle, 0) == 4);
     assert!(rt; goref_set_superko(rt.alloc(), &mut handle, 0) == 4);
 }
@@ -181,4 +193,8 @@ fn a_board_is_cut_where_there_is_no_room(rt: HostRuntime) {
     assert!(rt; goref_play(rt.alloc(), &mut handle, 1, 1, &mut []) == 0);
     assert!(rt; goref_board(rt.alloc(), &mut handle, &mut room, &mut length) == 0);
     assert!(rt; length == 625 && room == [0, 1, 0]);
+    assert!(rt; goref_legal(rt.alloc(), &mut handle, 2, &mut room, &mut length) == 0);
+    assert!(rt; length == 625 && room == [1, 0, 1]);
+    assert!(rt; goref_legal(rt.alloc(), &mut handle, 0, &mut room, &mut length) == 2);
+    assert!(rt; length == 0 && room == [1, 0, 1]);
 }

@@ -1,11 +1,12 @@
 //! Calls without text, on the session of a handle.
-ghost use Rattle.std.specs.Prelude.{◌≡◌, ◌↔◌, IsTrue, Some};
+ghost use Rattle.std.specs.Prelude.{◌≡◌, ◌*◌, ◌↔◌, if◌then◌else◌, IfSome, IsTrue, Some, length, take};
+ghost use Rattle.go_board.specs.declared.size.TheConstants.{MAX_POINTS};
 ghost use Rattle.go_board.specs.Grids.{stone_at};
 ghost use Rattle.go_board.specs.Komi.{IsKomi};
 ghost use Rattle.go_board.specs.Packs.{code_of, colour_coded};
 ghost use Rattle.go_board.specs.Points.{IsOn};
 ghost use Rattle.go_game.specs.Standings.{IsOccupied, present};
-ghost use Rattle.goref_c.specs.Calls.{Chooses, ChoosesBy, IsLegalBy, IsLegalOn, IsTold, Plays, PlaysBy, SetsKomi, SetsRule, SetsRuleBy, ShowsBoard, TellsArea, TellsScore, Undoes, colours_told, rule_numbered, vertex_numbered, with_standing};
+ghost use Rattle.goref_c.specs.Calls.{Chooses, ChoosesBy, IsLegalBy, IsLegalOn, IsTold, Plays, PlaysBy, SetsKomi, SetsRule, SetsRuleBy, ShowsBoard, ShowsLegal, ShowsLegalBy, TellsArea, TellsScore, Undoes, colours_told, marks_told, rule_numbered, vertex_numbered, with_standing};
 ghost use Rattle.goref_c.specs.Ends.{IsText};
 
 use crate::handle::Handle;
@@ -130,6 +131,73 @@ fn is_occupied(game: &Game<Global>, vertex: Vertex) -> bool
         Vertex::Pass => false,
         Vertex::At(p) => p.on(game.size()) && game.colour_at(p).is_some(),
     }
+}
+
+/// Puts a mark for each point into a room: whether a colour's play there is legal.
+pub(crate) fn legal(
+    alloc: Global,
+    handle: &mut Handle,
+    colour: u8,
+    room: &mut [u8],
+    length: &mut usize,
+) -> u8
+    ensures stays { handle.new.value ≡ handle.old.value }
+    ensures shown { ShowsLegal result colour handle.old.value room.old room.new length.new }
+{
+    let Some(mut held) = mem::replace(handle, Handle::shut(alloc)).into_box() else {
+        show(b"", room, length);
+        return 4;
+    };
+    let status = put_legal(&mut held, colour, room, length);
+    *handle = Handle::of_box(held);
+    status
+}
+
+fn put_legal(held: &mut Held, colour: u8, room: &mut [u8], length: &mut usize) -> u8
+    ensures stays { held.new ≡ held.old }
+    ensures shown { ShowsLegalBy result (colour_coded colour) held.old.standing
+        room.old room.new length.new }
+{
+    let Some(colour) = Colour::coded(u64::from(colour)) else {
+        show(b"", room, length);
+        return 2;
+    };
+    let count = usize::from(held.session().game().size().points());
+    match marks_of(held, colour) {
+        Some(marks) => {
+            show(&marks[..count], room, length);
+            0
+        }
+        None => {
+            show(b"", room, length);
+            3
+        }
+    }
+}
+
+/// A mark for each point, and none if there was no memory to try a play.
+fn marks_of(held: &mut Held, colour: Colour) -> Option<[u8; MAX_POINTS]>
+    ensures stays { held.new ≡ held.old }
+    ensures marks { IfSome result (λ marks. (length marks ≡ MAX_POINTS)
+        × (take (held.old.standing.lines * held.old.standing.lines) marks
+        ≡ marks_told held.old.standing colour)) }
+{
+    let size = held.session().game().size();
+    let mut marks = [0; MAX_POINTS];
+    for number in 0..size.points() {
+        let vertex = Vertex::At(Point::numbered(size, number));
+        let Ok(is_legal) = held.legal(Move { colour, vertex }) else {
+            return None;
+        };
+        marks[usize::from(number)] = mark_of(is_legal);
+    }
+    Some(marks)
+}
+
+fn mark_of(is_legal: bool) -> u8
+    ensures { result ≡ if is_legal then 1 else 0 }
+{
+    if is_legal { 1 } else { 0 }
 }
 
 /// Takes so many moves back, or none if there are fewer.

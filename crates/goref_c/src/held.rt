@@ -3,6 +3,7 @@ ghost use Rattle.std.specs.Prelude.{◌≡◌, ◌↔◌, ◌≤◌, [], ℕ, Er
 ghost use Rattle.go_board.specs.Komi.{IsKomi};
 ghost use Rattle.go_board.specs.declared.colour.Colour.{Colour};
 ghost use Rattle.go_game.specs.Choices.{chosen};
+ghost use Rattle.go_game.specs.Legal.{is_legal};
 ghost use Rattle.go_game.specs.Prisoners.{share_of, stones_taken};
 ghost use Rattle.go_game.specs.Standings.{IsLegal, IsOccupied, IsOffBoard, IsRepeat, with_move, without_last};
 ghost use Rattle.goref_c.specs.Calls.{with_standing};
@@ -98,6 +99,8 @@ impl Held {
     pub(crate) fn legal(&mut self, made: Move) -> Result<bool, AllocError>
         ensures rules { IfOk result
             (λ legal. IsTrue legal ↔ IsLegal self.old.standing made.colour made.vertex) }
+        ensures test { IfOk result
+            (λ legal. legal ≡ is_legal self.old.standing made.colour made.vertex) }
         ensures tried { OnErr result (IsOccupied self.old.standing made.vertex → ⊥) }
         ensures stays { self.new ≡ self.old }
     {

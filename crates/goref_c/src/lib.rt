@@ -7,7 +7,7 @@
 
 ghost use Rattle.std.specs.Prelude.{◌≡◌, ◌≢◌, ◌⊎◌, ◌<◌, ◌≤◌, ◌↔◌, [], None, Some};
 ghost use Rattle.go_board.specs.declared.size.TheConstants.{MAX_LINES};
-ghost use Rattle.goref_c.specs.Calls.{Chooses, IsLegalOn, IsTold, Plays, SetsKomi, SetsRule, ShowsBoard, TellsArea, TellsScore, Undoes};
+ghost use Rattle.goref_c.specs.Calls.{Chooses, IsLegalOn, IsTold, Plays, SetsKomi, SetsRule, ShowsBoard, ShowsLegal, TellsArea, TellsScore, Undoes};
 ghost use Rattle.goref_c.specs.Ends.{IsText, ShowsAnswers, ShowsGameRefusal, ShowsNoMemory, ShowsRefusal, ShowsTidied, ShowsVerdict};
 ghost use Rattle.goref_c.specs.NextGame.{ShowsBrokenTree, ShowsNoTree, ShowsTree};
 ghost use Rattle.goref_c.specs.Sessions.{ComesTo, ShowsAnswered, ShowsWanted, fresh};
@@ -192,6 +192,21 @@ pub extern "C" fn goref_is_legal(alloc: Global, handle: &mut Handle, colour: u8,
     ensures told { IsLegalOn result colour point handle.old.value }
 {
     calls::is_legal(alloc, handle, colour, point)
+}
+
+/// Whether each point is a legal play of a colour.
+#[unsafe(no_mangle)]
+pub extern "C" fn goref_legal(
+    alloc: Global,
+    handle: &mut Handle,
+    colour: u8,
+    room: &mut [u8],
+    length: &mut usize,
+) -> u8
+    ensures stays { handle.new.value ≡ handle.old.value }
+    ensures shown { ShowsLegal result colour handle.old.value room.old room.new length.new }
+{
+    calls::legal(alloc, handle, colour, room, length)
 }
 
 /// The score: Black's margin in hundredths of a point.

@@ -4,6 +4,7 @@ ghost use Rattle.std.specs.Prelude.{◌≡◌, ◌++◌, ◌∷◌, ◌↔◌, [
 ghost use Rattle.go_board.specs.Komi.{IsKomi};
 ghost use Rattle.go_board.specs.declared.colour.Colour.{Colour};
 ghost use Rattle.go_game.specs.Choices.{chosen};
+ghost use Rattle.go_game.specs.Legal.{is_legal};
 ghost use Rattle.go_game.specs.Prisoners.{share_of, stones_taken};
 ghost use Rattle.go_game.specs.Standings.{IsLegal, IsOccupied, IsOffBoard, IsRepeat, with_move, without_last};
 
@@ -47,6 +48,7 @@ impl<A: Allocator + Copy> Session<A> {
     pub fn legal(&mut self, made: Move) -> Result<bool, AllocError>
         ensures rules { IfOk result
             (λ legal. IsTrue legal ↔ IsLegal self.old made.colour made.vertex) }
+        ensures test { IfOk result (λ legal. legal ≡ is_legal self.old made.colour made.vertex) }
         ensures tried { OnErr result ((IsOffBoard self.old made.vertex → ⊥)
             × (IsOccupied self.old made.vertex → ⊥)) }
         ensures stays { self.new ≡ self.old }
