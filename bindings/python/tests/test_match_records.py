@@ -40,26 +40,28 @@ def test_a_record_that_is_not_kept_ends_the_match_and_its_game_is_played_anew(ma
 
 
 def test_a_log_that_is_full_ends_the_match_and_nothing_is_lost(match):
+    match("--games", 1, C3, PASS)
+    size, line = match.log.stat().st_size, len(match.log.read_bytes().splitlines()[-1])
+
     def limit():
-        resource.setrlimit(resource.RLIMIT_FSIZE, (1600, resource.RLIM_INFINITY))
+        # There is room for one line more, and for half of another.
+        resource.setrlimit(resource.RLIMIT_FSIZE, (size + line * 3 // 2, resource.RLIM_INFINITY))
 
     words = ["--log", match.log, "--records", match.records, "--games", "6", C3, PASS]
     process = command(*words, preexec_fn=limit)
     out, err = (text.decode() for text in process.communicate(timeout=40))
-    kept = len(match.results)
-    told = [line for line in out.splitlines() if line.startswith("game ")]
-    assert process.returncode == 3 and 1 <= kept < 6 and len(told) == kept and f"\ngames {kept}, " in out
-    assert err.splitlines()[0] == f"goref-tools: {match.log}: File too large" and "Traceback" not in err
-    assert err.splitlines()[1].startswith(f"goref-tools: this isn't kept: game {kept + 1}: ")
+    assert process.returncode == 3 and len(match.results) == 2 and out.startswith("game 2: ") and "\ngames 2, " in out
+    assert err.splitlines()[0] == f"goref-tools: {match.log}: File too large"
+    assert err.splitlines()[1].startswith("goref-tools: this isn't kept: game 3: ")
     assert err.splitlines()[2:] == ["goref-tools: the match ends: a game can't be kept"]
     assert match.log.read_bytes().endswith(b"\n")
-    lost = match.record(kept + 1)
+    lost = match.record(3)
     match("--games", 6, C3, PASS)
     assert match.status == 0 and len(match.results) == 6
     # The record of the game that the log hasn't has another name now.
-    other = f"game-{kept + 1:04}-unlogged-1.sgf"
-    assert (match.records / other).read_bytes() == lost and len(match.names()) == 7
-    assert match.err == f"goref-tools: {match.records}/game-{kept + 1:04}.sgf isn't in the log: it is kept as {match.records}/{other}\n"
+    record, other = match.records / "game-0003.sgf", match.records / "game-0003-unlogged-1.sgf"
+    assert other.read_bytes() == lost and len(match.names()) == 7
+    assert match.err == f"goref-tools: {record} isn't in the log: it is kept as {other}\n"
 
 
 def test_the_record_is_kept_before_the_line(match, monkeypatch):
