@@ -1,7 +1,6 @@
 """Time that counts while engines are waited for."""
 
 import asyncio
-import os
 import signal
 import sys
 import time
@@ -84,13 +83,3 @@ def test_a_match_that_is_stopped_loses_no_time(match):
     out, err = process.communicate(timeout=40)
     assert (process.returncode, err) == (0, b"") and match.results == ["W+7.5"]
     assert match.games[0]["times"]["black"]["greatest"] < 3
-
-
-def test_an_engine_that_is_stopped_loses_on_time(match):
-    """An engine has a clock of its own to look at: only the match's standing still counts for nothing."""
-    note = match.log.parent / "note"
-    process = command("--log", match.log, "--seconds", "1", engine(f"=note={note}", "genmove=slow=0.5"), PASS)
-    wait_for(lambda: note.exists() and "genmove" in note.read_text())
-    os.kill(int(note.read_text().split()[0]), signal.SIGSTOP)
-    process.communicate(timeout=40)
-    assert match.results == ["W+T"]

@@ -474,13 +474,14 @@ def test_what_cannot_be_written_is_found_before_the_first_game(match, tmp_path):
 
 
 def test_a_log_is_one_matchs_at_a_time(match):
-    slow = engine("genmove=slow=0.5")
-    process = command("--log", match.log, slow, PASS)
+    hangs = engine("genmove=hang")
+    process = command("--log", match.log, hangs, PASS)
     wait_for(lambda: match.log.exists() and match.log.read_bytes())
-    assert match(slow, PASS).status == 3
+    assert match(hangs, PASS).status == 3
     assert match.err == f"goref-tools: {match.log}: another match writes to it\n"
-    out, err = process.communicate(timeout=20)
-    assert process.returncode == 0 and err == b"" and match.results == ["W+7.5"]
+    process.terminate()
+    process.communicate(timeout=20)
+    assert process.returncode == 143 and match.results == []
 
 
 def test_a_standard_output_that_is_full_loses_nothing(match):

@@ -148,13 +148,15 @@ def test_a_file_that_is_no_claim_stays(match, text, is_taken):
 
 def test_a_folder_has_one_match_at_a_time(match):
     note = match.log.parent / "note"
-    slow = engine(f"=note={note}", "genmove=slow=2")
-    process = command("--log", match.log.parent / "first", "--records", match.records, slow, PASS)
+    hangs = engine(f"=note={note}", "genmove=hang")
+    process = command("--log", match.log.parent / "first", "--records", match.records, hangs, PASS)
     wait_for(lambda: note.exists() and "genmove" in note.read_text())
-    assert match(PASS, PASS).status == 3
+    assert match(PASS, PASS).status == 3 and match.names() == []
     assert match.err == f"goref-tools: {match.records}: another match keeps its records there\n"
+    process.terminate()
     process.communicate(timeout=40)
-    assert process.returncode == 0 and match.names() == ["game-0001.sgf"]
+    # It has no record there, so the folder is free for another match.
+    assert process.returncode == 143 and match(PASS, PASS).status == 0
 
 
 def test_what_a_killed_match_left_half_written_is_told_and_removed(match):
