@@ -50,7 +50,7 @@ static uint16_t play_any(goref_session *game, uint8_t colour)
     size_t length;
     unsigned first = drawn(POINTS), step = 1 + 3 * drawn(POINTS / 3);
     must(goref_board(game, board, sizeof board, &length));
-    /* No three divides the step, so it comes to each of the points. */
+    /* The step is no multiple of three, so it comes to each of the 81 points. */
     for (unsigned number = 0; number < POINTS; number++) {
         uint16_t point = (uint16_t)((first + number * step) % POINTS);
         if (board[point] == GOREF_EMPTY && !is_eye(board, point, colour)

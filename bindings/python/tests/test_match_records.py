@@ -15,6 +15,7 @@ from goref._tools.faults import Fault, WrongWords
 from goref._tools.match_folder import Folder
 from goref._tools.match_log import Log
 from goref._tools.match_outcome import Outcome, Times
+from kit import spy
 from kit.matches import PASS, command, engine, match, wait_for
 
 C3 = engine("genmove=moves=C3")
@@ -215,37 +216,25 @@ def test_other_openings_of_the_same_names_are_another_match(match, tmp_path):
     assert match("--openings", folder, "--games", 2, PASS, PASS).status == 0
 
 
-@pytest.fixture
-def synced(monkeypatch):
-    """The files and folders that the disk is asked to keep, each with its size then."""
-    names = []
-    fsync = os.fsync
-
-    def noted(number):
-        names.append((os.path.realpath(f"/proc/self/fd/{number}"), os.fstat(number).st_size))
-        fsync(number)
-
-    monkeypatch.setattr(os, "fsync", noted)
-    return names
-
-
-def test_what_is_in_the_log_is_on_the_disk(tmp_path, settings, synced):
+def test_what_is_in_the_log_is_on_the_disk(tmp_path, settings, monkeypatch):
     """The line of a game, and the name of a new log, before the call that keeps it ends."""
     path = tmp_path / "log"
+    done = spy.disk(monkeypatch)
     with Log(str(path), settings) as log:
         log.begin()
-        assert [name for name, _ in synced] == [str(path), str(tmp_path)]
+        assert done == [("fsync", str(path), path.read_bytes()), ("fsync", str(tmp_path), None)]
         log.add(outcome(1))
-        assert synced[-1] == (str(path), path.stat().st_size) and len(synced) == 3
+        assert done[2:] == [("fsync", str(path), path.read_bytes())] and done[2][2].count(b"\n") == 2
     with Log(str(path), settings) as log:
         log.begin()
-        assert len(synced) == 3
+        assert len(done) == 3
 
 
-def test_what_a_folder_says_of_its_match_is_on_the_disk(tmp_path, synced):
+def test_what_a_folder_says_of_its_match_is_on_the_disk(tmp_path, monkeypatch):
+    done = spy.disk(monkeypatch)
     with Folder(str(tmp_path), "match", None, {}, 1):
         claim = tmp_path / "match.json"
-        assert synced == [(str(claim), claim.stat().st_size), (str(tmp_path), tmp_path.stat().st_size)]
+        assert done == [("fsync", str(claim), claim.read_bytes()), ("fsync", str(tmp_path), None)]
 
 
 def outcome(number):

@@ -32,7 +32,7 @@ class Folder:
         self._path = path
         self._claim = (json.dumps({"match": match, "log": log and os.path.abspath(log)}) + "\n").encode("ascii")
         self._known = set(outcomes)
-        try_folder(path)
+        _try_folder(path)
         try:
             self._file = os.open(os.path.join(path, CLAIM), os.O_RDWR | os.O_CREAT | os.O_CLOEXEC | os.O_NOFOLLOW, 0o666)
         except OSError as why:
@@ -124,7 +124,7 @@ class Folder:
         os.close(self._file)
 
 
-def try_folder(folder: str) -> None:
+def _try_folder(folder: str) -> None:
     """Makes a folder if need be, and finds whether files can be written there. Raises a Fault."""
     make_folder(folder)
     try:
