@@ -59,7 +59,7 @@ class Late:
     """A clock by which an answer comes 5 seconds after its question."""
 
     def __init__(self):
-        self._told = iter([0.0, 0.0])
+        self._told = iter([0.0])
 
     def now(self):
         return next(self._told, 5.0)

@@ -41,7 +41,7 @@ class Engine(asyncio.SubprocessProtocol):
         self._answer: "Optional[asyncio.Future[Tuple[Response, float]]]" = None
         self._asked_at = 0.0
         self._allowed = 0.0
-        self._timer: Optional[asyncio.TimerHandle] = None
+        self._is_looking = False
         self._failure: Optional[EngineFailed] = None
         self._is_leaving = False
 
@@ -69,14 +69,11 @@ class Engine(asyncio.SubprocessProtocol):
         """The response to a line, and the seconds that it took. Raises EngineFailed."""
         self._begin(line, seconds)
         assert self._answer
-        self._look()
         try:
             return await self._answer
         except EngineFailed as why:
             raise type(why)(f"{why} at `{line}`") from None
         finally:
-            if self._timer:
-                self._timer.cancel()
             self._answer = None
 
     def _begin(self, line: str, seconds: float) -> None:
@@ -96,6 +93,9 @@ class Engine(asyncio.SubprocessProtocol):
         pipe = self._process.get_pipe_transport(0)
         assert isinstance(pipe, asyncio.WriteTransport)
         pipe.write(line.encode("utf-8", "surrogateescape") + b"\n")
+        if not self._is_looking:
+            self._is_looking = True
+            self._loop.call_later(BEAT, self._look)
 
     async def leave(self) -> None:
         """Has it end by `quit`, and kills what is there a second after that."""
@@ -141,12 +141,12 @@ class Engine(asyncio.SubprocessProtocol):
                 pass
 
     def _look(self) -> None:
-        """Looks whether the time is over, and when to look again."""
-        left = self._asked_at + self._allowed - self._clock.now()
-        if left > 0:
-            self._timer = self._loop.call_later(min(left, BEAT), self._look)
-        else:
+        """Looks whether a response is late, again and again until it fails: a timer for each line would cost more."""
+        waited = self._clock.now() - self._asked_at
+        if self._answer and not self._answer.done() and waited > self._allowed:
             self._is_late()
+        if self._failure is None:
+            self._loop.call_later(BEAT, self._look)
 
     def _is_late(self) -> None:
         self._fail(EngineLate(f"wrote no response within {self._allowed:g} s"))

@@ -4,7 +4,7 @@ import time
 from typing import Callable
 
 BEAT = 0.05
-"""How many seconds pass at most between two looks at the clock while an engine is waited for."""
+"""How many seconds pass between two looks at the clock, unless this process stands still."""
 
 MOST = 0.2
 """How many seconds count at most between two looks. A process that is stopped looks at no clock."""

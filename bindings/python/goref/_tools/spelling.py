@@ -8,6 +8,7 @@ import re
 from typing import Iterator, List, NamedTuple, Optional, Tuple
 
 _NAME = re.compile(rb"[A-Z]+")
+_PROPERTY = re.compile(rb"([A-Z]+)((?:\[[^\]\\]*(?:\\.[^\]\\]*)*\])+)", re.S)
 _STOP = re.compile(rb"\\.|\]", re.S)
 _PART = re.compile("\\\\(\r\n|\n\r|.)|(\r\n|\n\r|\r|\n)|[\t\v\f]", re.S)
 COLUMNS = "ABCDEFGHJKLMNOPQRSTUVWXYZ"
@@ -54,6 +55,14 @@ def nodes_on(spelling: bytes, begin: int) -> Iterator[Node]:
             node = _node_at(spelling, place)
             yield node
             place = node.end
+
+
+def first_in(spelling: bytes, name: bytes) -> Optional[bytes]:
+    """The first value of the first property of a name in the first node. It looks no further, so it is quick."""
+    one = _PROPERTY.match(spelling, len(b"(;"))
+    while one and one[1] != name:
+        one = _PROPERTY.match(spelling, one.end())
+    return None if one is None else spelling[one.start(2) + 1 : _end_of_value(spelling, one.start(2) + 1)]
 
 
 def _node_at(spelling: bytes, begin: int) -> Node:

@@ -35,15 +35,15 @@ def result_in(record: bytes) -> Optional[str]:
         return None
     end = _END.search(record)
     # A text is read from left to right: if goref takes the beginning for a record, that has the whole first node.
-    node = (_first_node(record[: end.start() + 1] + b")") if end else None) or _first_node(record)
-    value = node.first("RE") if node else None
+    spelled = (_spelled(record[: end.start() + 1] + b")") if end else None) or _spelled(record)
+    value = spelling.first_in(spelled, b"RE") if spelled else None
     return None if value is None else spelling.simple_text_of(value)
 
 
-def _first_node(record: bytes) -> Optional[spelling.Node]:
-    """The first node of a record as goref spells it; none where goref refuses the record."""
+def _spelled(record: bytes) -> Optional[bytes]:
+    """A record as goref spells it; none where goref refuses it."""
     try:
-        return next(spelling.nodes_on(goref.tidy(record), 0))
+        return goref.tidy(record)
     except goref.Refused:
         return None
 
